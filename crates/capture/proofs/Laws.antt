@@ -1,0 +1,78 @@
+-- Laws of the capture's definitions.
+use mathlib.Core.Bool.{true, false}
+use mathlib.Core.Path.{_≡_}
+use mathlib.Core.List.{List}
+use Prim.Native.Nat.{ℕ, zero, suc, _+_, _-_, _*_, _≤_, _<_}
+use native.Mathlib.Numerals.{add-one}
+use native.Mathlib.Omega.{arith}
+use lib.Dec.{ltb, leb}
+use borrow.Author.Tests.{le-ltb, leb-true}
+use Rattle.words.proofs.Tests.{both-left, both-right}
+use Rattle.capture.specs.Fields.{rsdpAddress, descriptor, segmentAddress, segmentLength, lengths}
+use Rattle.capture.specs.Rules.{endBefore, startsEarly, verdict}
+use Rattle.capture.specs.Presence.{holds, located, rsdpSize, presentOr10, rsdpPresence, afterVerdict, rsdp}
+use Rattle.words.specs.Bytes.{AllBytes}
+use Rattle.words.proofs.Numbers.{number-small}
+use Rattle.words.specs.Refusals.{refused}
+use Rattle.words.specs.declared.Refusal.{Refusal}
+use Rattle.capture.specs.declared.Verdict.the-variants as verdicts
+use Rattle.capture.specs.declared.Stretch.the-variants.{Present, Absent}
+use Rattle.capture.specs.declared.Root.the-variants as roots
+
+-- one segment more
+pub lengths-next : (capture : List ℕ) (i : ℕ) → lengths capture (i + 1) ≡ lengths capture i + segmentLength capture i
+unfolding lengths
+lengths-next capture i = rw add-one
+
+-- a length has 32 bits
+pub length-small : (capture : List ℕ) (i : ℕ) → AllBytes capture → segmentLength capture i < 4294967296
+unfolding segmentLength
+length-small capture i b = number-small 4 capture (descriptor capture i + 8) b
+
+-- and n of them together are below n times 2^32
+pub lengths-small : (capture : List ℕ) (n : ℕ) → AllBytes capture → lengths capture n ≤ 4294967296 * n
+unfolding lengths
+lengths-small capture zero b = omega arith
+lengths-small capture (suc n) b = omega (arith, lengths-small capture n b, length-small capture n b)
+
+-- the first segment starts before no end; a later one is held to the end of the one before it
+pub first-not-early : (capture : List ℕ) (i : ℕ) → i ≡ 0 → startsEarly capture i ≡ false
+unfolding startsEarly endBefore
+first-not-early capture zero h = le-ltb (segmentAddress capture 0) 0 (omega arith)
+first-not-early capture (suc i) h = absurd (omega arith)
+
+pub later-early : (capture : List ℕ) (i : ℕ) → 0 < i
+    → startsEarly capture i ≡ ltb (segmentAddress capture i) (segmentAddress capture (i - 1) + segmentLength capture (i - 1))
+unfolding startsEarly endBefore
+later-early capture zero h = absurd (omega arith)
+later-early capture (suc i) h =
+    let before : suc i - 1 ≡ i = omega arith in
+    rw before
+
+-- a stretch that a segment holds starts and ends in it
+pub holds-start : (capture : List ℕ) (address size i : ℕ) → holds capture address size i ≡ true → segmentAddress capture i ≤ address
+unfolding holds
+holds-start capture address size i h =
+    leb-true (segmentAddress capture i) address (both-left _ (leb (address + size) (segmentAddress capture i + segmentLength capture i)) h)
+
+pub holds-end : (capture : List ℕ) (address size i : ℕ) → holds capture address size i ≡ true
+    → address + size ≤ segmentAddress capture i + segmentLength capture i
+unfolding holds
+holds-end capture address size i h = leb-true _ _ (both-right (leb (segmentAddress capture i) address) _ h)
+
+-- the answers for the RSDP, by what was found
+pub rsdp-present : (capture : List ℕ) {place : ℕ} → located capture (rsdpAddress capture) rsdpSize ≡ Present place → rsdpPresence capture ≡ roots.At place
+unfolding rsdpPresence presentOr10
+rsdp-present capture h = rw h
+
+pub rsdp-absent : (capture : List ℕ) → located capture (rsdpAddress capture) rsdpSize ≡ Absent → rsdpPresence capture ≡ roots.Refused (refused 10 10)
+unfolding rsdpPresence presentOr10
+rsdp-absent capture h = rw h
+
+pub rsdp-refused : (capture : List ℕ) {refusal : Refusal} → verdict capture ≡ verdicts.Refused refusal → rsdp capture ≡ roots.Refused refusal
+unfolding rsdp afterVerdict
+rsdp-refused capture h = rw h
+
+pub rsdp-sound : (capture : List ℕ) → verdict capture ≡ verdicts.Sound → rsdp capture ≡ rsdpPresence capture
+unfolding rsdp afterVerdict
+rsdp-sound capture h = rw h

@@ -1,0 +1,126 @@
+-- What is located in a sound capture lies inside the capture: the theorem `within`, and what upper crates need beside it.
+use mathlib.Core.Bool.{Bool, true, false, not, _||_}
+use mathlib.Core.List.{List}
+use mathlib.Core.Logic.{⊎-elim}
+use mathlib.Core.Path.{_≡_, refl, _∙_}
+use Prim.Native.Nat.{ℕ, zero, suc, _+_, _≤_, _<_}
+use native.Mathlib.Nat.{eq-or-lt-of-le, le-of-suc-le-suc}
+use native.Mathlib.Omega.{arith}
+use lib.Dec.{eqb, ltb}
+use lib.ListN.{length}
+use borrow.Author.Tests.{eqb-true, ltb-false, not-false}
+use Rattle.words.specs.Choice.{if}
+use Rattle.words.specs.Lists.{first, numbersFrom, numbersBelow}
+use Rattle.words.specs.Refusals.{refused}
+use Rattle.words.proofs.Choices.{passed}
+use Rattle.words.proofs.Tests.{neither-right}
+use Rattle.capture.specs.Fields.{version, headerSize, segmentCount, totalLength, rsdpAddress, descriptorsEnd, segmentLength, lengths, segmentPlace, segments}
+use Rattle.capture.specs.Rules.{wrongSize, wrongTotal, verdict}
+use Rattle.capture.specs.Presence.{holds, placeIn, located, rsdpSize, presentOr10, rsdpPresence, afterVerdict, rsdp}
+use Rattle.capture.specs.declared.Verdict.{Verdict}
+use Rattle.capture.specs.declared.Verdict.the-variants as verdicts
+use Rattle.capture.specs.declared.Stretch.{Stretch}
+use Rattle.capture.specs.declared.Stretch.the-variants.{Present, Absent}
+use Rattle.capture.specs.declared.Root.the-variants as roots
+use Rattle.capture.proofs.Laws.{holds-start, holds-end}
+
+-- a capture that no rule refuses
+abbrev pub Sound : List ℕ → Type 0
+Sound capture = verdict capture ≡ verdicts.Sound
+
+-- a sound capture passed the test of a rule, and the rules behind it
+passes : (broken : Bool) (number : ℕ) (later : Verdict) → if broken (verdicts.Refused (refused number 0)) later ≡ verdicts.Sound
+    → (broken ≡ false) × (later ≡ verdicts.Sound)
+passes broken number later h = passed broken _ later _ h (λ e. let z : _≡_ {A = ℕ} 0 1 = cc in omega arith)
+
+sound-size : (capture : List ℕ) → Sound capture → wrongSize capture ≡ false
+unfolding verdict
+sound-size capture h = passes _ _ _ h .0
+
+sound-total : (capture : List ℕ) → Sound capture → wrongTotal capture ≡ false
+unfolding verdict
+sound-total capture h = passes _ _ _ (passes _ _ _ (passes _ _ _ (passes _ _ _ (passes _ _ _ h .1) .1) .1) .1) .0
+
+-- a sound capture has at most 65,536 bytes
+pub sound-small : (capture : List ℕ) → Sound capture → length capture ≤ 65536
+unfolding wrongSize
+sound-small capture h =
+    ltb-false 65536 (length capture)
+    (neither-right (ltb (length capture) (headerSize (version capture))) _ (sound-size capture h))
+
+-- its header, descriptors and segments are all of it
+pub sound-length : (capture : List ℕ) → Sound capture → descriptorsEnd capture + lengths capture (segmentCount capture) ≡ length capture
+unfolding wrongTotal
+sound-length capture h =
+    eqb-true _ _
+    (not-false _
+    (neither-right
+    (ltb (length capture) (descriptorsEnd capture) || not (eqb (totalLength capture) (length capture)))
+    _
+    (sound-total capture h)))
+
+-- a segment's bytes lie among those of the segments up to it
+lengths-within : (capture : List ℕ) (i n : ℕ) → i < n → lengths capture i + segmentLength capture i ≤ lengths capture n
+unfolding lengths
+lengths-within capture i zero h = absurd (omega arith)
+lengths-within capture i (suc n) h =
+    ⊎-elim (λ (e : i ≡ n). rw e (omega arith)) (λ (l : i < n). let r = lengths-within capture i n l in omega arith)
+    (eq-or-lt-of-le (le-of-suc-le-suc h))
+
+-- a stretch that was located is held by one of the segments
+record Held (capture : List ℕ) (address size place : ℕ) : Type 0 where
+  segment : ℕ
+  counted : segment < segmentCount capture
+  held : holds capture address size segment ≡ true
+  placed : place ≡ placeIn capture address segment
+
+held-among : (capture : List ℕ) (address size place i k : ℕ) → i + k ≡ segmentCount capture
+    → first (holds capture address size) (λ (j : ℕ). Present (placeIn capture address j)) Absent (numbersFrom i k) ≡ Present place
+    → Held capture address size place
+unfolding first numbersFrom if
+held-among capture address size place i zero e h = absurd (let z : _≡_ {A = ℕ} 0 1 = cc in omega arith)
+held-among capture address size place i (suc k) e h =
+    go (holds capture address size i) refl h (λ x. held-among capture address size place (i + 1) k (omega arith) x)
+  where
+    go : (b : Bool) → holds capture address size i ≡ b
+        → if b (Present (placeIn capture address i)) (first (holds capture address size) (λ (j : ℕ). Present (placeIn capture address j)) Absent (numbersFrom (i + 1) k)) ≡ Present place
+        → (first (holds capture address size) (λ (j : ℕ). Present (placeIn capture address j)) Absent (numbersFrom (i + 1) k) ≡ Present place → Held capture address size place)
+        → Held capture address size place
+    go true q r later = record { segment = i; counted = omega arith; held = q; placed = cc }
+    go false q r later = later r
+
+-- what is located in a sound capture lies inside it
+pub within : (capture : List ℕ) (address size place : ℕ) → Sound capture → located capture address size ≡ Present place → place + size ≤ length capture
+unfolding located segments numbersBelow placeIn segmentPlace
+within capture address size place sound h =
+    let s = held-among capture address size place 0 (segmentCount capture) (omega arith) h in
+    let whole = sound-length capture sound in
+    let before = lengths-within capture (s .segment) (segmentCount capture) (s .counted) in
+    let start = holds-start capture address size (s .segment) (s .held) in
+    let end = holds-end capture address size (s .segment) (s .held) in
+    omega arith
+
+-- where the RSDP was found, the capture is sound and the RSDP is located there
+pub rsdp-of-sound : (capture : List ℕ) (place : ℕ) → rsdp capture ≡ roots.At place → Sound capture
+unfolding rsdp afterVerdict
+rsdp-of-sound capture place h = go (verdict capture) refl h
+  where
+    go : (v : Verdict) → verdict capture ≡ v → afterVerdict v (rsdpPresence capture) ≡ roots.At place → verdict capture ≡ verdicts.Sound
+    go verdicts.Sound e g = e
+    go (verdicts.Refused refusal) e g = absurd (let z : _≡_ {A = ℕ} 0 1 = cc in omega arith)
+
+pub rsdp-located : (capture : List ℕ) (place : ℕ) → rsdp capture ≡ roots.At place
+    → located capture (rsdpAddress capture) rsdpSize ≡ Present place
+unfolding rsdp afterVerdict rsdpPresence presentOr10
+rsdp-located capture place h =
+    go (located capture (rsdpAddress capture) rsdpSize) refl (rw (rsdp-of-sound capture place h) at h)
+  where
+    go : (s : Stretch) → located capture (rsdpAddress capture) rsdpSize ≡ s → presentOr10 s ≡ roots.At place
+        → located capture (rsdpAddress capture) rsdpSize ≡ Present place
+    go (Present p) e g = e ∙ (cc)
+    go Absent e g = absurd (let z : _≡_ {A = ℕ} 0 1 = cc in omega arith)
+
+-- so the RSDP's bytes are all there
+pub rsdp-within : (capture : List ℕ) (place : ℕ) → rsdp capture ≡ roots.At place → place + rsdpSize ≤ length capture
+rsdp-within capture place h =
+    within capture (rsdpAddress capture) rsdpSize place (rsdp-of-sound capture place h) (rsdp-located capture place h)

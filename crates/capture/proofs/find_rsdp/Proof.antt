@@ -1,0 +1,29 @@
+-- `capture::find_rsdp` gives the refusals 1 to 6 first.
+use mathlib.Core.Path.{sym, _∙_}
+use Rattle.capture.proofs.Laws.{rsdp-refused, rsdp-sound}
+use borrow.Author.Needs.{needs}
+use Rattle.capture.proofs.find_rsdp.Statement.{statement}
+use Rattle.capture.proofs.find_rsdp.Tie as tie
+
+check-requires : tie.Need-check-requires
+check-requires c κs = search needs
+
+enum-known-refusal : tie.Need-enum-known-refusal
+enum-known-refusal c = search needs
+
+enum-told : tie.Need-enum-told
+enum-told c = search needs
+
+locate-rsdp-requires : tie.Need-locate-rsdp-requires
+locate-rsdp-requires c κs = search needs
+
+returns : tie.Need-returns
+returns c = sym (rsdp-refused _ (cc))
+
+returns-2 : tie.Need-returns-2
+returns-2 c = (cc) ∙ sym (rsdp-sound _ (cc))
+
+pub find-rsdp-spec : {M : Type 1} → statement M
+find-rsdp-spec =
+    tie.close
+    (tie.spec check-requires enum-known-refusal enum-told locate-rsdp-requires returns returns-2)

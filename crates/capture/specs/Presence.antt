@@ -1,0 +1,48 @@
+-- Document 01, "The capture": where a stretch of memory stands in the capture; and refusal 10, the RSDP's presence.
+use Prim.Native.Nat.{ℕ, _+_, _-_}
+use mathlib.Core.Bool.{Bool, _&&_}
+use mathlib.Core.List.{List}
+use lib.Dec.{leb}
+use Rattle.words.specs.Lists.{first}
+use Rattle.words.specs.Refusals.{refused}
+use Rattle.capture.specs.Fields.{rsdpAddress, segmentAddress, segmentLength, segmentPlace, segments}
+use Rattle.capture.specs.Rules.{verdict}
+use Rattle.capture.specs.declared.Verdict.{Verdict}
+use Rattle.capture.specs.declared.Verdict.the-variants as verdicts
+use Rattle.capture.specs.declared.Stretch.{Stretch}
+use Rattle.capture.specs.declared.Stretch.the-variants.{Present, Absent}
+use Rattle.capture.specs.declared.Root.{Root}
+use Rattle.capture.specs.declared.Root.the-variants as roots
+
+-- the stretch "lies wholly inside" segment i
+unfoldable pub holds : List ℕ → ℕ → ℕ → ℕ → Bool
+holds capture address size i =
+    leb (segmentAddress capture i) address && leb (address + size) (segmentAddress capture i + segmentLength capture i)
+
+-- the place of an address of segment i
+unfoldable pub placeIn : List ℕ → ℕ → ℕ → ℕ
+placeIn capture address i = segmentPlace capture i + (address - segmentAddress capture i)
+
+-- "A stretch of memory is present if it lies wholly inside one segment."
+unfoldable pub located : List ℕ → ℕ → ℕ → Stretch
+located capture address size = first (holds capture address size) (λ i. Present (placeIn capture address i)) Absent (segments capture)
+
+-- "RSDP, 36 bytes"
+abbrev pub rsdpSize : ℕ
+rsdpSize = 36
+
+-- 10: "RSDP not present", at place 10, the field that names it
+unfoldable pub presentOr10 : Stretch → Root
+presentOr10 (Present place) = roots.At place
+presentOr10 Absent = roots.Refused (refused 10 10)
+
+unfoldable pub rsdpPresence : List ℕ → Root
+rsdpPresence capture = presentOr10 (located capture (rsdpAddress capture) rsdpSize)
+
+-- the order: refusals 1 to 6, then 10
+unfoldable pub afterVerdict : Verdict → Root → Root
+afterVerdict (verdicts.Refused refusal) presence = roots.Refused refusal
+afterVerdict verdicts.Sound presence = presence
+
+unfoldable pub rsdp : List ℕ → Root
+rsdp capture = afterVerdict (verdict capture) (rsdpPresence capture)

@@ -1,0 +1,73 @@
+-- Document 01, "The capture" and refusals 1 to 6: what a capture must keep, and which broken rule is named.
+use Prim.Native.Nat.{ℕ, zero, suc, _+_, _^_}
+use Prim.Native.Char.{code}
+use mathlib.Core.Bool.{Bool, not, _&&_, _||_}
+use mathlib.Core.List.{List}
+use lib.Dec.{eqb, ltb}
+use lib.ListN.{length}
+use Rattle.words.specs.Bytes.{byteAt}
+use Rattle.words.specs.Choice.{if}
+use Rattle.words.specs.Lists.{first}
+use Rattle.words.specs.Refusals.{refused}
+use Rattle.capture.specs.Fields.{version, segmentCount, totalLength, headerSize, descriptor, descriptorsEnd, segmentAddress, segmentLength, segments, lengths}
+use Rattle.capture.specs.declared.Verdict.{Verdict}
+use Rattle.capture.specs.declared.Verdict.the-variants.{Sound, Refused}
+
+-- 1: "capture under 18 or over 65,536 bytes"
+unfoldable pub wrongSize : List ℕ → Bool
+wrongSize capture = ltb (length capture) (headerSize (version capture)) || ltb 65536 (length capture)
+
+-- 2: "Offset 0 the three letters `TBC`"
+unfoldable pub wrongMark : List ℕ → Bool
+wrongMark capture =
+    not (eqb (byteAt capture 0) (code "T") && eqb (byteAt capture 1) (code "B") && eqb (byteAt capture 2) (code "C"))
+
+-- 3: "3 version, 16 bits, 1"
+unfoldable pub wrongVersion : List ℕ → Bool
+wrongVersion capture = not (eqb (version capture) 1)
+
+-- 4: "segment count n, one byte, 1 to 16"
+unfoldable pub wrongCount : List ℕ → Bool
+wrongCount capture = eqb (segmentCount capture) 0 || ltb 16 (segmentCount capture)
+
+-- 5: "descriptors past the end, or total length disagrees": it "equals the length handed in and 18 + 12n + the sum of the lengths"
+unfoldable pub wrongTotal : List ℕ → Bool
+wrongTotal capture =
+    ltb (length capture) (descriptorsEnd capture)
+    || not (eqb (totalLength capture) (length capture))
+    || not (eqb (descriptorsEnd capture + lengths capture (segmentCount capture)) (length capture))
+
+-- 6: "Segments are at least one byte long"
+unfoldable pub emptySegment : List ℕ → ℕ → Bool
+emptySegment capture i = eqb (segmentLength capture i) 0
+
+-- 6: "end at or below 2^64"
+unfoldable pub endsPastMemory : List ℕ → ℕ → Bool
+endsPastMemory capture i = ltb (2 ^ 64) (segmentAddress capture i + segmentLength capture i)
+
+-- the end of the segment before segment i; nothing ends before the first
+unfoldable pub endBefore : List ℕ → ℕ → ℕ
+endBefore capture zero = 0
+endBefore capture (suc i) = segmentAddress capture i + segmentLength capture i
+
+-- 6: "none starts before the end of the one before it"
+unfoldable pub startsEarly : List ℕ → ℕ → Bool
+startsEarly capture i = ltb (segmentAddress capture i) (endBefore capture i)
+
+-- 6: "a segment rule"
+unfoldable pub segmentBroken : List ℕ → ℕ → Bool
+segmentBroken capture i = emptySegment capture i || endsPastMemory capture i || startsEarly capture i
+
+-- 6, "segments are taken in turn": the first broken one is named by its descriptor
+unfoldable pub segmentRules : List ℕ → Verdict
+segmentRules capture = first (segmentBroken capture) (λ i. Refused (refused 6 (descriptor capture i))) Sound (segments capture)
+
+-- the order of refusals 1 to 6
+unfoldable pub verdict : List ℕ → Verdict
+verdict capture =
+    if (wrongSize capture) (Refused (refused 1 0))
+    (if (wrongMark capture) (Refused (refused 2 0))
+    (if (wrongVersion capture) (Refused (refused 3 0))
+    (if (wrongCount capture) (Refused (refused 4 0))
+    (if (wrongTotal capture) (Refused (refused 5 0))
+    (segmentRules capture)))))
