@@ -1,23 +1,20 @@
--- Tests of numbers: two that ask the same have the same answer, and what a test of two things tells of each.
+-- Laws of tests: of numbers, and of two things at once.
 use mathlib.Core.Bool.{Bool, true, false, _&&_, _||_}
 use mathlib.Core.Path.{_≡_, refl, sym}
 use Prim.Native.Nat.{ℕ, _≤_, _<_}
 use lib.Dec.{ltb, leb}
-use borrow.Author.Tests.{lt-ltb, ltb-true, le-leb, leb-true}
+use borrow.Author.Tests.{lt-ltb, le-ltb, le-leb, lt-leb}
 
-one-answer : (p q : Bool) → (p ≡ true → q ≡ true) → (q ≡ true → p ≡ true) → p ≡ q
-one-answer true q to from = sym (to refl)
-one-answer false true to from = from refl
-one-answer false false to from = refl
+-- a flag that holds exactly when one number is below, or at most, another is the test of the two
+pub is-ltb : (flag : Bool) (a b : ℕ) → (flag ≡ true → a < b) → (flag ≡ false → b ≤ a) → flag ≡ ltb a b
+is-ltb true a b holds fails = sym (lt-ltb a b (holds refl))
+is-ltb false a b holds fails = sym (le-ltb a b (fails refl))
 
-pub same-ltb : (a b c d : ℕ) → (a < b → c < d) → (c < d → a < b) → ltb a b ≡ ltb c d
-same-ltb a b c d to from =
-    one-answer (ltb a b) (ltb c d) (λ h. lt-ltb c d (to (ltb-true a b h))) (λ h. lt-ltb a b (from (ltb-true c d h)))
+pub is-leb : (flag : Bool) (a b : ℕ) → (flag ≡ true → a ≤ b) → (flag ≡ false → b < a) → flag ≡ leb a b
+is-leb true a b holds fails = sym (le-leb a b (holds refl))
+is-leb false a b holds fails = sym (lt-leb a b (fails refl))
 
-pub same-leb : (a b c d : ℕ) → (a ≤ b → c ≤ d) → (c ≤ d → a ≤ b) → leb a b ≡ leb c d
-same-leb a b c d to from =
-    one-answer (leb a b) (leb c d) (λ h. le-leb c d (to (leb-true a b h))) (λ h. le-leb a b (from (leb-true c d h)))
-
+-- what a test of two things tells of each
 pub both-left : (p q : Bool) → (p && q) ≡ true → p ≡ true
 both-left true q h = refl
 both-left false q h = h

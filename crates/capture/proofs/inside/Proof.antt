@@ -1,7 +1,7 @@
 -- `capture::inside` compares both ends exactly.
+use Rattle.words.proofs.Tests.{is-leb}
+use borrow.Author.Tests.{leb-true, leb-false, le-leb, lt-leb}
 use Prim.Native.Nat.{_-_, _+_}
-use Rattle.words.proofs.Tests.{same-leb}
-use borrow.Author.Tests.{le-leb, lt-leb}
 use native.Mathlib.Omega.{arith}
 use borrow.Author.Needs.{needs}
 use Rattle.capture.proofs.inside.Statement.{statement}
@@ -24,7 +24,7 @@ returns-3 : tie.Need-returns-3
 returns-3 c =
     let a = c .before .before .args in
     rw (le-leb (a .start) (a .address) (omega arith))
-    (same-leb (a .size) (a .length - (a .address - a .start)) (a .address + a .size) (a .start + a .length) (λ h. omega arith) (λ h. omega arith))
+    (is-leb _ (a .address + a .size) (a .start + a .length) (λ h. omega (arith, leb-true)) (λ h. omega (arith, leb-false)))
 
 pub inside-spec : {M : Type 1} → statement M
 inside-spec = tie.close (tie.spec returns returns-2 sub-result returns-3)

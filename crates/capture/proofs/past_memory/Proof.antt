@@ -1,8 +1,8 @@
 -- `capture::past_memory` compares the end with 2^64 exactly.
+use Rattle.words.proofs.Tests.{is-ltb}
+use borrow.Author.Tests.{leb-true, leb-false, le-ltb}
 use Prim.Native.Nat.{_-_, _+_, _^_}
-use Rattle.words.proofs.Tests.{same-ltb}
 use mathlib.Core.Path.{sym}
-use borrow.Author.Tests.{le-ltb}
 use native.Mathlib.Omega.{arith}
 use borrow.Author.Needs.{needs}
 use Rattle.capture.proofs.past_memory.Statement.{statement}
@@ -22,7 +22,7 @@ sub-result-2 c = search needs
 returns-2 : tie.Need-returns-2
 returns-2 c =
     let a = c .before .args in
-    same-ltb (18446744073709551615 - a .address) (a .length - 1) (2 ^ 64) (a .address + a .length) (λ h. omega arith) (λ h. omega arith)
+    is-ltb _ (2 ^ 64) (a .address + a .length) (λ h. omega (arith, leb-true)) (λ h. omega (arith, leb-false))
 
 pub past-memory-spec : {M : Type 1} → statement M
 past-memory-spec = tie.close (tie.spec returns sub-result sub-result-2 returns-2)

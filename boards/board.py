@@ -1,0 +1,117 @@
+"""How the captures of our cases are made: document 01's container, tables and structures, written from the document.
+
+A board is laid out as board A is: RSDP, XSDT, MADT, FADT and what else it names, one after another in memory. Bytes that
+document 01 leaves free hold the values of the Loongson standard's reference tables, or 0. Sums are made good unless a
+case says otherwise.
+"""
+
+BASE = 0x90000000  # where board A's one segment lies in memory
+
+
+def le(value, width):
+    """A number as `width` little-endian bytes."""
+    return (value % (1 << (8 * width))).to_bytes(width, "little")
+
+
+def summed(data, at, upto=None):
+    """The bytes with the one at `at` chosen so that they (or the first `upto` of them) sum to 0 modulo 256."""
+    data = bytearray(data)
+    data[at] = 0
+    data[at] = -sum(data[:upto]) % 256
+    return bytes(data)
+
+
+# The container.
+
+
+def descriptor(address, length):
+    return le(address, 8) + le(length, 4)
+
+
+def capture(segments, rsdp=None, mark=b"TBC", version=1, count=None, total=None, lengths=None):
+    """A capture of segments (address, bytes). What a case wants wrong, it names."""
+    lengths = [len(data) for _, data in segments] if lengths is None else lengths
+    body = b"".join(descriptor(address, length) for (address, _), length in zip(segments, lengths))
+    body += b"".join(data for _, data in segments)
+    head = mark + le(version, 2) + le(len(segments) if count is None else count, 1)
+    total = 18 + len(body) if total is None else total
+    return head + le(total, 4) + le(segments[0][0] if rsdp is None else rsdp, 8) + body
+
+
+# The tables.
+
+
+def table(signature, revision, body):
+    head = signature + le(36 + len(body), 4) + le(revision, 1) + b"\0" + b"LOONGS" + b"LOONGSON" + le(1, 4) + le(0, 8)
+    return summed(head + body, 9)
+
+
+def rsdp(xsdt):
+    data = b"RSD PTR " + b"\0" + b"LOONGS" + le(2, 1) + le(0, 4) + le(36, 4) + le(xsdt, 8) + le(0, 4)
+    return summed(summed(data, 8, 20), 32)
+
+
+def xsdt(addresses, revision=1):
+    return table(b"XSDT", revision, b"".join(le(address, 8) for address in addresses))
+
+
+def madt(structures, revision=1, flags=0):
+    return table(b"APIC", revision, le(0x1FE01400, 4) + le(flags, 4) + b"".join(structures))
+
+
+def fadt(sci=75, size=244):
+    return table(b"FACP", 4, (le(0, 10) + le(sci, 2) + le(0, 196))[: size - 36])
+
+
+# The MADT's structures.
+
+
+def structure(kind, body, version=1, length=None):
+    return le(kind, 1) + le(3 + len(body) if length is None else length, 1) + le(version, 1) + body
+
+
+def core(uid, identity, flags=1):
+    return structure(17, le(uid, 4) + le(identity, 4) + le(flags, 4))
+
+
+def lio(cascade0, cascade1, mask0, mask1):
+    return structure(18, le(0x1FE01400, 8) + le(0x80, 2) + le(cascade0, 1) + le(cascade1, 1) + le(mask0, 4) + le(mask1, 4))
+
+
+def eio(cascade, node, node_map=1):
+    return structure(20, le(cascade, 1) + le(node, 1) + le(node_map, 8))
+
+
+def msi(start, count):
+    return structure(21, le(0x2FF00000, 8) + le(start, 4) + le(count, 4))
+
+
+def bio(hardware, base):
+    return structure(22, le(0xE0010000000, 8) + le(0x1000, 2) + le(hardware, 2) + le(base, 2))
+
+
+def lpc(cascade, base=0xE0010002000):
+    return structure(23, le(base, 8) + le(0x1000, 2) + le(cascade, 2))
+
+
+# Board A.
+
+STRUCTURES_OF_A = [
+    core(0, 0), core(1, 1), core(2, 2, 0),
+    lio(2, 0, 0x00FFFFFF, 0), eio(3, 0), msi(64, 192), bio(0, 64), lpc(19),
+]
+
+
+def image(structures=None, sci=75, base=BASE):
+    """The memory of a board: RSDP, XSDT with two entries, MADT, FADT."""
+    m, f = madt(STRUCTURES_OF_A if structures is None else structures), fadt(sci)
+    at = base + 36 + 52
+    return rsdp(base + 36) + xsdt([at, at + len(m)]) + m + f
+
+
+def board(structures=None, sci=75, base=BASE):
+    return capture([(base, image(structures, sci, base))])
+
+
+A = board()
+assert len(A) == 538

@@ -1,0 +1,115 @@
+// Asks the questions that come on standard input, and prints one line for each answer. boards/cases.py writes the questions
+// beside the answers that document 01 fixes; the gate compares.
+//
+// A question is a head of 92 bytes and then the capture. The head: a label in 64 bytes, the kind of question (32 bits), the
+// capture's length (32 bits), two numbers of 64 bits that some kinds ask about, and the label's length (32 bits).
+use capture::Root;
+use capture::Stretch;
+use capture::Verdict;
+use libc::STDIN_FILENO;
+use libc::STDOUT_FILENO;
+use words::Refusal;
+
+const HEAD: usize = 92;
+
+const KIND: usize = 64;
+
+const LENGTH: usize = 68;
+
+const FIRST: usize = 72;
+
+const SECOND: usize = 80;
+
+const LABEL_LENGTH: usize = 88;
+
+const MOST_BYTES: usize = 65537;
+
+const MOST_QUESTIONS: u32 = 100000;
+
+const CHECK: u32 = 0;
+
+const RSDP: u32 = 1;
+
+const LOCATE: u32 = 2;
+
+fn say(text: &[u8]) {
+    io::write_all(STDOUT_FILENO, text);
+}
+
+fn say_number(text: &[u8], number: u64) {
+    io::write_all(STDOUT_FILENO, text);
+    io::print_decimal(STDOUT_FILENO, number);
+}
+
+fn say_refusal(refusal: Refusal) {
+    say_number(b"refused ", refusal.number as u64);
+    say_number(b" at ", refusal.place as u64);
+}
+
+fn say_label(head: &[u8]) {
+    say(words::part(head, 0, words::u32_at(head, LABEL_LENGTH) as usize));
+    say(b": ");
+}
+
+fn answer_check(bytes: &[u8]) {
+    match capture::check(bytes) {
+        Verdict::Sound => say(b"sound"),
+        Verdict::Refused(refusal) => say_refusal(refusal),
+    }
+}
+
+fn answer_rsdp(bytes: &[u8]) {
+    match capture::find_rsdp(bytes) {
+        Root::At(place) => say_number(b"RSDP at ", place as u64),
+        Root::Refused(refusal) => say_refusal(refusal),
+    }
+}
+
+fn answer_locate(bytes: &[u8], address: u64, size: u32) {
+    match capture::locate(bytes, address, size) {
+        Stretch::Present(place) => say_number(b"present at ", place as u64),
+        Stretch::Absent => say(b"absent"),
+    }
+}
+
+fn answer(head: &[u8], bytes: &[u8]) {
+    let kind = words::u32_at(head, KIND);
+    match kind {
+        CHECK => answer_check(bytes),
+        RSDP => answer_rsdp(bytes),
+        LOCATE => answer_locate(
+            bytes,
+            words::u64_at(head, FIRST),
+            words::u32_at(head, SECOND),
+        ),
+        _ => say(b"no such question"),
+    }
+}
+
+// One question, read and answered; false where there is none.
+fn next_question(head: &mut [u8], room: &mut [u8]) -> bool {
+    if io::read_full(STDIN_FILENO, head) < HEAD {
+        return false;
+    }
+    let n = words::u32_at(head, LENGTH) as usize;
+    if room.len() < n {
+        return false;
+    }
+    let got = io::read_full(STDIN_FILENO, &mut room[..n]);
+    say_label(head);
+    answer(head, words::part(room, 0, got));
+    say(b"\n");
+    true
+}
+
+fn main() {
+    let mut head = [0u8; HEAD];
+    let mut room = [0u8; MOST_BYTES];
+    let mut left = MOST_QUESTIONS;
+    while 0 < left {
+        if !next_question(&mut head, &mut room) {
+            return;
+        }
+        left -= 1;
+    }
+}
