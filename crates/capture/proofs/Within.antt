@@ -1,5 +1,5 @@
 -- What is located in a sound capture lies inside the capture: the theorem `within`, and what upper crates need beside it.
-use mathlib.Core.Bool.{Bool, true, false, not, _||_}
+use mathlib.Core.Bool.{Bool, false, not, _||_}
 use mathlib.Core.List.{List}
 use mathlib.Core.Logic.{⊎-elim}
 use mathlib.Core.Path.{_≡_, refl, _∙_}
@@ -10,12 +10,13 @@ use lib.Dec.{eqb, ltb}
 use lib.ListN.{length}
 use borrow.Author.Tests.{eqb-true, ltb-false, not-false}
 use Rattle.words.specs.Choice.{if}
-use Rattle.words.specs.Lists.{first, numbersFrom, numbersBelow}
+use Rattle.words.specs.Lists.{numbersBelow}
 use Rattle.words.specs.Refusals.{refused}
 use Rattle.words.proofs.Choices.{passed}
+use Rattle.words.proofs.Searches.{Hit, search-found}
 use Rattle.words.proofs.Tests.{neither-right}
-use Rattle.capture.specs.Fields.{version, headerSize, segmentCount, totalLength, rsdpAddress, descriptorsEnd, segmentLength, lengths, segmentPlace, segments}
-use Rattle.capture.specs.Rules.{wrongSize, wrongTotal, verdict}
+use Rattle.capture.specs.Fields.{version, headerSize, descriptor, segmentCount, totalLength, rsdpAddress, descriptorsEnd, segmentLength, lengths, segmentPlace, segments}
+use Rattle.capture.specs.Rules.{wrongSize, wrongTotal, segmentRules, verdict}
 use Rattle.capture.specs.Presence.{holds, placeIn, located, rsdpSize, presentOr10, rsdpPresence, afterVerdict, rsdp}
 use Rattle.capture.specs.declared.Verdict.{Verdict}
 use Rattle.capture.specs.declared.Verdict.the-variants as verdicts
@@ -40,6 +41,10 @@ sound-size capture h = passes _ _ _ h .0
 sound-total : (capture : List ℕ) → Sound capture → wrongTotal capture ≡ false
 unfolding verdict
 sound-total capture h = passes _ _ _ (passes _ _ _ (passes _ _ _ (passes _ _ _ (passes _ _ _ h .1) .1) .1) .1) .0
+
+pub sound-segments : (capture : List ℕ) → Sound capture → segmentRules capture ≡ verdicts.Sound
+unfolding verdict
+sound-segments capture h = passes _ _ _ (passes _ _ _ (passes _ _ _ (passes _ _ _ (passes _ _ _ h .1) .1) .1) .1) .1
 
 -- a sound capture has at most 65,536 bytes
 pub sound-small : (capture : List ℕ) → Sound capture → length capture ≤ 65536
@@ -68,36 +73,41 @@ lengths-within capture i (suc n) h =
     (eq-or-lt-of-le (le-of-suc-le-suc h))
 
 -- a stretch that was located is held by one of the segments
-record Held (capture : List ℕ) (address size place : ℕ) : Type 0 where
-  segment : ℕ
-  counted : segment < segmentCount capture
-  held : holds capture address size segment ≡ true
-  placed : place ≡ placeIn capture address segment
+abbrev pub Held : List ℕ → ℕ → ℕ → ℕ → Type 0
+Held capture address size place =
+    Hit (holds capture address size) (λ (i : ℕ). Present (placeIn capture address i)) (Present place) 0 (segmentCount capture)
 
-held-among : (capture : List ℕ) (address size place i k : ℕ) → i + k ≡ segmentCount capture
-    → first (holds capture address size) (λ (j : ℕ). Present (placeIn capture address j)) Absent (numbersFrom i k) ≡ Present place
-    → Held capture address size place
-unfolding first numbersFrom if
-held-among capture address size place i zero e h = absurd (let z : _≡_ {A = ℕ} 0 1 = cc in omega arith)
-held-among capture address size place i (suc k) e h =
-    go (holds capture address size i) refl h (λ x. held-among capture address size place (i + 1) k (omega arith) x)
-  where
-    go : (b : Bool) → holds capture address size i ≡ b
-        → if b (Present (placeIn capture address i)) (first (holds capture address size) (λ (j : ℕ). Present (placeIn capture address j)) Absent (numbersFrom (i + 1) k)) ≡ Present place
-        → (first (holds capture address size) (λ (j : ℕ). Present (placeIn capture address j)) Absent (numbersFrom (i + 1) k) ≡ Present place → Held capture address size place)
-        → Held capture address size place
-    go true q r later = record { segment = i; counted = omega arith; held = q; placed = cc }
-    go false q r later = later r
+pub located-held : (capture : List ℕ) (address size place : ℕ) → located capture address size ≡ Present place → Held capture address size place
+unfolding located segments numbersBelow
+located-held capture address size place h =
+    search-found (holds capture address size) (λ (i : ℕ). Present (placeIn capture address i)) Absent (Present place) 0
+    (segmentCount capture)
+    (segmentCount capture)
+    (omega arith)
+    h
+    (λ e. let z : _≡_ {A = ℕ} 0 1 = cc in omega arith)
+
+pub held-place : (capture : List ℕ) (address size place : ℕ) (s : Held capture address size place) → placeIn capture address (s .at) ≡ place
+held-place capture address size place s = let told = s .told in cc
 
 -- what is located in a sound capture lies inside it
 pub within : (capture : List ℕ) (address size place : ℕ) → Sound capture → located capture address size ≡ Present place → place + size ≤ length capture
-unfolding located segments numbersBelow placeIn segmentPlace
+unfolding placeIn segmentPlace
 within capture address size place sound h =
-    let s = held-among capture address size place 0 (segmentCount capture) (omega arith) h in
+    let s = located-held capture address size place h in
+    let there = held-place capture address size place s in
     let whole = sound-length capture sound in
-    let before = lengths-within capture (s .segment) (segmentCount capture) (s .counted) in
-    let start = holds-start capture address size (s .segment) (s .held) in
-    let end = holds-end capture address size (s .segment) (s .held) in
+    let before = lengths-within capture (s .at) (segmentCount capture) (s .counted) in
+    let start = holds-start capture address size (s .at) (s .taken) in
+    let end = holds-end capture address size (s .at) (s .taken) in
+    omega arith
+
+-- and behind the header
+pub behind : (capture : List ℕ) (address size place : ℕ) → located capture address size ≡ Present place → 18 ≤ place
+unfolding placeIn segmentPlace descriptorsEnd descriptor headerSize
+behind capture address size place h =
+    let s = located-held capture address size place h in
+    let there = held-place capture address size place s in
     omega arith
 
 -- where the RSDP was found, the capture is sound and the RSDP is located there

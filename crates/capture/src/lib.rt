@@ -21,9 +21,9 @@ pub enum Stretch {
     Absent,
 }
 
-// The place of the RSDP of a sound capture.
+// The place of the RSDP of a sound capture, which has at most 65,536 bytes: 16 bits hold it.
 pub enum Root {
-    At(usize),
+    At(u16),
     Refused(Refusal),
 }
 
@@ -286,12 +286,13 @@ fn rsdp_address(capture: &[u8]) -> u64
     words::u64_at(capture, RSDP_ADDRESS)
 }
 
-// Refusal 10.
+// Refusal 10, of a sound capture.
 fn locate_rsdp(capture: &[u8]) -> Root
+    requires { ⌜ verdict (now capture) ≡ Verdict.Sound ⌝ }
     ensures { λ r. ⌜ r ≡ rsdpPresence (now (capture .entry)) ⌝ }
 {
     match locate(capture, rsdp_address(capture), RSDP_SIZE) {
-        Stretch::Present(place) => Root::At(place),
+        Stretch::Present(place) => Root::At(place as u16),
         Stretch::Absent => Root::Refused(words::refuse(10, RSDP_ADDRESS as u32)),
     }
 }

@@ -4,12 +4,14 @@
 use mathlib.Core.Path.{_≡_, refl, sym, _∙_}
 use mathlib.Core.Bool.{Bool, true, false, _&&_, and-assoc, and-true}
 use mathlib.Core.List.{List, [], _∷_}
-use Prim.Native.Nat.{ℕ, suc, _+_, _-_, _≤_, _<_}
-use native.Mathlib.Nat.{sub-zero}
+use Prim.Native.Nat.{ℕ, zero, suc, _+_, _-_, _≤_, _<_}
+use native.Mathlib.Nat.{sub-zero, eq-or-lt-of-le}
+use mathlib.Core.Logic.{⊎-elim}
 use native.Mathlib.Omega.{arith}
 use native.Mathlib.Numerals.{add-one}
 use lib.ListN.{length, take, drop, getD, drop-of-length-le, length-take}
 use lib.Seq.{drop-cons, getD-take}
+use Rattle.words.specs.Choice.{if}
 use Rattle.words.specs.Lists.{first, every, numbersFrom, numbersBelow}
 use Rattle.words.proofs.Choices.{yes-if, no-if}
 
@@ -71,3 +73,40 @@ module _ {A : Type 0} {test : A → Bool} {answer : Bool} {rest : List A} {sofar
   pub test-over : rest ≡ [] → sofar ≡ answer
   unfolding every
   test-over e = sym (and-true sofar) ∙ (rw e at (s .gives))
+
+-- what a search of numbers tells: where it found its answer, or that its test takes none of them
+pub record Hit {R : Type 0} (test : ℕ → Bool) (found : ℕ → R) (answer : R) (from until : ℕ) : Type 0 where
+  pub at : ℕ
+  pub begun : from ≤ at
+  pub counted : at < until
+  pub taken : test at ≡ true
+  pub told : found at ≡ answer
+
+module _ {R : Type 0} (test : ℕ → Bool) (found : ℕ → R) (none answer : R) where
+  pub search-found : (from k until : ℕ) → from + k ≡ until → first test found none (numbersFrom from k) ≡ answer → (none ≡ answer → ⊥)
+      → Hit test found answer from until
+  unfolding first numbersFrom if
+  search-found from zero until e h other = absurd (other h)
+  search-found from (suc k) until e h other =
+      go (test from) refl h (λ x. search-found (from + 1) k until (omega arith) x other)
+    where
+      go : (b : Bool) → test from ≡ b → if b (found from) (first test found none (numbersFrom (from + 1) k)) ≡ answer
+          → (first test found none (numbersFrom (from + 1) k) ≡ answer → Hit test found answer (from + 1) until)
+          → Hit test found answer from until
+      go true t g later = record { at = from; begun = omega arith; counted = omega arith; taken = t; told = g }
+      go false t g later =
+          let l = later g in
+          record { at = l .at; begun = omega arith; counted = l .counted; taken = l .taken; told = l .told }
+
+  pub search-none : (from k j : ℕ) → first test found none (numbersFrom from k) ≡ answer
+      → ((i : ℕ) → test i ≡ true → found i ≡ answer → ⊥) → from ≤ j → j < from + k → test j ≡ false
+  unfolding first numbersFrom if
+  search-none from zero j h other low high = absurd (omega arith)
+  search-none from (suc k) j h other low high =
+      go (test from) refl h (λ x l. search-none (from + 1) k j x other l (omega arith))
+    where
+      go : (b : Bool) → test from ≡ b → if b (found from) (first test found none (numbersFrom (from + 1) k)) ≡ answer
+          → (first test found none (numbersFrom (from + 1) k) ≡ answer → from + 1 ≤ j → test j ≡ false)
+          → test j ≡ false
+      go true t g later = absurd (other from t g)
+      go false t g later = ⊎-elim (λ (e : from ≡ j). rw (← e) t) (λ (l : from < j). later g (omega arith)) (eq-or-lt-of-le low)

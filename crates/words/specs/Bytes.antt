@@ -16,6 +16,11 @@ unfoldable pub numberAt : ℕ → List ℕ → ℕ → ℕ
 numberAt zero bytes at = 0
 numberAt (suc k) bytes at = byteAt bytes at + 256 * numberAt k bytes (at + 1)
 
+-- the number that letters make, the first the lowest byte
+unfoldable pub spelled : List ℕ → ℕ
+spelled [] = 0
+spelled (x ∷ xs) = x + 256 * spelled xs
+
 -- the `count` bytes from an offset, or as many of them as there are
 abbrev pub partAt : List ℕ → ℕ → ℕ → List ℕ
 partAt bytes at count = take count (drop at bytes)

@@ -15,7 +15,7 @@ enum-told : tie.Need-enum-told
 enum-told c = search needs
 
 locate-rsdp-requires : tie.Need-locate-rsdp-requires
-locate-rsdp-requires c κs = search needs
+locate-rsdp-requires c κs = cc
 
 returns : tie.Need-returns
 returns c = sym (rsdp-refused _ (cc))

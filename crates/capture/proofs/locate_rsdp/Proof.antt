@@ -1,7 +1,9 @@
--- `capture::locate_rsdp` is refusal 10.
+-- `capture::locate_rsdp` is refusal 10. A sound capture is small, so that 16 bits hold the place.
 use mathlib.Core.Path.{ap, sym, _∙_}
-use Rattle.capture.proofs.Laws.{rsdp-present, rsdp-absent}
+use native.Mathlib.Omega.{arith}
 use Rattle.capture.specs.declared.Root.the-variants.{Refused}
+use Rattle.capture.proofs.Laws.{rsdp-present, rsdp-absent}
+use Rattle.capture.proofs.Within.{within, sound-small}
 use borrow.Author.Needs.{needs}
 use Rattle.capture.proofs.locate_rsdp.Statement.{statement}
 use Rattle.capture.proofs.locate_rsdp.Tie as tie
@@ -14,6 +16,14 @@ locate-requires c κs = search needs
 
 enum-known-place : tie.Need-enum-known-place
 enum-known-place c = search needs
+
+cast-t6 : tie.Need-cast-t6
+cast-t6 c =
+    let l = c .before .before .before in
+    let s = l .before .before .before in
+    let capture = s .args .capture .now in
+    let here = sym (l .locate .ensures) ∙ c .before .place .given .1 in
+    omega (arith, within capture (l .before .rsdp-address .result) 36 (c .before .place .given .0 .0) (s .pre) here, sound-small capture (s .pre))
 
 enum-told : tie.Need-enum-told
 enum-told c = search needs
@@ -37,6 +47,7 @@ locate-rsdp-spec =
     rsdp-address-requires
     locate-requires
     enum-known-place
+    cast-t6
     enum-told
     cast-refuse
     refuse-requires

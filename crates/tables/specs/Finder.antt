@@ -1,0 +1,43 @@
+-- The finder: which entries of the XSDT name a table with a signature. Entries are counted, and not tables: a table that two
+-- entries name is named twice.
+use Prim.Native.Nat.{ℕ, _+_, _-_}
+use mathlib.Core.Bool.{Bool, false}
+use mathlib.Core.List.{List}
+use lib.Dec.{eqb}
+use Rattle.words.specs.Lists.{first, numbersFrom}
+use Rattle.capture.specs.Presence.{located}
+use Rattle.capture.specs.declared.Stretch.{Stretch}
+use Rattle.capture.specs.declared.Stretch.the-variants.{Present, Absent}
+use Rattle.tables.specs.Table.{headerSize, addressAt, signature, tableLength}
+use Rattle.tables.specs.Xsdt.{entryCount, entryField}
+use Rattle.tables.specs.declared.Table.{Table}
+use Rattle.tables.specs.declared.Entry.{Entry}
+use Rattle.tables.specs.declared.Entry.the-variants.{At, Nowhere}
+
+-- the table at a place has the signature
+unfoldable pub isSigned : List ℕ → ℕ → Stretch → Bool
+isSigned capture letters Absent = false
+isSigned capture letters (Present place) = eqb (signature capture place) letters
+
+-- an entry names a table with the signature
+unfoldable pub names : List ℕ → Table → ℕ → ℕ → Bool
+names capture xsdt letters entry =
+    isSigned capture letters (located capture (addressAt capture (entryField xsdt entry)) headerSize)
+
+-- the first entry, from one on, that names such a table
+unfoldable pub namedFrom : List ℕ → Table → ℕ → ℕ → Entry
+namedFrom capture xsdt letters from =
+    first (names capture xsdt letters) At Nowhere (numbersFrom from (entryCount xsdt - from))
+
+-- the first entry of all that does
+unfoldable pub firstNamed : List ℕ → Table → ℕ → Entry
+firstNamed capture xsdt letters = namedFrom capture xsdt letters 0
+
+-- the next one after an entry
+unfoldable pub namedAfter : List ℕ → Table → ℕ → Entry → Entry
+namedAfter capture xsdt letters Nowhere = Nowhere
+namedAfter capture xsdt letters (At entry) = namedFrom capture xsdt letters (entry + 1)
+
+-- the second entry of all that does
+unfoldable pub secondNamed : List ℕ → Table → ℕ → Entry
+secondNamed capture xsdt letters = namedAfter capture xsdt letters (firstNamed capture xsdt letters)

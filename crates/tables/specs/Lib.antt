@@ -1,0 +1,6 @@
+pub mod Rsdp
+pub mod Table
+pub mod Xsdt
+pub mod Finder
+pub mod Survey
+pub mod Structures
