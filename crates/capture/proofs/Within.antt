@@ -102,6 +102,13 @@ within capture address size place sound h =
     let end = holds-end capture address size (s .at) (s .taken) in
     omega arith
 
+-- and so ends at 65,536 at the latest
+pub within-small : (capture : List ℕ) (address size place : ℕ) → Sound capture → located capture address size ≡ Present place → place + size ≤ 65536
+within-small capture address size place sound h =
+    let inside = within capture address size place sound h in
+    let small = sound-small capture sound in
+    omega arith
+
 -- and behind the header
 pub behind : (capture : List ℕ) (address size place : ℕ) → located capture address size ≡ Present place → 18 ≤ place
 unfolding placeIn segmentPlace descriptorsEnd descriptor headerSize

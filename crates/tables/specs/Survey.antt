@@ -101,18 +101,17 @@ unfoldable pub after : Verdict → Survey → Survey
 after (verdicts.Refused refusal) later = Refused refusal
 after verdicts.Sound later = later
 
--- the order of refusals 1 to 30
+-- the order of refusals 1 to 30, from the last to the first: a refusal stops all that comes after
 unfoldable pub ofTables : List ℕ → Table → Table → Survey
 ofTables capture madt fadt =
     after (bodyRules capture madt fadt) (Found (record { madt = madt; fadt = fadt; sci = sciNumber capture fadt }))
 
+unfoldable pub ofNames : List ℕ → Table → Survey
+ofNames capture xsdt = after (nameRules capture xsdt) (ofTables capture (madtOf capture xsdt) (fadtOf capture xsdt))
+
 unfoldable pub ofXsdt : List ℕ → Checked → Survey
 ofXsdt capture (checked.Refused refusal) = Refused refusal
-ofXsdt capture (checked.Is xsdt) =
-    after (xsdtRules capture xsdt)
-    (after (entryRules capture xsdt)
-    (after (nameRules capture xsdt)
-    (ofTables capture (madtOf capture xsdt) (fadtOf capture xsdt))))
+ofXsdt capture (checked.Is xsdt) = after (xsdtRules capture xsdt) (after (entryRules capture xsdt) (ofNames capture xsdt))
 
 unfoldable pub ofRsdp : List ℕ → Root → Survey
 ofRsdp capture (roots.Refused refusal) = Refused refusal

@@ -2,16 +2,20 @@
 // and the stepper over structures are written for any table. Every public function answers for any bytes.
 ghost use mathlib.Core.Path.{_≡_};
 ghost use mathlib.Core.Bool.{false};
+ghost use Prim.Native.Nat.{_-_};
 ghost use Rattle.words.specs.Bytes.{partAt, byteSum};
 ghost use Rattle.capture.specs.Presence.{located};
 ghost use Rattle.capture.specs.Rules.{verdict};
 ghost use Rattle.capture.specs.declared.Verdict.the-variants.{Sound};
+ghost use Rattle.capture.specs.declared.Stretch.the-variants.{Present};
+ghost use Rattle.capture.specs.declared.Root.the-variants as roots;
 ghost use Rattle.tables.specs.Rsdp.{wrongSignature, wrongRevision, wrongLength, wrongSums, rsdpRules, xsdtField};
 ghost use Rattle.tables.specs.Table.{addressAt, signature, tableLength, isPresent, cutShort, wrongSum, tableFound, tableAt};
 ghost use Rattle.tables.specs.Xsdt.{revision, notXsdt, wrongXsdtRevision, wrongBody, entryCount, xsdtRules, entryField, entryRules, isRefused};
 ghost use Rattle.tables.specs.Finder.{names, namedFrom, firstNamed, secondNamed};
-ghost use Rattle.tables.specs.Survey.{isNowhere, earlier, nameRules, wrongMadtRevision, wrongFlags, bodyRules, sciNumber, tableNamed, ofTables, ofXsdt, ofRsdp, survey};
+ghost use Rattle.tables.specs.Survey.{isNowhere, earlier, secondRule, nameRules, wrongMadtRevision, wrongFlags, bodyRules, sciNumber, tableNamed, tableOfEntry, ofTables, ofNames, ofXsdt, ofRsdp, survey};
 ghost use Rattle.tables.specs.Structures.{stepAt};
+ghost use Rattle.tables.specs.declared.Checked.the-variants.{Is};
 use capture::Root;
 use capture::Stretch;
 use capture::Verdict;
@@ -191,4 +195,364 @@ fn wrong_sum(capture: &[u8], place: u16) -> bool
     ensures { λ r. ⌜ r ≡ wrongSum (now (capture .entry)) place ⌝ }
 {
     !(sum_at(capture, place, length_of(capture, place) as usize) == 0)
+}
+
+// Refusals 21 and 22, of the table whose header stands at a place. A sound capture is small, and its tables are smaller.
+fn check_whole(capture: &[u8], field: u32, place: u16) -> Checked
+    requires { ⌜ verdict (now capture) ≡ Sound ⌝ }
+    ensures { λ r. ⌜ r ≡ tableFound (now (capture .entry)) field (Present place) ⌝ }
+{
+    if cut_short(capture, address_at(capture, field), place) {
+        return Checked::Refused(words::refuse(21, place as u32));
+    }
+    if wrong_sum(capture, place) {
+        return Checked::Refused(words::refuse(22, place as u32));
+    }
+    Checked::Is(Table {
+        place,
+        length: length_of(capture, place) as u16,
+    })
+}
+
+// Refusals 20 to 22, of the table that the address field at a place names.
+fn check_table(capture: &[u8], field: u32) -> Checked
+    requires { ⌜ verdict (now capture) ≡ Sound ⌝ }
+    ensures { λ r. ⌜ r ≡ tableAt (now (capture .entry)) field ⌝ }
+{
+    match capture::locate(capture, address_at(capture, field), HEADER_SIZE) {
+        Stretch::Absent => Checked::Refused(words::refuse(20, field)),
+        Stretch::Present(place) => check_whole(capture, field, place as u16),
+    }
+}
+
+// Refusal 23.
+fn not_xsdt(capture: &[u8], xsdt: Table) -> bool
+    ensures { λ r. ⌜ r ≡ notXsdt (now (capture .entry)) xsdt ⌝ }
+{
+    !(signature_of(capture, xsdt.place as usize) == XSDT)
+}
+
+// Refusal 24.
+fn wrong_xsdt_revision(capture: &[u8], xsdt: Table) -> bool
+    ensures { λ r. ⌜ r ≡ wrongXsdtRevision (now (capture .entry)) xsdt ⌝ }
+{
+    !(revision_of(capture, xsdt.place) == 1)
+}
+
+// The bytes behind a table's header.
+fn body_size(table: Table) -> u16
+    ensures { λ r. ⌜ r ≡ table .length - 36 ⌝ }
+{
+    let length = table.length;
+    if length < HEADER_SIZE as u16 {
+        return 0;
+    }
+    length - HEADER_SIZE as u16
+}
+
+fn entry_count(xsdt: Table) -> u16
+    ensures { λ r. ⌜ r ≡ entryCount xsdt ⌝ }
+{
+    body_size(xsdt) / ADDRESS_SIZE as u16
+}
+
+// Refusal 25.
+fn wrong_body(xsdt: Table) -> bool
+    ensures { λ r. ⌜ r ≡ wrongBody xsdt ⌝ }
+{
+    !(body_size(xsdt) % ADDRESS_SIZE as u16 == 0) | (MOST_ENTRIES < entry_count(xsdt))
+}
+
+// Refusals 23 to 25.
+fn xsdt_rules(capture: &[u8], xsdt: Table) -> Verdict
+    ensures { λ r. ⌜ r ≡ xsdtRules (now (capture .entry)) xsdt ⌝ }
+{
+    if not_xsdt(capture, xsdt) {
+        return Verdict::Refused(words::refuse(23, xsdt.place as u32));
+    }
+    if wrong_xsdt_revision(capture, xsdt) {
+        return Verdict::Refused(words::refuse(24, xsdt.place as u32));
+    }
+    if wrong_body(xsdt) {
+        return Verdict::Refused(words::refuse(25, xsdt.place as u32));
+    }
+    Verdict::Sound
+}
+
+// The place of an entry's address field.
+fn entry_field(xsdt: Table, entry: u16) -> u32
+    ensures { λ r. ⌜ r ≡ entryField xsdt entry ⌝ }
+{
+    (xsdt.place as u32) + HEADER_SIZE + ADDRESS_SIZE * (entry as u32)
+}
+
+// Refusals 20 to 22 of the entries in turn.
+fn entry_rules(capture: &[u8], xsdt: Table) -> Verdict
+    requires { ⌜ verdict (now capture) ≡ Sound ⌝ }
+    ensures { λ r. ⌜ r ≡ entryRules (now (capture .entry)) xsdt ⌝ }
+{
+    let n = entry_count(xsdt);
+    let mut entry: u16 = 0;
+    while entry < n {
+        if let Checked::Refused(refusal) = check_table(capture, entry_field(xsdt, entry)) {
+            return Verdict::Refused(refusal);
+        }
+        entry += 1;
+    }
+    Verdict::Sound
+}
+
+// Whether an entry names a table with a signature.
+fn entry_names(capture: &[u8], xsdt: Table, letters: u32, entry: u16) -> bool
+    ensures { λ r. ⌜ r ≡ names (now (capture .entry)) xsdt letters entry ⌝ }
+{
+    match capture::locate(
+        capture,
+        address_at(capture, entry_field(xsdt, entry)),
+        HEADER_SIZE,
+    ) {
+        Stretch::Absent => false,
+        Stretch::Present(place) => signature_of(capture, place) == letters,
+    }
+}
+
+// The finder: the first entry, from one on, that names a table with a signature.
+fn named_from(capture: &[u8], xsdt: Table, letters: u32, from: u16) -> Entry
+    ensures { λ r. ⌜ r ≡ namedFrom (now (capture .entry)) xsdt letters from ⌝ }
+{
+    let n = entry_count(xsdt);
+    let mut entry = from;
+    while entry < n {
+        if entry_names(capture, xsdt, letters, entry) {
+            return Entry::At(entry);
+        }
+        entry += 1;
+    }
+    Entry::Nowhere
+}
+
+fn first_named(capture: &[u8], xsdt: Table, letters: u32) -> Entry
+    ensures { λ r. ⌜ r ≡ firstNamed (now (capture .entry)) xsdt letters ⌝ }
+{
+    named_from(capture, xsdt, letters, 0)
+}
+
+fn second_named(capture: &[u8], xsdt: Table, letters: u32) -> Entry
+    ensures { λ r. ⌜ r ≡ secondNamed (now (capture .entry)) xsdt letters ⌝ }
+{
+    match first_named(capture, xsdt, letters) {
+        Entry::Nowhere => Entry::Nowhere,
+        Entry::At(entry) => named_from(capture, xsdt, letters, entry + 1),
+    }
+}
+
+fn is_nowhere(entry: Entry) -> bool
+    ensures { λ r. ⌜ r ≡ isNowhere entry ⌝ }
+{
+    match entry {
+        Entry::Nowhere => true,
+        Entry::At(_) => false,
+    }
+}
+
+// The earlier of two entries.
+fn earlier_of(entry: Entry, other: Entry) -> Entry
+    ensures { λ r. ⌜ r ≡ earlier entry other ⌝ }
+{
+    let Entry::At(e) = entry else {
+        return other;
+    };
+    let Entry::At(o) = other else {
+        return Entry::At(e);
+    };
+    if e <= o {
+        return Entry::At(e);
+    }
+    Entry::At(o)
+}
+
+// Refusal 27.
+fn second_rule(xsdt: Table, second: Entry) -> Verdict
+    ensures { λ r. ⌜ r ≡ secondRule xsdt second ⌝ }
+{
+    match second {
+        Entry::Nowhere => Verdict::Sound,
+        Entry::At(entry) => Verdict::Refused(words::refuse(27, entry_field(xsdt, entry))),
+    }
+}
+
+// Refusals 26 and 27.
+fn name_rules(capture: &[u8], xsdt: Table) -> Verdict
+    ensures { λ r. ⌜ r ≡ nameRules (now (capture .entry)) xsdt ⌝ }
+{
+    if is_nowhere(first_named(capture, xsdt, APIC)) | is_nowhere(first_named(capture, xsdt, FACP)) {
+        return Verdict::Refused(words::refuse(26, xsdt.place as u32));
+    }
+    second_rule(
+        xsdt,
+        earlier_of(
+            second_named(capture, xsdt, APIC),
+            second_named(capture, xsdt, FACP),
+        ),
+    )
+}
+
+// How strict rule 29 is.
+fn wrong_madt_revision(revision: u8) -> bool
+    ensures { λ r. ⌜ r ≡ wrongMadtRevision revision ⌝ }
+{
+    !(revision == 1)
+}
+
+// Refusal 30.
+fn wrong_flags(capture: &[u8], madt: Table) -> bool
+    ensures { λ r. ⌜ r ≡ wrongFlags (now (capture .entry)) madt ⌝ }
+{
+    !(words::u32_at(capture, madt.place as usize + MADT_FLAGS) == 0)
+}
+
+// Refusals 28 to 30.
+fn body_rules(capture: &[u8], madt: Table, fadt: Table) -> Verdict
+    ensures { λ r. ⌜ r ≡ bodyRules (now (capture .entry)) madt fadt ⌝ }
+{
+    if madt.length < MADT_LEAST {
+        return Verdict::Refused(words::refuse(28, madt.place as u32));
+    }
+    if fadt.length < FADT_LEAST {
+        return Verdict::Refused(words::refuse(28, fadt.place as u32));
+    }
+    if wrong_madt_revision(revision_of(capture, madt.place)) {
+        return Verdict::Refused(words::refuse(29, madt.place as u32));
+    }
+    if wrong_flags(capture, madt) {
+        return Verdict::Refused(words::refuse(30, madt.place as u32));
+    }
+    Verdict::Sound
+}
+
+fn sci_number(capture: &[u8], fadt: Table) -> u16
+    ensures { λ r. ⌜ r ≡ sciNumber (now (capture .entry)) fadt ⌝ }
+{
+    words::u16_at(capture, fadt.place as usize + FADT_SCI)
+}
+
+// The table that an address field names, which went through 20 to 22: it is not summed again.
+fn table_named(capture: &[u8], field: u32) -> Table
+    requires { ⌜ verdict (now capture) ≡ Sound ⌝ }
+    requires { ⌜ isRefused (tableAt (now capture) field) ≡ false ⌝ }
+    ensures { λ r. ⌜ r ≡ tableNamed (now (capture .entry)) field ⌝ }
+{
+    match capture::locate(capture, address_at(capture, field), HEADER_SIZE) {
+        Stretch::Absent => Table {
+            place: 0,
+            length: 0,
+        },
+        Stretch::Present(place) => Table {
+            place: place as u16,
+            length: length_of(capture, place as u16) as u16,
+        },
+    }
+}
+
+// The table that an entry names, whose entries went through 20 to 22.
+fn table_of_entry(capture: &[u8], xsdt: Table, letters: u32) -> Table
+    requires { ⌜ verdict (now capture) ≡ Sound ⌝ }
+    requires { ⌜ entryRules (now capture) xsdt ≡ Sound ⌝ }
+    ensures { λ r. ⌜ r ≡ tableOfEntry (now (capture .entry)) xsdt (firstNamed (now (capture .entry)) xsdt letters) ⌝ }
+{
+    match first_named(capture, xsdt, letters) {
+        Entry::Nowhere => Table {
+            place: 0,
+            length: 0,
+        },
+        Entry::At(entry) => table_named(capture, entry_field(xsdt, entry)),
+    }
+}
+
+// Refusals 28 to 30, and what is found.
+fn survey_tables(capture: &[u8], madt: Table, fadt: Table) -> Survey
+    ensures { λ r. ⌜ r ≡ ofTables (now (capture .entry)) madt fadt ⌝ }
+{
+    match body_rules(capture, madt, fadt) {
+        Verdict::Refused(refusal) => Survey::Refused(refusal),
+        Verdict::Sound => Survey::Found(Tables {
+            madt,
+            fadt,
+            sci: sci_number(capture, fadt),
+        }),
+    }
+}
+
+// Refusals 26 and 27, and what comes after.
+fn survey_names(capture: &[u8], xsdt: Table) -> Survey
+    requires { ⌜ verdict (now capture) ≡ Sound ⌝ }
+    requires { ⌜ entryRules (now capture) xsdt ≡ Sound ⌝ }
+    ensures { λ r. ⌜ r ≡ ofNames (now (capture .entry)) xsdt ⌝ }
+{
+    match name_rules(capture, xsdt) {
+        Verdict::Refused(refusal) => Survey::Refused(refusal),
+        Verdict::Sound => survey_tables(
+            capture,
+            table_of_entry(capture, xsdt, APIC),
+            table_of_entry(capture, xsdt, FACP),
+        ),
+    }
+}
+
+// Refusals 23 to 25, those of the entries, and what comes after.
+fn survey_xsdt(capture: &[u8], xsdt: Table) -> Survey
+    requires { ⌜ verdict (now capture) ≡ Sound ⌝ }
+    ensures { λ r. ⌜ r ≡ ofXsdt (now (capture .entry)) (Is xsdt) ⌝ }
+{
+    match xsdt_rules(capture, xsdt) {
+        Verdict::Refused(refusal) => Survey::Refused(refusal),
+        Verdict::Sound => match entry_rules(capture, xsdt) {
+            Verdict::Refused(refusal) => Survey::Refused(refusal),
+            Verdict::Sound => survey_names(capture, xsdt),
+        },
+    }
+}
+
+// Refusals 11 to 14, the XSDT's 20 to 22, and what comes after.
+fn survey_rsdp(capture: &[u8], place: u16) -> Survey
+    requires { ⌜ verdict (now capture) ≡ Sound ⌝ }
+    ensures { λ r. ⌜ r ≡ ofRsdp (now (capture .entry)) (roots.At place) ⌝ }
+{
+    match rsdp_rules(capture, place) {
+        Verdict::Refused(refusal) => Survey::Refused(refusal),
+        Verdict::Sound => match check_table(capture, place as u32 + RSDP_XSDT) {
+            Checked::Refused(refusal) => Survey::Refused(refusal),
+            Checked::Is(xsdt) => survey_xsdt(capture, xsdt),
+        },
+    }
+}
+
+// Refusals 1 to 30: MADT, FADT and SCI number of a capture, or the first rule that it breaks.
+pub fn survey_capture(capture: &[u8]) -> Survey
+    ensures { λ r. ⌜ r ≡ survey (now (capture .entry)) ⌝ }
+{
+    match capture::find_rsdp(capture) {
+        Root::Refused(refusal) => Survey::Refused(refusal),
+        Root::At(place) => survey_rsdp(capture, place),
+    }
+}
+
+// What stands at an offset of a table of structures that say their own length: the stepper for the MADT and its like.
+pub fn step_from(table: &[u8], at: usize) -> Step
+    ensures { λ r. ⌜ r ≡ stepAt (now (table .entry)) at ⌝ }
+{
+    if table.len() <= at {
+        return Step::End;
+    }
+    if table.len() - at < 2 {
+        return Step::Broken;
+    }
+    let length = words::byte_at(table, at + 1);
+    if length < 2 {
+        return Step::Broken;
+    }
+    if table.len() - at < length as usize {
+        return Step::Broken;
+    }
+    Step::Structure(length)
 }

@@ -1,9 +1,9 @@
 -- `capture::locate_rsdp` is refusal 10. A sound capture is small, so that 16 bits hold the place.
+use Rattle.capture.proofs.Within.{within-small}
 use mathlib.Core.Path.{ap, sym, _∙_}
 use native.Mathlib.Omega.{arith}
 use Rattle.capture.specs.declared.Root.the-variants.{Refused}
 use Rattle.capture.proofs.Laws.{rsdp-present, rsdp-absent}
-use Rattle.capture.proofs.Within.{within, sound-small}
 use borrow.Author.Needs.{needs}
 use Rattle.capture.proofs.locate_rsdp.Statement.{statement}
 use Rattle.capture.proofs.locate_rsdp.Tie as tie
@@ -21,9 +21,8 @@ cast-t6 : tie.Need-cast-t6
 cast-t6 c =
     let l = c .before .before .before in
     let s = l .before .before .before in
-    let capture = s .args .capture .now in
     let here = sym (l .locate .ensures) ∙ c .before .place .given .1 in
-    omega (arith, within capture (l .before .rsdp-address .result) 36 (c .before .place .given .0 .0) (s .pre) here, sound-small capture (s .pre))
+    omega (arith, within-small (s .args .capture .now) (l .before .rsdp-address .result) 36 (c .before .place .given .0 .0) (s .pre) here)
 
 enum-told : tie.Need-enum-told
 enum-told c = search needs

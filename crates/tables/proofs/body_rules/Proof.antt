@@ -1,0 +1,100 @@
+-- `tables::body_rules` gives the first refusal of 28 to 30, in their order.
+use mathlib.Core.Path.{ap, sym, _∙_, refl}
+use native.Mathlib.Omega.{arith}
+use borrow.Author.Tests.{lt-ltb, le-ltb}
+use Rattle.words.proofs.Choices.{yes-if, no-if}
+use Rattle.capture.specs.declared.Verdict.the-variants.{Refused}
+use Rattle.tables.specs.Survey.{bodyRules}
+use borrow.Author.Needs.{needs}
+use Rattle.tables.proofs.body_rules.Statement.{statement}
+use Rattle.tables.proofs.body_rules.Tie as tie
+
+cast-refuse : tie.Need-cast-refuse
+cast-refuse c = search needs
+
+refuse-requires : tie.Need-refuse-requires
+refuse-requires c κs = search needs
+
+returns : tie.Need-returns
+unfolding bodyRules
+returns c =
+    let a = c .before .before .before .before .before .args in
+    ap Refused (c .refuse .ensures) ∙ sym (yes-if _ _ _ (lt-ltb (a .madt .length) 44 (omega arith)))
+
+cast-refuse-2 : tie.Need-cast-refuse-2
+cast-refuse-2 c = search needs
+
+refuse-requires-2 : tie.Need-refuse-requires-2
+refuse-requires-2 c κs = search needs
+
+returns-2 : tie.Need-returns-2
+unfolding bodyRules
+returns-2 c =
+    let a = c .before .before .before .before .before .before .before .args in
+    ap Refused (c .refuse2 .ensures)
+    ∙ sym (no-if _ _ _ (le-ltb (a .madt .length) 44 (omega arith)) (yes-if _ _ _ (lt-ltb (a .fadt .length) 48 (omega arith))))
+
+revision-of-requires : tie.Need-revision-of-requires
+revision-of-requires c κs = search needs
+
+wrong-madt-revision-requires : tie.Need-wrong-madt-revision-requires
+wrong-madt-revision-requires c κs = search needs
+
+cast-refuse-3 : tie.Need-cast-refuse-3
+cast-refuse-3 c = search needs
+
+refuse-requires-3 : tie.Need-refuse-requires-3
+refuse-requires-3 c κs = search needs
+
+returns-3 : tie.Need-returns-3
+unfolding bodyRules
+returns-3 c =
+    let a = c .before .before .before .before .before .before .before .before .before .before .args in
+    ap Refused (c .refuse3 .ensures)
+    ∙ sym (no-if _ _ _ (le-ltb (a .madt .length) 44 (omega arith)) (no-if _ _ _ (le-ltb (a .fadt .length) 48 (omega arith))
+    (yes-if _ _ _ (cc))))
+
+wrong-flags-requires : tie.Need-wrong-flags-requires
+wrong-flags-requires c κs = search needs
+
+cast-refuse-4 : tie.Need-cast-refuse-4
+cast-refuse-4 c = search needs
+
+refuse-requires-4 : tie.Need-refuse-requires-4
+refuse-requires-4 c κs = search needs
+
+returns-4 : tie.Need-returns-4
+unfolding bodyRules
+returns-4 c =
+    let a = c .before .before .before .before .before .before .before .before .before .before .before .before .args in
+    ap Refused (c .refuse4 .ensures)
+    ∙ sym (no-if _ _ _ (le-ltb (a .madt .length) 44 (omega arith)) (no-if _ _ _ (le-ltb (a .fadt .length) 48 (omega arith))
+    (no-if _ _ _ (cc) (yes-if _ _ _ (cc)))))
+
+returns-5 : tie.Need-returns-5
+unfolding bodyRules
+returns-5 c =
+    let a = c .before .before .before .before .before .before .before .before .before .before .args in
+    sym (no-if _ _ _ (le-ltb (a .madt .length) 44 (omega arith)) (no-if _ _ _ (le-ltb (a .fadt .length) 48 (omega arith))
+    (no-if _ _ _ (cc) (no-if _ _ _ (cc) refl))))
+
+pub body-rules-spec : {M : Type 1} → statement M
+body-rules-spec =
+    tie.close
+    (tie.spec
+    cast-refuse
+    refuse-requires
+    returns
+    cast-refuse-2
+    refuse-requires-2
+    returns-2
+    revision-of-requires
+    wrong-madt-revision-requires
+    cast-refuse-3
+    refuse-requires-3
+    returns-3
+    wrong-flags-requires
+    cast-refuse-4
+    refuse-requires-4
+    returns-4
+    returns-5)
