@@ -46,13 +46,9 @@ def table(signature, revision, body):
     return summed(head + body, 9)
 
 
-def rsdp(xsdt):
-    data = b"RSD PTR " + b"\0" + b"LOONGS" + le(2, 1) + le(0, 4) + le(36, 4) + le(xsdt, 8) + le(0, 4)
+def rsdp(xsdt, signature=b"RSD PTR ", revision=2, length=36):
+    data = signature + b"\0" + b"LOONGS" + le(revision, 1) + le(0, 4) + le(length, 4) + le(xsdt, 8) + le(0, 4)
     return summed(summed(data, 8, 20), 32)
-
-
-def xsdt(addresses, revision=1):
-    return table(b"XSDT", revision, b"".join(le(address, 8) for address in addresses))
 
 
 def madt(structures, revision=1, flags=0):
@@ -102,11 +98,17 @@ STRUCTURES_OF_A = [
 ]
 
 
+def lay(tables, entries=None, root=rsdp, signature=b"XSDT", revision=1, base=BASE):
+    """The memory of a board: RSDP, XSDT, tables. An entry is the number of a table, or an address; each table once if not said."""
+    entries = range(len(tables)) if entries is None else entries
+    at = base + 36 + 36 + 8 * len(entries)
+    addresses = [at + sum(len(t) for t in tables[:k]) for k in range(len(tables))]
+    named = [addresses[e] if e < len(tables) else e for e in entries]
+    return root(base + 36) + table(signature, revision, b"".join(le(address, 8) for address in named)) + b"".join(tables)
+
+
 def image(structures=None, sci=75, base=BASE):
-    """The memory of a board: RSDP, XSDT with two entries, MADT, FADT."""
-    m, f = madt(STRUCTURES_OF_A if structures is None else structures), fadt(sci)
-    at = base + 36 + 52
-    return rsdp(base + 36) + xsdt([at, at + len(m)]) + m + f
+    return lay([madt(STRUCTURES_OF_A if structures is None else structures), fadt(sci)], base=base)
 
 
 def board(structures=None, sci=75, base=BASE):

@@ -8,6 +8,8 @@ use capture::Stretch;
 use capture::Verdict;
 use libc::STDIN_FILENO;
 use libc::STDOUT_FILENO;
+use tables::Survey;
+use tables::Tables;
 use words::Refusal;
 
 const HEAD: usize = 92;
@@ -31,6 +33,8 @@ const CHECK: u32 = 0;
 const RSDP: u32 = 1;
 
 const LOCATE: u32 = 2;
+
+const SURVEY: u32 = 3;
 
 fn say(text: &[u8]) {
     io::write_all(STDOUT_FILENO, text);
@@ -72,6 +76,21 @@ fn answer_locate(bytes: &[u8], address: u64, size: u32) {
     }
 }
 
+fn say_tables(t: Tables) {
+    say_number(b"MADT at ", t.madt.place as u64);
+    say_number(b" of ", t.madt.length as u64);
+    say_number(b", FADT at ", t.fadt.place as u64);
+    say_number(b" of ", t.fadt.length as u64);
+    say_number(b", SCI ", t.sci as u64);
+}
+
+fn answer_survey(bytes: &[u8]) {
+    match tables::survey_capture(bytes) {
+        Survey::Found(t) => say_tables(t),
+        Survey::Refused(refusal) => say_refusal(refusal),
+    }
+}
+
 fn answer(head: &[u8], bytes: &[u8]) {
     let kind = words::u32_at(head, KIND);
     match kind {
@@ -82,6 +101,7 @@ fn answer(head: &[u8], bytes: &[u8]) {
             words::u64_at(head, FIRST),
             words::u32_at(head, SECOND),
         ),
+        SURVEY => answer_survey(bytes),
         _ => say(b"no such question"),
     }
 }

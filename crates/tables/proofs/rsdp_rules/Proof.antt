@@ -1,5 +1,5 @@
 -- `tables::rsdp_rules` gives the first refusal of 11 to 14, in their order.
-use mathlib.Core.Path.{ap, sym, _∙_}
+use mathlib.Core.Path.{refl, ap, sym, _∙_}
 use Rattle.words.proofs.Choices.{yes-if, no-if}
 use Rattle.capture.specs.declared.Verdict.the-variants.{Refused}
 use Rattle.tables.specs.Rsdp.{rsdpRules}
@@ -25,7 +25,11 @@ refuse-requires-2 c κs = search needs
 
 returns-2 : tie.Need-returns-2
 unfolding rsdpRules
-returns-2 c = ap Refused (c .refuse2 .ensures) ∙ sym (no-if _ _ _ (cc) (yes-if _ _ _ (cc)))
+returns-2 c =
+    let p1 = c .before .before .before in
+    ap Refused (c .refuse2 .ensures)
+    ∙ sym (no-if _ _ _ (sym (p1 .before .wrong-signature .ensures) ∙ p1 .if1 .left)
+    (yes-if _ _ _ (sym (c .before .before .wrong-revision .ensures) ∙ c .before .if2 .taken)))
 
 wrong-length-requires : tie.Need-wrong-length-requires
 wrong-length-requires c κs = search needs
@@ -35,7 +39,13 @@ refuse-requires-3 c κs = search needs
 
 returns-3 : tie.Need-returns-3
 unfolding rsdpRules
-returns-3 c = ap Refused (c .refuse3 .ensures) ∙ sym (no-if _ _ _ (cc) (no-if _ _ _ (cc) (yes-if _ _ _ (cc))))
+returns-3 c =
+    let p2 = c .before .before .before in
+    let p1 = p2 .before .before in
+    ap Refused (c .refuse3 .ensures)
+    ∙ sym (no-if _ _ _ (sym (p1 .before .wrong-signature .ensures) ∙ p1 .if1 .left)
+    (no-if _ _ _ (sym (p2 .before .wrong-revision .ensures) ∙ p2 .if2 .left)
+    (yes-if _ _ _ (sym (c .before .before .wrong-length .ensures) ∙ c .before .if3 .taken))))
 
 wrong-sums-requires : tie.Need-wrong-sums-requires
 wrong-sums-requires c κs = search needs
@@ -45,11 +55,26 @@ refuse-requires-4 c κs = search needs
 
 returns-4 : tie.Need-returns-4
 unfolding rsdpRules
-returns-4 c = ap Refused (c .refuse4 .ensures) ∙ sym (no-if _ _ _ (cc) (no-if _ _ _ (cc) (no-if _ _ _ (cc) (yes-if _ _ _ (cc)))))
+returns-4 c =
+    let p3 = c .before .before .before in
+    let p2 = p3 .before .before in
+    let p1 = p2 .before .before in
+    ap Refused (c .refuse4 .ensures)
+    ∙ sym (no-if _ _ _ (sym (p1 .before .wrong-signature .ensures) ∙ p1 .if1 .left)
+    (no-if _ _ _ (sym (p2 .before .wrong-revision .ensures) ∙ p2 .if2 .left)
+    (no-if _ _ _ (sym (p3 .before .wrong-length .ensures) ∙ p3 .if3 .left)
+    (yes-if _ _ _ (sym (c .before .before .wrong-sums .ensures) ∙ c .before .if4 .taken)))))
 
 returns-5 : tie.Need-returns-5
 unfolding rsdpRules
-returns-5 c = sym (no-if _ _ _ (cc) (no-if _ _ _ (cc) (no-if _ _ _ (cc) (no-if _ _ _ (cc) (cc)))))
+returns-5 c =
+    let p3 = c .before .before in
+    let p2 = p3 .before .before in
+    let p1 = p2 .before .before in
+    sym (no-if _ _ _ (sym (p1 .before .wrong-signature .ensures) ∙ p1 .if1 .left)
+    (no-if _ _ _ (sym (p2 .before .wrong-revision .ensures) ∙ p2 .if2 .left)
+    (no-if _ _ _ (sym (p3 .before .wrong-length .ensures) ∙ p3 .if3 .left)
+    (no-if _ _ _ (sym (c .before .wrong-sums .ensures) ∙ c .if4 .left) refl))))
 
 pub rsdp-rules-spec : {M : Type 1} → statement M
 rsdp-rules-spec =

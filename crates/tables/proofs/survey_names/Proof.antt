@@ -1,7 +1,8 @@
 -- `tables::survey_names` gives 26 and 27 before what comes after.
-use mathlib.Core.Path.{sym, _∙_}
+use mathlib.Core.Path.{ap, sym, _∙_}
+use Rattle.tables.specs.Survey.{ofTables, ofNames, madtOf, fadtOf, apic, facp}
+use Rattle.tables.specs.declared.Table.{Table}
 use Rattle.words.specs.Bytes.{spelled}
-use Rattle.tables.specs.Survey.{ofNames, madtOf, fadtOf, apic, facp}
 use Rattle.tables.proofs.Laws.{after-refused, after-sound}
 use borrow.Author.Needs.{needs}
 use Rattle.tables.proofs.survey_names.Statement.{statement}
@@ -31,7 +32,13 @@ returns c = sym (after-refused _ _ (cc))
 
 returns-2 : tie.Need-returns-2
 unfolding ofNames madtOf fadtOf apic facp spelled
-returns-2 c = (cc) ∙ sym (after-sound _ _ (cc))
+returns-2 c =
+    let n = c .before .before .before .before .before in
+    let capture = n .before .before .args .capture .now in
+    c .survey-tables .ensures
+    ∙ ap (λ (t : Table). ofTables capture t (c .before .table-of-entry2 .result)) (c .before .before .table-of-entry .ensures)
+    ∙ ap (ofTables _ _) (c .before .table-of-entry2 .ensures)
+    ∙ sym (after-sound _ _ (sym (n .name-rules .ensures) ∙ c .before .before .before .enum-told .given .1))
 
 pub survey-names-spec : {M : Type 1} → statement M
 survey-names-spec =

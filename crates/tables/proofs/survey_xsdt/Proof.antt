@@ -29,15 +29,24 @@ survey-names-requires c κs = (search needs, cc)
 
 returns : tie.Need-returns
 unfolding ofXsdt
-returns c = sym (after-refused _ _ (cc))
+returns c = sym (after-refused _ _ (sym (c .before .before .before .xsdt-rules .ensures) ∙ c .before .refusal .given .1))
 
 returns-2 : tie.Need-returns-2
 unfolding ofXsdt
-returns-2 c = sym (after-sound _ _ (cc) ∙ after-refused _ _ (cc))
+returns-2 c =
+    let e = c .before .before .before in
+    let x = e .before .before .before in
+    sym (after-sound _ _ (sym (x .xsdt-rules .ensures) ∙ e .before .enum-told .given .1)
+    ∙ after-refused _ _ (sym (e .entry-rules .ensures) ∙ c .before .refusal2 .given .1))
 
 returns-3 : tie.Need-returns-3
 unfolding ofXsdt
-returns-3 c = (cc) ∙ sym (after-sound _ _ (cc) ∙ after-sound _ _ (cc))
+returns-3 c =
+    let e = c .before .before .before in
+    let x = e .before .before .before in
+    c .survey-names .ensures
+    ∙ sym (after-sound _ _ (sym (x .xsdt-rules .ensures) ∙ e .before .enum-told .given .1)
+    ∙ after-sound _ _ (sym (e .entry-rules .ensures) ∙ c .before .enum-told2 .given .1))
 
 pub survey-xsdt-spec : {M : Type 1} → statement M
 survey-xsdt-spec =
