@@ -11,7 +11,7 @@ use lib.ListN.{length}
 use borrow.Author.Tests.{eqb-true, ltb-false, not-false}
 use Rattle.words.specs.Choice.{if}
 use Rattle.words.specs.Lists.{numbersBelow}
-use Rattle.words.specs.Refusals.{refused}
+use Rattle.words.specs.declared.Refusal.{Refusal}
 use Rattle.words.proofs.Choices.{passed}
 use Rattle.words.proofs.Searches.{Hit, search-found}
 use Rattle.words.proofs.Tests.{neither-right}
@@ -29,10 +29,10 @@ use Rattle.capture.proofs.Laws.{holds-start, holds-end}
 abbrev pub Sound : List ℕ → Type 0
 Sound capture = verdict capture ≡ verdicts.Sound
 
--- a sound capture passed the test of a rule, and the rules behind it
-passes : (broken : Bool) (number : ℕ) (later : Verdict) → if broken (verdicts.Refused (refused number 0)) later ≡ verdicts.Sound
+-- a chain of rules that ends well passed its first test, and the rules behind it
+pub passes : (broken : Bool) (refusal : Refusal) (later : Verdict) → if broken (verdicts.Refused refusal) later ≡ verdicts.Sound
     → (broken ≡ false) × (later ≡ verdicts.Sound)
-passes broken number later h = passed broken _ later _ h (λ e. let z : _≡_ {A = ℕ} 0 1 = cc in omega arith)
+passes broken refusal later h = passed broken _ later _ h (λ e. let z : _≡_ {A = ℕ} 0 1 = cc in omega arith)
 
 sound-size : (capture : List ℕ) → Sound capture → wrongSize capture ≡ false
 unfolding verdict

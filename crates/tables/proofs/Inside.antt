@@ -1,5 +1,5 @@
 -- The tables of an accepted answer lie inside the capture: the theorem `tables-inside`.
-use mathlib.Core.Bool.{Bool, true, false, not}
+use mathlib.Core.Bool.{true, false, not}
 use mathlib.Core.List.{List}
 use mathlib.Core.Path.{_≡_, refl}
 use Prim.Native.Nat.{ℕ, _+_, _≤_}
@@ -7,9 +7,7 @@ use native.Mathlib.Omega.{arith}
 use lib.Dec.{ltb}
 use lib.ListN.{length}
 use borrow.Author.Tests.{ltb-false, not-false}
-use Rattle.words.specs.Choice.{if}
 use Rattle.words.specs.Refusals.{refused}
-use Rattle.words.proofs.Choices.{passed}
 use Rattle.words.proofs.Tests.{neither-left, neither-right}
 use Rattle.capture.specs.Presence.{located, rsdp}
 use Rattle.capture.specs.declared.Root.{Root}
@@ -18,7 +16,7 @@ use Rattle.capture.specs.declared.Stretch.{Stretch}
 use Rattle.capture.specs.declared.Stretch.the-variants.{Present, Absent}
 use Rattle.capture.specs.declared.Verdict.{Verdict}
 use Rattle.capture.specs.declared.Verdict.the-variants as verdicts
-use Rattle.capture.proofs.Within.{Sound, within, rsdp-of-sound}
+use Rattle.capture.proofs.Within.{Sound, passes, within, rsdp-of-sound}
 use Rattle.capture.proofs.Apart.{one-place}
 use Rattle.tables.specs.Rsdp.{rsdpRules, xsdtField}
 use Rattle.tables.specs.Table.{headerSize, addressAt, tableLength, isPresent, cutShort, tableAt}
@@ -85,15 +83,11 @@ unfolding after
 went-on verdicts.Sound later t h = (refl, h)
 went-on (verdicts.Refused refusal) later t h = absurd (let z : _≡_ {A = ℕ} 0 1 = cc in omega arith)
 
-passes : (broken : Bool) (number place : ℕ) (later : Verdict) → if broken (verdicts.Refused (refused number place)) later ≡ verdicts.Sound
-    → (broken ≡ false) × (later ≡ verdicts.Sound)
-passes broken number place later h = passed broken _ later _ h (λ e. let z : _≡_ {A = ℕ} 0 1 = cc in omega arith)
-
 long-enough : (capture : List ℕ) (madt fadt : Table) → bodyRules capture madt fadt ≡ verdicts.Sound → (44 ≤ madt .length) × (48 ≤ fadt .length)
 unfolding bodyRules
 long-enough capture madt fadt h =
-    let first = passes (ltb (madt .length) 44) 28 (madt .place) _ h in
-    (ltb-false (madt .length) 44 (first .0), ltb-false (fadt .length) 48 (passes (ltb (fadt .length) 48) 28 (fadt .place) _ (first .1) .0))
+    let first = passes (ltb (madt .length) 44) _ _ h in
+    (ltb-false (madt .length) 44 (first .0), ltb-false (fadt .length) 48 (passes (ltb (fadt .length) 48) _ _ (first .1) .0))
 
 -- what was found, from the XSDT on
 pub record Accepted (capture : List ℕ) (t : Tables) : Type 0 where

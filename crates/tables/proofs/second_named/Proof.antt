@@ -30,7 +30,10 @@ returns : tie.Need-returns
 returns c = sym (second-none _ _ _ (cc))
 
 returns-2 : tie.Need-returns-2
-returns-2 c = (cc) ∙ sym (second-some _ _ _ {entry = c .before .before .entry .given .0 .0} (cc))
+returns-2 c =
+    let f = c .before .before .before .before in
+    let entry = c .before .before .entry in
+    c .named-from .ensures ∙ sym (second-some _ _ _ {entry = entry .given .0 .0} (sym (f .first-named .ensures) ∙ entry .given .1))
 
 pub second-named-spec : {M : Type 1} → statement M
 second-named-spec =

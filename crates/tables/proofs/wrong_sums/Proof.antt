@@ -12,7 +12,7 @@ sum-at-requires-2 c κs = search needs
 
 returns : tie.Need-returns
 unfolding wrongSums
-returns c = cc
+returns c = rw (c .before .sum-at .ensures, c .sum-at2 .ensures)
 
 pub wrong-sums-spec : {M : Type 1} → statement M
 wrong-sums-spec = tie.close (tie.spec sum-at-requires sum-at-requires-2 returns)
