@@ -1,0 +1,4 @@
+pub mod Arrays
+pub mod Logic
+pub mod Folding
+pub mod Turns

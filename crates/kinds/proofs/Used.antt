@@ -1,0 +1,25 @@
+-- Laws of what is unused.
+use mathlib.Core.Path.{_≡_, refl}
+use mathlib.Core.Bool.{Bool, true, false}
+use Rattle.words.specs.Choice.{if}
+use Rattle.kinds.specs.Used.{usedHalf, saidLio, saidLpc, noHalf}
+use Rattle.kinds.specs.declared.Lio.{Lio}
+use Rattle.kinds.specs.declared.Lpc.{Lpc}
+
+-- whether there is a LIO or an LPC is said as it is
+pub lpc-present : (lpc : Lpc) → saidLpc lpc .present ≡ lpc .present
+unfolding saidLpc if
+lpc-present lpc = go (lpc .present) refl
+  where
+    go : (b : Bool) → lpc .present ≡ b → if b lpc (record { present = false; cascade = 0 }) .present ≡ b
+    go true e = e
+    go false e = refl
+
+pub lio-present : (lio : Lio) → saidLio lio .present ≡ lio .present
+unfolding saidLio if
+lio-present lio = go (lio .present)
+  where
+    go : (b : Bool)
+        → if {A = Lio} b (record { present = true; low = usedHalf (lio .low); high = usedHalf (lio .high) }) (record { present = false; low = noHalf; high = noHalf }) .present ≡ b
+    go true = refl
+    go false = refl

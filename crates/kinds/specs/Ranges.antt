@@ -1,0 +1,76 @@
+-- Document 01, "Ranges (H)", one test for each field, and the first field of a structure that is out of its range.
+use Prim.Native.Nat.{ℕ, _+_}
+use mathlib.Core.Bool.{Bool, not, _&&_, _||_}
+use lib.Bits.{bitAnd}
+use lib.Dec.{eqb, leb}
+use Rattle.words.specs.Choice.{if}
+use Rattle.kinds.specs.declared.Half.{Half}
+use Rattle.kinds.specs.declared.Lio.{Lio}
+use Rattle.kinds.specs.declared.Eio.{Eio}
+use Rattle.kinds.specs.declared.Bio.{Bio}
+use Rattle.kinds.specs.declared.Msi.{Msi}
+use Rattle.kinds.specs.declared.Lpc.{Lpc}
+
+-- "the cascade of EIO and of a used LIO half 2 to 9 (the core's hardware lines)"
+abbrev pub cascadeFits : ℕ → Bool
+cascadeFits cascade = leb 2 cascade && leb cascade 9
+
+-- "node and hardware ID 0 to 63"
+abbrev pub nodeFits : ℕ → Bool
+nodeFits node = leb node 63
+
+-- "node map not 0"
+abbrev pub nodesFit : ℕ → Bool
+nodesFit nodes = not (eqb nodes 0)
+
+-- "MSI count at least 1"
+abbrev pub countFits : ℕ → Bool
+countFits count = leb 1 count
+
+-- "start + count at most 256, added without wrap"
+abbrev pub endFits : ℕ → ℕ → Bool
+endFits start count = leb (start + count) 256
+
+-- "GSI base 64 to 65,472"
+abbrev pub baseFits : ℕ → Bool
+baseFits base = leb 64 base && leb base 65472
+
+-- "LPC cascade 0 to 63"
+abbrev pub inputFits : ℕ → Bool
+inputFits cascade = leb cascade 63
+
+-- "a half with mask 0 is unused and its byte is free"
+abbrev pub halfFits : Half → Bool
+halfFits half = eqb (half .mask) 0 || cascadeFits (half .cascade)
+
+-- ---- the first broken field of a structure, as a number; 0: every field is in its range
+-- 1: cascade of a used half
+unfoldable pub lioField : Lio → ℕ
+lioField lio = if (halfFits (lio .low) && halfFits (lio .high)) 0 1
+
+-- 1: cascade; 2: node; 3: node map
+unfoldable pub eioField : Eio → ℕ
+eioField eio =
+    if (not (cascadeFits (eio .cascade))) 1
+    (if (not (nodeFits (eio .node))) 2
+    (if (nodesFit (eio .nodes)) 0 3))
+
+-- 4: count; 5: end
+unfoldable pub msiField : Msi → ℕ
+msiField msi =
+    if (not (countFits (msi .count))) 4
+    (if (endFits (msi .start) (msi .count)) 0 5)
+
+-- 2: hardware ID; 6: GSI base
+unfoldable pub bioField : Bio → ℕ
+bioField bio =
+    if (not (nodeFits (bio .node))) 2
+    (if (baseFits (bio .base)) 0 6)
+
+-- 7: cascade
+unfoldable pub lpcField : Lpc → ℕ
+lpcField lpc = if (inputFits (lpc .cascade)) 0 7
+
+-- ---- 37: a bit in both LIO masks
+abbrev pub bitInBoth : Lio → Bool
+bitInBoth lio = not (eqb (bitAnd (lio .low .mask) (lio .high .mask)) 0)

@@ -1,0 +1,3 @@
+pub mod Filling
+pub mod Counts
+pub mod Verdicts

@@ -1,0 +1,42 @@
+-- `Map::owner` goes by the global number.
+use borrow.Author.Tests.{lt-ltb, le-ltb}
+use borrow.Author.Needs.{needs}
+use Rattle.words.specs.Choice.{if}
+use Rattle.kinds.proofs.Used.{lpc-present}
+use Rattle.lines.specs.Routes.{owner}
+use Rattle.lines.proofs.Map.owner.Statement.{statement}
+use Rattle.lines.proofs.Map.owner.Tie as tie
+
+returns : tie.Need-returns
+unfolding owner if
+returns c =
+    let a = c .before .before .before .before .args in
+    rw (lt-ltb (a .number) 16 (c .before .if1 .taken), lpc-present (a .self .lpc), c .if2 .taken)
+
+returns-2 : tie.Need-returns-2
+unfolding owner if
+returns-2 c =
+    let a = c .before .before .before .before .args in
+    rw (lt-ltb (a .number) 16 (c .before .if1 .taken), lpc-present (a .self .lpc), c .if2 .left)
+
+returns-3 : tie.Need-returns-3
+unfolding owner if
+returns-3 c =
+    let a = c .before .before .before .before .args in
+    rw (le-ltb (a .number) 16 (c .before .if1 .left), lt-ltb (a .number) 48 (c .if3 .taken))
+
+cast-bio-owner : tie.Need-cast-bio-owner
+cast-bio-owner c = search needs
+
+bio-owner-requires : tie.Need-bio-owner-requires
+bio-owner-requires c κs = search needs
+
+returns-4 : tie.Need-returns-4
+unfolding owner if
+returns-4 c =
+    let a = c .before .before .before .before .before .before .args in
+    rw (le-ltb (a .number) 16 (c .before .before .before .if1 .left), le-ltb (a .number) 48 (c .before .before .if3 .left)) (c .bio-owner .ensures)
+
+pub owner-spec : {M : Type 1} → statement M
+owner-spec =
+    tie.close (tie.spec returns returns-2 returns-3 cast-bio-owner bio-owner-requires returns-4)

@@ -1,0 +1,24 @@
+-- `Map::rule_40` is rule 40, but for the CORE structures.
+use mathlib.Core.Path.{_≡_}
+use lib.ListN.{length}
+use lib.Seq.{length-take-le}
+use Prim.Native.Nat.{_≤_}
+use native.Mathlib.Omega.{arith}
+use borrow.Author.Needs.{needs}
+use Rattle.kinds.proofs.Used.{lio-present}
+use Rattle.clashes.proofs.Arrays.{length-mapped}
+use Rattle.lines.proofs.Map.rule_40.Statement.{statement}
+use Rattle.lines.proofs.Map.rule_40.Tie as tie
+
+checked-requires : tie.Need-checked-requires
+checked-requires c κs = search needs
+
+returns : tie.Need-returns
+returns c =
+    let m = c .before .before .before .before .args .self in
+    let held : length (m .eios) ≡ 4 = search (needs, length-mapped) in
+    let few : m .eiocount ≤ length (m .eios) = omega arith in
+    rw (c .checked .ensures, lio-present (m .lio), length-take-le (m .eiocount) (m .eios) few)
+
+pub rule-40-spec : {M : Type 1} → statement M
+rule-40-spec = tie.close (tie.spec checked-requires returns)

@@ -1,0 +1,26 @@
+-- `rules::spot_verdict` names the structure at a spot.
+use borrow.Author.Needs.{needs}
+use Rattle.lines.specs.Rules.{spotted}
+use Rattle.lines.proofs.rules.spot_verdict.Statement.{statement}
+use Rattle.lines.proofs.rules.spot_verdict.Tie as tie
+
+enum-known-spot : tie.Need-enum-known-spot
+enum-known-spot c = search needs
+
+enum-told : tie.Need-enum-told
+enum-told c = search needs
+
+returns : tie.Need-returns
+unfolding spotted
+returns c = rw (c .enum-told .given .1)
+
+broken-at-requires : tie.Need-broken-at-requires
+broken-at-requires c κs = search needs
+
+returns-2 : tie.Need-returns-2
+unfolding spotted
+returns-2 c = rw (c .before .before .spot .given .1) (c .broken-at .ensures)
+
+pub spot-verdict-spec : {M : Type 1} → statement M
+spot-verdict-spec =
+    tie.close (tie.spec enum-known-spot enum-told returns broken-at-requires returns-2)

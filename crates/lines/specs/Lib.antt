@@ -1,0 +1,6 @@
+pub mod Says
+pub mod Routes
+pub mod Traces
+pub mod Claims
+pub mod Rules
+pub mod Answers

@@ -1,0 +1,63 @@
+-- Document 01, "Where a line arrives", line by line, on what a map says.
+use Prim.Native.Nat.{ℕ, _+_, _-_}
+use mathlib.Core.List.{List, [], _∷_}
+use lib.Dec.{eqb, ltb}
+use Rattle.words.specs.Choice.{if}
+use Rattle.words.specs.Lists.{first}
+use Rattle.kinds.specs.declared.Lio.{Lio}
+use Rattle.kinds.specs.declared.Eio.{Eio}
+use Rattle.kinds.specs.declared.Bio.{Bio}
+use Rattle.clashes.specs.Folds.{fold}
+use Rattle.parts.specs.Inputs.{hasBit, lesser, owns}
+use Rattle.lines.specs.Says.{Said}
+use Rattle.lines.specs.declared.Bridge.{Bridge}
+use Rattle.lines.specs.declared.Bridge.the-variants.{Is, None}
+use Rattle.lines.specs.declared.Owner.{Owner}
+use Rattle.lines.specs.declared.Owner.the-variants.{LpcInput, LioInput, BioInput, Nobody}
+use Rattle.lines.specs.declared.Route.{Route}
+use Rattle.lines.specs.declared.Route.the-variants.{Arrives, Unwired, NoOwner}
+
+-- "LIO input i arrives at the cascade of the half whose mask has bit i, with number i; with no such bit it is unwired."
+unfoldable pub lioArrival : Lio → ℕ → Route
+lioArrival lio i =
+    if (hasBit (lio .low .mask) i) (Arrives (lio .low .cascade) i)
+    (if (hasBit (lio .high .mask) i) (Arrives (lio .high .cascade) i)
+    Unwired)
+
+-- "BIO input v arrives through the EIO whose node is the BIO's hardware ID: at that EIO's cascade, with number v, which is
+-- the extended vector."
+unfoldable pub through : List Eio → ℕ → ℕ → Route
+through eios node v = first (λ e. eqb (e .node) node) (λ e. Arrives (e .cascade) v) NoOwner eios
+
+-- "Its BIO is the one with the smallest hardware ID, the earliest of equals."
+unfoldable pub bridge : List Bio → Bridge
+bridge [] = None
+bridge (b ∷ bs) = Is (fold lesser b bs)
+
+-- "An LPC input arrives where the BIO input of the LPC's cascade does."
+unfoldable pub pinArrival : List Eio → Bridge → ℕ → Route
+pinArrival eios (Is b) v = through eios (b .node) v
+pinArrival eios None v = NoOwner
+
+-- the input of the first BIO that owns a number
+unfoldable pub bioOwner : List Bio → ℕ → Owner
+bioOwner bios number = first (owns number) (λ b. BioInput (b .node) (number - b .base)) Nobody bios
+
+-- "global numbers 0 to 15 are the LPC inputs if there is an LPC; 16 to 47 the LIO inputs 0 to 31; a BIO with base b owns b
+-- to b + 63, its inputs 0 to 63. The rest have no owner."
+unfoldable pub owner : Said → ℕ → Owner
+owner said number =
+    if (ltb number 16) (if (said .lpc .present) LpcInput Nobody)
+    (if (ltb number 48) (LioInput (number - 16))
+    (bioOwner (said .bios) number))
+
+-- where a number with this owner arrives
+unfoldable pub arrivalOf : Said → Owner → Route
+arrivalOf said LpcInput = pinArrival (said .eios) (bridge (said .bios)) (said .lpc .cascade)
+arrivalOf said (LioInput i) = lioArrival (said .lio) i
+arrivalOf said (BioInput node v) = through (said .eios) node v
+arrivalOf said Nobody = NoOwner
+
+-- where a global number arrives
+unfoldable pub arrival : Said → ℕ → Route
+arrival said number = arrivalOf said (owner said number)

@@ -1,0 +1,287 @@
+// The rules that a map must keep from 38 on, each in document 01's words, and their order: the lowest line that applies wins.
+// A map comes with the places of its structures in the table; one that has none is given places of its own, since whether a
+// rule is broken does not hang on them.
+use crate::Bridge;
+use crate::MOST;
+use crate::Map;
+use crate::Places;
+use crate::Route;
+use crate::Verdict;
+use crate::routes::lpc_bridge;
+use clashes::Claims;
+use clashes::Pair;
+use clashes::Spot;
+use kinds::Bio;
+use kinds::Eio;
+use kinds::Msi;
+ghost use mathlib.Core.Path.{_≡_};
+ghost use mathlib.Core.List.{_++_};
+ghost use Prim.Native.Nat.{_≤_, _+_};
+ghost use lib.ListN.{take};
+ghost use Rattle.clashes.specs.Claims.{listed};
+ghost use Rattle.lines.specs.Says.{says};
+ghost use Rattle.parts.specs.Claims.{eioClaim, bioClaim, msiClaim};
+ghost use Rattle.lines.specs.Claims.{placed, claims};
+ghost use Rattle.lines.specs.Rules.{broken, check, alone, both, spotted, noBridge, tooMany, rule40, rule41, rule42, rule43, ruleClash, rule54, orElse, isKept, verdictsFrom40, lowest, firstBroken, slotPlaces};
+
+// ---- what all structures claim
+
+// The claims of the EIO, behind those so far.
+fn add_eios(sofar: Claims, eios: [Eio; 4], n: usize, places: [u32; 4]) -> Claims
+    requires { ⌜ (n ≤ 4) × (sofar .count + n ≤ 13) ⌝ }
+    ensures { λ r. ⌜ (listed r ≡ listed sofar ++ placed eioClaim (take n eios) places) × (r .count ≡ sofar .count + n) ⌝ }
+{
+    let mut r = sofar;
+    let mut i = 0;
+    while i < n {
+        let e = eios[i];
+        let p = places[i];
+        r = clashes::push(r, parts::eio_claim(e, p));
+        i += 1;
+    }
+    r
+}
+
+// The claims of the BIO, behind those so far.
+fn add_bios(sofar: Claims, bios: [Bio; 4], n: usize, places: [u32; 4]) -> Claims
+    requires { ⌜ (n ≤ 4) × (sofar .count + n ≤ 13) ⌝ }
+    ensures { λ r. ⌜ (listed r ≡ listed sofar ++ placed bioClaim (take n bios) places) × (r .count ≡ sofar .count + n) ⌝ }
+{
+    let mut r = sofar;
+    let mut i = 0;
+    while i < n {
+        let b = bios[i];
+        let p = places[i];
+        r = clashes::push(r, parts::bio_claim(b, p));
+        i += 1;
+    }
+    r
+}
+
+// The claims of the MSI, behind those so far.
+fn add_msis(sofar: Claims, msis: [Msi; 4], n: usize, places: [u32; 4]) -> Claims
+    requires { ⌜ (n ≤ 4) × (sofar .count + n ≤ 13) ⌝ }
+    ensures { λ r. ⌜ (listed r ≡ listed sofar ++ placed msiClaim (take n msis) places) × (r .count ≡ sofar .count + n) ⌝ }
+{
+    let mut r = sofar;
+    let mut i = 0;
+    while i < n {
+        let m = msis[i];
+        let p = places[i];
+        r = clashes::push(r, parts::msi_claim(m, p));
+        i += 1;
+    }
+    r
+}
+
+// ---- verdicts
+
+// A rule broken at a place, without a partner.
+fn broken_at(number: u8, place: u32) -> Verdict
+    ensures { λ r. ⌜ r ≡ broken number place ⌝ }
+{
+    let refusal = words::refuse(number, place);
+    Verdict::Broken(refusal, 0)
+}
+
+// A rule that is broken at a known place, or kept.
+fn checked(number: u8, bad: bool, place: u32) -> Verdict
+    ensures { λ r. ⌜ r ≡ check number bad place ⌝ }
+{
+    if bad {
+        return broken_at(number, place);
+    }
+    Verdict::Kept
+}
+
+// A clash that names the later structure alone.
+fn alone_of(number: u8, pair: Pair) -> Verdict
+    ensures { λ r. ⌜ r ≡ alone number pair ⌝ }
+{
+    let Pair::Two(p, _) = pair else {
+        return Verdict::Kept;
+    };
+    broken_at(number, p)
+}
+
+// A clash that names the later structure and its earliest partner.
+fn both_of(number: u8, pair: Pair) -> Verdict
+    ensures { λ r. ⌜ r ≡ both number pair ⌝ }
+{
+    let Pair::Two(p, q) = pair else {
+        return Verdict::Kept;
+    };
+    let refusal = words::refuse(number, p);
+    Verdict::Broken(refusal, q)
+}
+
+// A rule that is broken at a spot, or nowhere.
+fn spot_verdict(number: u8, spot: Spot) -> Verdict
+    ensures { λ r. ⌜ r ≡ spotted number spot ⌝ }
+{
+    let Spot::At(p) = spot else {
+        return Verdict::Kept;
+    };
+    broken_at(number, p)
+}
+
+// The first of two verdicts that is broken.
+fn or_else(first: Verdict, second: Verdict) -> Verdict
+    ensures { λ r. ⌜ r ≡ orElse first second ⌝ }
+{
+    match first {
+        Verdict::Kept => second,
+        Verdict::Broken(refusal, partner) => Verdict::Broken(refusal, partner),
+    }
+}
+
+// Whether no rule is broken.
+pub(crate) fn is_kept(verdict: Verdict) -> bool
+    ensures { λ r. ⌜ r ≡ isKept verdict ⌝ }
+{
+    match verdict {
+        Verdict::Kept => true,
+        Verdict::Broken(_, _) => false,
+    }
+}
+
+// ---- one function for each rule
+
+// Whether an LPC has no bridge to stand behind.
+fn lacks_bridge(present: bool, bridge: Bridge) -> bool
+    ensures { λ r. ⌜ r ≡ noBridge present bridge ⌝ }
+{
+    let Bridge::Is(_) = bridge else {
+        return present;
+    };
+    false
+}
+
+// 41: EIO repeats an earlier node.
+fn rule_41(all: Claims) -> Verdict
+    ensures { λ r. ⌜ r ≡ rule41 (listed all) ⌝ }
+{
+    alone_of(41, clashes::first_clash(all, 41))
+}
+
+// 42: BIO without an EIO of its node.
+fn rule_42(all: Claims) -> Verdict
+    ensures { λ r. ⌜ r ≡ rule42 (listed all) ⌝ }
+{
+    spot_verdict(42, clashes::first_lone(all))
+}
+
+// 51, 52 and 53: two sources, or two controllers, share what they may not.
+fn rule_clash(number: u8, all: Claims) -> Verdict
+    ensures { λ r. ⌜ r ≡ ruleClash number (listed all) ⌝ }
+{
+    both_of(number, clashes::first_clash(all, number))
+}
+
+// Places for a map that comes with none.
+pub(crate) fn slot_places() -> Places
+    ensures { λ r. ⌜ r ≡ slotPlaces ⌝ }
+{
+    let eios = [2, 3, 4, 5];
+    let bios = [6, 7, 8, 9];
+    let msis = [10, 11, 12, 13];
+    Places {
+        lio: 1,
+        eios,
+        bios,
+        msis,
+        lpc: 14,
+    }
+}
+
+impl Map {
+    // 38: one too many of its kind.
+    pub(crate) fn too_many(self) -> bool
+        ensures { λ r. ⌜ r ≡ tooMany self ⌝ }
+    {
+        (MOST < self.eiocount) | (MOST < self.biocount) | (MOST < self.msicount)
+    }
+
+    // What all structures claim.
+    fn claims_of(self, places: Places) -> Claims
+        requires { ⌜ (self .eiocount ≤ 4) × (self .biocount ≤ 4) × (self .msicount ≤ 4) ⌝ }
+        ensures { λ r. ⌜ listed r ≡ claims (says self) places ⌝ }
+    {
+        let eios = self.eios;
+        let bios = self.bios;
+        let msis = self.msis;
+        let eplaces = places.eios;
+        let bplaces = places.bios;
+        let mplaces = places.msis;
+        let lio = parts::lio_claim(kinds::said_lio(self.lio), places.lio);
+        let one = Claims {
+            count: 1,
+            all: [lio; 13],
+        };
+        let two = add_eios(one, eios, self.eiocount as usize, eplaces);
+        let three = add_bios(two, bios, self.biocount as usize, bplaces);
+        add_msis(three, msis, self.msicount as usize, mplaces)
+    }
+
+    // 40: no LIO or no EIO. (No enabled CORE is the reading's.)
+    fn rule_40(self, madt: u32) -> Verdict
+        requires { ⌜ self .eiocount ≤ 4 ⌝ }
+        ensures { λ r. ⌜ r ≡ rule40 (says self) madt ⌝ }
+    {
+        let lio = self.lio;
+        checked(40, !lio.present | (self.eiocount == 0), madt)
+    }
+
+    // 43: LPC without a BIO.
+    fn rule_43(self, place: u32) -> Verdict
+        requires { ⌜ self .biocount ≤ 4 ⌝ }
+        ensures { λ r. ⌜ r ≡ rule43 (says self) place ⌝ }
+    {
+        let bios = self.bios;
+        let lpc = self.lpc;
+        checked(
+            43,
+            lacks_bridge(lpc.present, lpc_bridge(bios, self.biocount as usize)),
+            place,
+        )
+    }
+
+    // 54: SCI_INT doesn't arrive.
+    fn rule_54(self, fadt: u32) -> Verdict
+        requires { ⌜ (self .eiocount ≤ 4) × (self .biocount ≤ 4) ⌝ }
+        ensures { λ r. ⌜ r ≡ rule54 (says self) fadt ⌝ }
+    {
+        let Route::Arrives(_, _) = self.arrival(self.sci as u32) else {
+            return broken_at(54, fadt);
+        };
+        Verdict::Kept
+    }
+
+    // The first broken rule from 40 on.
+    fn first_from_40(self, places: Places, madt: u32, fadt: u32) -> Verdict
+        requires { ⌜ (self .eiocount ≤ 4) × (self .biocount ≤ 4) × (self .msicount ≤ 4) ⌝ }
+        ensures { λ r. ⌜ r ≡ lowest (verdictsFrom40 (says self) places madt fadt) ⌝ }
+    {
+        let all = self.claims_of(places);
+        let from54 = self.rule_54(fadt);
+        let from53 = or_else(rule_clash(53, all), from54);
+        let from52 = or_else(rule_clash(52, all), from53);
+        let from51 = or_else(rule_clash(51, all), from52);
+        let from43 = or_else(self.rule_43(places.lpc), from51);
+        let from42 = or_else(rule_42(all), from43);
+        let from41 = or_else(rule_41(all), from42);
+        or_else(self.rule_40(madt), from41)
+    }
+
+    // The first broken rule of a map from 38 on, at the place of the structure that is named. Where two clash by 51 to 53
+    // the partner is the earliest structure that the named one clashes with; it is 0 otherwise. A walk refuses 38 at the
+    // structure itself; for a map that has too many the place is the MADT's.
+    pub fn first_broken(self, places: Places, madt: u32, fadt: u32) -> Verdict
+        ensures { λ r. ⌜ r ≡ firstBroken self places madt fadt ⌝ }
+    {
+        if self.too_many() {
+            return broken_at(38, madt);
+        }
+        self.first_from_40(places, madt, fadt)
+    }
+}

@@ -1,0 +1,116 @@
+// Tracing back: what arrives at a core vector with a number (document 01, "Where a line arrives").
+use crate::Bridge;
+use crate::Map;
+use crate::Trace;
+use crate::routes::LIO_FIRST;
+use crate::routes::lpc_bridge;
+use kinds::Bio;
+use kinds::Msi;
+ghost use mathlib.Core.Path.{_≡_};
+ghost use Prim.Native.Nat.{_<_, _≤_};
+ghost use lib.ListN.{take};
+ghost use Rattle.lines.specs.Says.{says};
+ghost use Rattle.parts.specs.Inputs.{pins};
+ghost use Rattle.lines.specs.Traces.{slotTold, isBridge, isLpcPin, pinTold, landed, eioTraced, traced};
+
+// The slot on the EIO of a node, if an MSI has it.
+fn slot_told(msis: [Msi; 4], n: usize, node: u8, slot: u32) -> Trace
+    requires { ⌜ n ≤ 4 ⌝ }
+    ensures { λ r. ⌜ r ≡ slotTold (take n msis) node slot ⌝ }
+{
+    let mut i = 0;
+    while i < n {
+        let m = msis[i];
+        if parts::has_slot(m, slot) {
+            return Trace::MsiSlot(node, slot);
+        }
+        i += 1;
+    }
+    Trace::Nothing
+}
+
+// Whether the LPC's bridge has a hardware ID.
+fn is_bridge(bridge: Bridge, node: u16) -> bool
+    ensures { λ r. ⌜ r ≡ isBridge bridge node ⌝ }
+{
+    let Bridge::Is(b) = bridge else {
+        return false;
+    };
+    b.node == node
+}
+
+impl Map {
+    // Whether input v of a BIO is the one that the LPC lines share.
+    fn is_lpc_pin(self, bio: Bio, v: u32) -> bool
+        requires { ⌜ self .biocount ≤ 4 ⌝ }
+        ensures { λ r. ⌜ r ≡ isLpcPin (says self) bio v ⌝ }
+    {
+        let bios = self.bios;
+        let lpc = kinds::said_lpc(self.lpc);
+        let bridge = lpc_bridge(bios, self.biocount as usize);
+        lpc.present & (lpc.cascade as u32 == v) & is_bridge(bridge, bio.node)
+    }
+
+    // What input v of a BIO is told as.
+    fn pin_told(self, bio: Bio, v: u32) -> Trace
+        requires { ⌜ (self .biocount ≤ 4) × (v < pins bio) ⌝ }
+        ensures { λ r. ⌜ r ≡ pinTold (says self) v bio ⌝ }
+    {
+        let number = (bio.base as u32) + v;
+        if self.is_lpc_pin(bio, v) {
+            return Trace::LpcCascade(number);
+        }
+        Trace::BioInput(number)
+    }
+
+    // What lands on an extended vector of the EIO of a node.
+    fn landed(self, node: u8, vector: u32) -> Trace
+        requires { ⌜ (self .biocount ≤ 4) × (self .msicount ≤ 4) ⌝ }
+        ensures { λ r. ⌜ r ≡ landed (says self) node vector ⌝ }
+    {
+        let bios = self.bios;
+        let msis = self.msis;
+        let n = self.biocount as usize;
+        let mut i = 0;
+        while i < n {
+            let b = bios[i];
+            if parts::has_pin(b, node, vector) {
+                return self.pin_told(b, vector);
+            }
+            i += 1;
+        }
+        slot_told(msis, self.msicount as usize, node, vector)
+    }
+
+    // What enters a core vector by an EIO with a number.
+    fn eio_traced(self, vector: u32, number: u32) -> Trace
+        requires { ⌜ (self .eiocount ≤ 4) × (self .biocount ≤ 4) × (self .msicount ≤ 4) ⌝ }
+        ensures { λ r. ⌜ r ≡ eioTraced (says self) vector number ⌝ }
+    {
+        let eios = self.eios;
+        let n = self.eiocount as usize;
+        let mut i = 0;
+        while i < n {
+            let e = eios[i];
+            if e.cascade as u32 == vector {
+                return self.landed(e.node, number);
+            }
+            i += 1;
+        }
+        Trace::Nothing
+    }
+
+    // What arrives at a core vector with a number.
+    pub(crate) fn traced(self, vector: u32, number: u32) -> Trace
+        requires { ⌜ (self .eiocount ≤ 4) × (self .biocount ≤ 4) × (self .msicount ≤ 4) ⌝ }
+        ensures { λ r. ⌜ r ≡ traced (says self) vector number ⌝ }
+    {
+        let lio = kinds::said_lio(self.lio);
+        let low = lio.low;
+        let high = lio.high;
+        if parts::half_leads(low, vector, number) | parts::half_leads(high, vector, number) {
+            return Trace::LioInput(LIO_FIRST + number);
+        }
+        self.eio_traced(vector, number)
+    }
+}

@@ -1,0 +1,153 @@
+// What each structure of a map has by itself: its inputs, pins or slots, the global numbers that it owns, and what it claims.
+use clashes::Claim;
+use clashes::EVERY_EIO;
+use clashes::NO_NODE;
+use clashes::Run;
+use kinds::Bio;
+use kinds::Eio;
+use kinds::Half;
+use kinds::Lio;
+use kinds::Msi;
+ghost use mathlib.Core.Path.{_≡_};
+ghost use Rattle.parts.specs.Inputs.{hasBit, leads, hasSlot, pins, owns, lesser, hasPin};
+ghost use Rattle.parts.specs.Claims.{lioClaim, eioClaim, bioClaim, msiClaim};
+
+// The inputs of the LIO.
+const LIO_INPUTS: u32 = 32;
+
+// The inputs of a bridge.
+const PINS: u32 = 64;
+
+// Bit i of a mask of 32 inputs.
+pub fn bit(mask: u32, i: u32) -> bool
+    ensures { λ r. ⌜ r ≡ hasBit mask i ⌝ }
+{
+    if i < LIO_INPUTS {
+        return (mask >> i) % 2 == 1;
+    }
+    false
+}
+
+// Whether a half of the LIO leads an input to a core vector.
+pub fn half_leads(half: Half, vector: u32, i: u32) -> bool
+    ensures { λ r. ⌜ r ≡ leads half vector i ⌝ }
+{
+    (half.cascade as u32 == vector) & bit(half.mask, i)
+}
+
+// Whether a slot is one of an MSI's.
+pub fn has_slot(msi: Msi, slot: u32) -> bool
+    ensures { λ r. ⌜ r ≡ hasSlot slot msi ⌝ }
+{
+    (msi.start <= slot) & ((slot as u64) < (msi.start as u64) + (msi.count as u64))
+}
+
+// How many inputs a bridge has.
+pub fn pins_of(bio: Bio) -> u32
+    ensures { λ r. ⌜ r ≡ pins bio ⌝ }
+{
+    PINS
+}
+
+// Whether a BIO owns a global number.
+pub fn owns_number(bio: Bio, number: u32) -> bool
+    ensures { λ r. ⌜ r ≡ owns number bio ⌝ }
+{
+    let base = bio.base as u32;
+    (base <= number) & (number < base + pins_of(bio))
+}
+
+// The BIO with the smaller hardware ID, the earlier of equals.
+pub fn lesser_of(b: Bio, c: Bio) -> Bio
+    ensures { λ r. ⌜ r ≡ lesser b c ⌝ }
+{
+    if c.node < b.node { c } else { b }
+}
+
+// Whether a BIO has an input v, on the EIO of a node.
+pub fn has_pin(bio: Bio, node: u8, v: u32) -> bool
+    ensures { λ r. ⌜ r ≡ hasPin node v bio ⌝ }
+{
+    (bio.node == node as u16) & (v < pins_of(bio))
+}
+
+// ---- what each structure claims
+
+// A LIO claims the core vectors of its used halves.
+pub fn lio_claim(lio: Lio, place: u32) -> Claim
+    ensures { λ r. ⌜ r ≡ lioClaim lio place ⌝ }
+{
+    let low = lio.low;
+    let high = lio.high;
+    let none = Run { first: 0, count: 0 };
+    Claim {
+        place,
+        numbers: none,
+        vectors: none,
+        node: NO_NODE,
+        hub: NO_NODE,
+        low: low.cascade,
+        high: high.cascade,
+    }
+}
+
+// An EIO claims its node and its core vector, and none of its extended vectors: those are its sources'.
+pub fn eio_claim(eio: Eio, place: u32) -> Claim
+    ensures { λ r. ⌜ r ≡ eioClaim eio place ⌝ }
+{
+    let numbers = Run { first: 0, count: 0 };
+    let vectors = Run { first: 0, count: 0 };
+    Claim {
+        place,
+        numbers,
+        vectors,
+        node: eio.node as u16,
+        hub: NO_NODE,
+        low: eio.cascade,
+        high: 0,
+    }
+}
+
+// A BIO claims the global numbers of its inputs, and their extended vectors of the EIO of its node.
+pub fn bio_claim(bio: Bio, place: u32) -> Claim
+    ensures { λ r. ⌜ r ≡ bioClaim bio place ⌝ }
+{
+    let pins = pins_of(bio);
+    let numbers = Run {
+        first: bio.base as u32,
+        count: pins,
+    };
+    let vectors = Run {
+        first: 0,
+        count: pins,
+    };
+    Claim {
+        place,
+        numbers,
+        vectors,
+        node: NO_NODE,
+        hub: bio.node,
+        low: 0,
+        high: 0,
+    }
+}
+
+// An MSI claims its slots, as extended vectors of every EIO.
+pub fn msi_claim(msi: Msi, place: u32) -> Claim
+    ensures { λ r. ⌜ r ≡ msiClaim msi place ⌝ }
+{
+    let none = Run { first: 0, count: 0 };
+    let vectors = Run {
+        first: msi.start,
+        count: msi.count,
+    };
+    Claim {
+        place,
+        numbers: none,
+        vectors,
+        node: NO_NODE,
+        hub: EVERY_EIO,
+        low: 0,
+        high: 0,
+    }
+}

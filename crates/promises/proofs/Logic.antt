@@ -1,0 +1,66 @@
+-- Small laws of tests and of numbers.
+use Prim.Native.Nat.{ℕ, zero, suc, _<_, _/_, _%_, _^_}
+use native.Mathlib.Nat.{zero-div}
+use native.Mathlib.Omega.{arith}
+use mathlib.Core.Path.{_≡_, refl, sym}
+use mathlib.Core.Logic.{_⊎_, inl, inr, ⊎-elim}
+use mathlib.Core.Bool.{Bool, true, false, not, _&&_, _||_, or-true}
+use borrow.Author.Tests.{eqb-true, eqb-false, eq-eqb, not-true}
+use lib.Bits.{bitAnd, and-shr, and-mod}
+use lib.Dec.{eqb, ltb}
+use Rattle.clashes.proofs.Logic.{and-right}
+use Rattle.parts.specs.Inputs.{hasBit}
+
+pub both-true : (a b : Bool) → a ≡ true → b ≡ true → (a && b) ≡ true
+both-true a b p q = rw (p, q)
+
+pub left-true : (a b : Bool) → a ≡ true → (a || b) ≡ true
+left-true a b p = rw p
+
+pub right-true : (a b : Bool) → b ≡ true → (a || b) ≡ true
+right-true a b q = rw (q, or-true)
+
+pub is-bool : (t : Bool) → (t ≡ false) ⊎ (t ≡ true)
+is-bool true = inr refl
+is-bool false = inl refl
+
+pub is-false : (t : Bool) → (t ≡ true → ⊥) → t ≡ false
+is-false true h = absurd (h refl)
+is-false false h = refl
+
+pub same-bool : (a b : Bool) → (a ≡ true → b ≡ true) → (b ≡ true → a ≡ true) → a ≡ b
+same-bool true b f g = sym (f refl)
+same-bool false true f g = g refl
+same-bool false false f g = refl
+
+pub eqb-sym : (a b : ℕ) → eqb a b ≡ true → eqb b a ≡ true
+eqb-sym a b h = eq-eqb b a (sym (eqb-true a b h))
+
+pub neq : (x y : ℕ) → not (eqb x y) ≡ true → x ≡ y → ⊥
+neq x y h = eqb-false x y (not-true _ h)
+
+-- three ways for two numbers
+pub order : (i j : ℕ) → (i < j) ⊎ ((i ≡ j) ⊎ (j < i))
+order zero zero = inr (inl refl)
+order zero (suc j) = inl (omega arith)
+order (suc i) zero = inr (inr (omega arith))
+order (suc i) (suc j) =
+    ⊎-elim (λ h. inl (omega arith)) (⊎-elim (λ h. inr (inl (omega arith))) (λ h. inr (inr (omega arith)))) (order i j)
+
+-- two masks with no bit in common
+pub both-bits : (a b i : ℕ) → bitAnd a b ≡ 0 → hasBit a i ≡ true → hasBit b i ≡ true → ⊥
+unfolding hasBit
+both-bits a b i z p q =
+    let x : a / 2 ^ i % 2 ≡ 1 = eqb-true _ _ (and-right (ltb i 32) (eqb (a / 2 ^ i % 2) 1) p) in
+    let y : b / 2 ^ i % 2 ≡ 1 = eqb-true _ _ (and-right (ltb i 32) (eqb (b / 2 ^ i % 2) 1) q) in
+    let e : bitAnd a b / 2 ^ i % 2 ≡ 1 = rw (and-shr, and-mod (a / 2 ^ i) (b / 2 ^ i) 1, x, y) in
+    let w : _≡_ {A = ℕ} 0 1 = rw (z, zero-div) at e in
+    omega arith
+
+-- no bit in an empty mask
+pub no-bit : (mask i : ℕ) → hasBit mask i ≡ true → mask ≡ 0 → ⊥
+unfolding hasBit
+no-bit mask i p z =
+    let x : mask / 2 ^ i % 2 ≡ 1 = eqb-true _ _ (and-right (ltb i 32) (eqb (mask / 2 ^ i % 2) 1) p) in
+    let w : _≡_ {A = ℕ} 0 1 = rw (z, zero-div) at x in
+    omega arith

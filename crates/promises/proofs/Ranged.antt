@@ -1,0 +1,116 @@
+-- What rule 36 tells of the structures of a map.
+use Prim.Native.Nat.{ℕ, _<_, _≤_}
+use native.Mathlib.Omega.{arith}
+use mathlib.Core.Path.{_≡_, refl}
+use mathlib.Core.Bool.{Bool, true, false, not, _&&_}
+use borrow.Author.Tests.{eqb-true, leb-true, ne-eqb, not-false}
+use lib.Dec.{eqb, leb}
+use lib.ListN.{length}
+use Rattle.words.specs.Choice.{if}
+use Rattle.words.proofs.Choices.{passed}
+use Rattle.kinds.specs.Ranges.{cascadeFits, nodeFits, countFits, baseFits, inputFits, halfFits, lioField, eioField, bioField, msiField, lpcField}
+use Rattle.kinds.specs.declared.Half.{Half}
+use Rattle.kinds.specs.declared.Lio.{Lio}
+use Rattle.kinds.specs.declared.Eio.{Eio}
+use Rattle.kinds.specs.declared.Bio.{Bio}
+use Rattle.kinds.specs.declared.Msi.{Msi}
+use Rattle.kinds.specs.declared.Lpc.{Lpc}
+use Rattle.clashes.proofs.Logic.{and-left, and-right}
+use Rattle.lines.specs.Says.{Said}
+use Rattle.lines.specs.Rules.{eiosFit, biosFit, msisFit, rangesKept}
+use Rattle.promises.specs.Sources.{noEio, noBio, noMsi, eioAt, bioAt, msiAt}
+use Rattle.promises.proofs.Members.{every-at}
+
+-- a field's number is 0 only by the test that guards it
+fits-of : (t : Bool) (n : ℕ) → (n ≡ 0 → ⊥) → if t 0 n ≡ 0 → t ≡ true
+unfolding if
+fits-of true n z h = refl
+fits-of false n z h = absurd (z h)
+
+eio-right : (e : Eio) → eqb (eioField e) 0 ≡ true → (2 ≤ e .cascade) × (e .node ≤ 63)
+unfolding eioField
+eio-right e h =
+    let a = passed (not (cascadeFits (e .cascade))) 1 _ 0 (eqb-true _ 0 h) (λ z. omega arith) in
+    let b = passed (not (nodeFits (e .node))) 2 _ 0 (a .1) (λ z. omega arith) in (
+      leb-true 2 (e .cascade) (and-left (leb 2 (e .cascade)) (leb (e .cascade) 9) (not-false (cascadeFits (e .cascade)) (a .0))),
+      leb-true (e .node) 63 (not-false (nodeFits (e .node)) (b .0)),
+    )
+
+bio-right : (b : Bio) → eqb (bioField b) 0 ≡ true → (b .node ≤ 63) × (64 ≤ b .base)
+unfolding bioField
+bio-right b h =
+    let a = passed (not (nodeFits (b .node))) 2 _ 0 (eqb-true _ 0 h) (λ z. omega arith) in
+    let f = fits-of (baseFits (b .base)) 6 (λ z. omega arith) (a .1) in (
+      leb-true (b .node) 63 (not-false (nodeFits (b .node)) (a .0)),
+      leb-true 64 (b .base) (and-left (leb 64 (b .base)) (leb (b .base) 65472) f),
+    )
+
+msi-right : (m : Msi) → eqb (msiField m) 0 ≡ true → 1 ≤ m .count
+unfolding msiField
+msi-right m h =
+    let a = passed (not (countFits (m .count))) 4 _ 0 (eqb-true _ 0 h) (λ z. omega arith) in
+    leb-true 1 (m .count) (not-false (countFits (m .count)) (a .0))
+
+lio-right : (lio : Lio) → eqb (lioField lio) 0 ≡ true → (halfFits (lio .low) ≡ true) × (halfFits (lio .high) ≡ true)
+unfolding lioField
+lio-right lio h =
+    let f = fits-of (halfFits (lio .low) && halfFits (lio .high)) 1 (λ z. omega arith) (eqb-true _ 0 h) in
+    (and-left (halfFits (lio .low)) (halfFits (lio .high)) f, and-right (halfFits (lio .low)) (halfFits (lio .high)) f)
+
+lpc-right : (lpc : Lpc) → eqb (lpcField lpc) 0 ≡ true → lpc .cascade ≤ 63
+unfolding lpcField
+lpc-right lpc h = leb-true (lpc .cascade) 63 (fits-of (inputFits (lpc .cascade)) 7 (λ z. omega arith) (eqb-true _ 0 h))
+
+-- a used half enters one of the core's hardware lines
+half-used : (half : Half) → halfFits half ≡ true → (half .mask ≡ 0 → ⊥) → 2 ≤ half .cascade
+half-used half h n =
+    let z : eqb (half .mask) 0 ≡ false = ne-eqb (half .mask) 0 n in
+    let f : cascadeFits (half .cascade) ≡ true = rw z at h in
+    leb-true 2 (half .cascade) (and-left (leb 2 (half .cascade)) (leb (half .cascade) 9) f)
+
+module _ (said : Said) (ranged : rangesKept said ≡ true) where
+  abbrev l : Bool
+  l = eqb (lioField (said .lio)) 0
+
+  to-msis : (l && eiosFit (said .eios) && biosFit (said .bios) && msisFit (said .msis)) ≡ true
+  unfolding rangesKept
+  to-msis = and-left (l && eiosFit (said .eios) && biosFit (said .bios) && msisFit (said .msis)) (eqb (lpcField (said .lpc)) 0) ranged
+
+  to-bios : (l && eiosFit (said .eios) && biosFit (said .bios)) ≡ true
+  to-bios = and-left (l && eiosFit (said .eios) && biosFit (said .bios)) (msisFit (said .msis)) to-msis
+
+  to-eios : (l && eiosFit (said .eios)) ≡ true
+  to-eios = and-left (l && eiosFit (said .eios)) (biosFit (said .bios)) to-bios
+
+  pub eio-fits : (e : ℕ) → e < length (said .eios) → (2 ≤ eioAt said e .cascade) × (eioAt said e .node ≤ 63)
+  unfolding eiosFit
+  eio-fits e k =
+      eio-right (eioAt said e) (every-at noEio (λ x. eqb (eioField x) 0) (said .eios) (and-right l (eiosFit (said .eios)) to-eios) e k)
+
+  pub bio-fits : (j : ℕ) → j < length (said .bios) → (bioAt said j .node ≤ 63) × (64 ≤ bioAt said j .base)
+  unfolding biosFit
+  bio-fits j k =
+      bio-right (bioAt said j)
+      (every-at noBio (λ x. eqb (bioField x) 0) (said .bios) (and-right (l && eiosFit (said .eios)) (biosFit (said .bios)) to-bios) j k)
+
+  pub msi-fits : (m : ℕ) → m < length (said .msis) → 1 ≤ msiAt said m .count
+  unfolding msisFit
+  msi-fits m k =
+      msi-right (msiAt said m)
+      (every-at noMsi (λ x. eqb (msiField x) 0) (said .msis)
+      (and-right (l && eiosFit (said .eios) && biosFit (said .bios)) (msisFit (said .msis)) to-msis) m k)
+
+  halves : (halfFits (said .lio .low) ≡ true) × (halfFits (said .lio .high) ≡ true)
+  halves = lio-right (said .lio) (and-left l (eiosFit (said .eios)) to-eios)
+
+  pub low-used : (said .lio .low .mask ≡ 0 → ⊥) → 2 ≤ said .lio .low .cascade
+  low-used = half-used (said .lio .low) (halves .0)
+
+  pub high-used : (said .lio .high .mask ≡ 0 → ⊥) → 2 ≤ said .lio .high .cascade
+  high-used = half-used (said .lio .high) (halves .1)
+
+  pub lpc-fits : said .lpc .cascade ≤ 63
+  unfolding rangesKept
+  lpc-fits =
+      lpc-right (said .lpc)
+      (and-right (l && eiosFit (said .eios) && biosFit (said .bios) && msisFit (said .msis)) (eqb (lpcField (said .lpc)) 0) ranged)

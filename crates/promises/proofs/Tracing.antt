@@ -1,0 +1,272 @@
+-- Tracing an arrival back names the source that arrives there, and says nothing exactly where none does.
+use Prim.Native.Nat.{ℕ, _+_, _<_, _≤_}
+use native.Mathlib.Omega.{arith}
+use mathlib.Core.Path.{_≡_, refl, sym, _∙_, ap, ap₂}
+use mathlib.Core.Logic.{_⊎_, inl, inr, ⊎-elim}
+use mathlib.Core.Bool.{Bool, true, false, _||_}
+use borrow.Author.Tests.{eqb-true, eq-eqb, leb-true, ltb-true, le-leb, lt-ltb}
+use lib.Dec.{eqb, leb, ltb}
+use lib.ListN.{length}
+use Rattle.words.specs.Choice.{if}
+use Rattle.words.proofs.Choices.{yes-if, no-if}
+use Rattle.kinds.specs.declared.Half.{Half}
+use Rattle.clashes.proofs.Logic.{and-left, and-right, or-cases}
+use Rattle.parts.specs.Inputs.{hasBit, leads, hasSlot, hasPin}
+use Rattle.lines.specs.Says.{Said, says}
+use Rattle.lines.specs.Routes.{lioArrival}
+use Rattle.lines.specs.Traces.{slotTold, isLpcPin, pinTold, landed, eioTraced, traced}
+use Rattle.lines.specs.Rules.{keepsRules}
+use Rattle.lines.specs.Answers.{traceOf}
+use Rattle.lines.specs.declared.Map.{Map}
+use Rattle.lines.specs.declared.Route.the-variants.{Arrives}
+use Rattle.lines.specs.declared.Trace.the-variants.{Nothing, LioInput, BioInput, LpcCascade, MsiSlot}
+use Rattle.promises.specs.Sources.{Source, input, pin, slot, noEio, noBio, noMsi, eioAt, bioAt, msiAt, IsSource, arrives, name}
+use Rattle.promises.specs.Statements.{TracingNames, Arrived, NothingExactly}
+use Rattle.promises.proofs.Kept.{Good, good, eio-node, eio-core, eio-not-low, eio-not-high, bio-node, bio-number, bio-msi, msi-slot}
+use Rattle.promises.proofs.Logic.{both-true, left-true, right-true, is-false, is-bool, both-bits}
+use Rattle.promises.proofs.Members.{finds, finds-none, found-or-not}
+use Rattle.promises.proofs.NoTwoAlike.{input-at, through-at, pin-at}
+
+-- a half leads an input
+led : (half : Half) (v i : ℕ) → v ≡ half .cascade → hasBit (half .mask) i ≡ true → leads half v i ≡ true
+led half v i e b = both-true (eqb (half .cascade) v) (hasBit (half .mask) i) (eq-eqb _ _ (sym e)) b
+
+module _ (said : Said) (g : Good said) where
+  -- nothing is led by the LIO to the cascade of an EIO
+  not-led : (e k : ℕ) → e < length (said .eios)
+      → (leads (said .lio .low) (eioAt said e .cascade) k || leads (said .lio .high) (eioAt said e .cascade) k) ≡ false
+  not-led e k l =
+      let v = eioAt said e .cascade in
+      let low = said .lio .low in
+      let high = said .lio .high in
+      is-false (leads low v k || leads high v k)
+      (λ t.
+      ⊎-elim
+      (λ r. eio-not-low said g e l (sym (eqb-true (low .cascade) v (and-left (eqb (low .cascade) v) (hasBit (low .mask) k) r))))
+      (λ r. eio-not-high said g e l (sym (eqb-true (high .cascade) v (and-left (eqb (high .cascade) v) (hasBit (high .mask) k) r))))
+      (or-cases (leads low v k) (leads high v k) t))
+
+  -- what enters by the EIO at a place landed on it
+  eio-at : (e k : ℕ) → e < length (said .eios) → eioTraced said (eioAt said e .cascade) k ≡ landed said (eioAt said e .node) k
+  unfolding eioTraced
+  eio-at e k l =
+      finds noEio (λ x. eqb (x .cascade) (eioAt said e .cascade)) (λ x. landed said (x .node) k) Nothing (said .eios) e l (eq-eqb (eioAt said e .cascade) _ refl)
+      (λ j h t. ap (λ i. landed said (eioAt said i .node) k) (eio-core said g j e h l (eqb-true _ _ t)))
+
+  traced-eio : (e k : ℕ) → e < length (said .eios) → traced said (eioAt said e .cascade) k ≡ landed said (eioAt said e .node) k
+  unfolding traced
+  traced-eio e k l = no-if _ _ _ (not-led e k l) (eio-at e k l)
+
+  -- a pin lands on the EIO of its bridge's node
+  landed-pin : (j v : ℕ) → j < length (said .bios) → v < 64 → landed said (bioAt said j .node) v ≡ pinTold said v (bioAt said j)
+  unfolding landed hasPin
+  landed-pin j v k l =
+      finds noBio (hasPin (bioAt said j .node) v) (pinTold said v) (slotTold (said .msis) (bioAt said j .node) v) (said .bios) j k
+      (both-true (eqb (bioAt said j .node) (bioAt said j .node)) (ltb v 64) (eq-eqb (bioAt said j .node) _ refl) (lt-ltb v 64 l))
+      (λ i h t.
+      ap (λ n. pinTold said v (bioAt said n))
+      (bio-node said g i j h k (eqb-true _ _ (and-left (eqb (bioAt said i .node) (bioAt said j .node)) (ltb v 64) t))))
+
+  -- a slot is on every EIO
+  slot-at : (m s node : ℕ) → m < length (said .msis) → msiAt said m .start ≤ s → s < msiAt said m .start + msiAt said m .count
+      → slotTold (said .msis) node s ≡ MsiSlot node s
+  unfolding slotTold
+  slot-at m s node k p q =
+      finds noMsi (hasSlot s) (λ _. MsiSlot node s) Nothing (said .msis) m k
+      (both-true (leb (msiAt said m .start) s) (ltb s (msiAt said m .start + msiAt said m .count)) (le-leb _ _ p) (lt-ltb _ _ q)) (λ j h t. refl)
+
+  landed-slot : (m s node : ℕ) → m < length (said .msis) → msiAt said m .start ≤ s → s < msiAt said m .start + msiAt said m .count
+      → landed said node s ≡ MsiSlot node s
+  unfolding landed hasPin
+  landed-slot m s node k p q =
+      finds-none noBio (hasPin node s) (pinTold said s) (slotTold (said .msis) node s) (said .bios)
+      (λ j h t. bio-msi said g j m s h k (ltb-true s 64 (and-right (eqb (bioAt said j .node) node) (ltb s 64) t)) p q)
+      ∙ slot-at m s node k p q
+
+  pub names : (x : Source) (v k : ℕ) → IsSource said x → arrives said x ≡ Arrives v k → traced said v k ≡ name said x
+  unfolding traced
+  names (input i) v k p q =
+      let w = input-at (said .lio) i p in
+      let r : Arrives (w .0) i ≡ Arrives v k = sym (w .1) ∙ q in
+      let ev : v ≡ w .0 = cc in
+      let ek : i ≡ k = cc in
+      let t : (leads (said .lio .low) v i || leads (said .lio .high) v i) ≡ true =
+      ⊎-elim
+      (λ h. left-true (leads (said .lio .low) v i) (leads (said .lio .high) v i) (led (said .lio .low) v i (ev ∙ h .0) (h .1)))
+      (λ h. right-true (leads (said .lio .low) v i) (leads (said .lio .high) v i) (led (said .lio .high) v i (ev ∙ h .0) (h .1)))
+      (w .2) in
+      rw (sym ek) (yes-if _ _ _ t)
+  names (pin j n) v k p q =
+      let w = pin-at said g j n (p .0) in
+      let r : Arrives (eioAt said (w .0) .cascade) n ≡ Arrives v k = sym (w .3) ∙ q in
+      let ev : eioAt said (w .0) .cascade ≡ v = cc in
+      let ek : n ≡ k = cc in
+      ap₂ (traced said) (sym ev) (sym ek) ∙ traced-eio (w .0) n (w .1) ∙ ap (λ a. landed said a n) (w .2) ∙ landed-pin j n (p .0) (p .1)
+  names (slot m s e) v k p q =
+      let ev : eioAt said e .cascade ≡ v = cc in
+      let ek : s ≡ k = cc in
+      ap₂ (traced said) (sym ev) (sym ek) ∙ traced-eio e s (p .1) ∙ landed-slot m s (eioAt said e .node) (p .0) (p .2) (p .3)
+
+  -- ---- a source, or nothing is told
+  of-lio : (v k : ℕ) → (leads (said .lio .low) v k || leads (said .lio .high) v k) ≡ true → Arrived said v k
+  unfolding lioArrival if
+  of-lio v k t =
+      let low = said .lio .low in
+      let high = said .lio .high in
+      ⊎-elim
+      (λ r.
+      let b = and-right (eqb (low .cascade) v) (hasBit (low .mask) k) r in
+      let e : low .cascade ≡ v = eqb-true _ _ (and-left (eqb (low .cascade) v) (hasBit (low .mask) k) r) in
+      (input k, left-true (hasBit (low .mask) k) (hasBit (high .mask) k) b, rw (b, e)))
+      (λ r.
+      let b = and-right (eqb (high .cascade) v) (hasBit (high .mask) k) r in
+      let e : high .cascade ≡ v = eqb-true _ _ (and-left (eqb (high .cascade) v) (hasBit (high .mask) k) r) in
+      let n : hasBit (low .mask) k ≡ false = is-false (hasBit (low .mask) k) (λ q. both-bits (low .mask) (high .mask) k (g .masks) q b) in
+      (input k, right-true (hasBit (low .mask) k) (hasBit (high .mask) k) b, rw (n, b, e)))
+      (or-cases (leads low v k) (leads high v k) t)
+
+  of-slot : (e v k : ℕ) → e < length (said .eios) → eioAt said e .cascade ≡ v
+      → Arrived said v k ⊎ (slotTold (said .msis) (eioAt said e .node) k ≡ Nothing)
+  unfolding slotTold
+  of-slot e v k l q =
+      ⊎-elim
+      (λ w.
+      let s = msiAt said (w .0) in
+      inl (
+        slot (w .0) k e,
+        (
+          w .1,
+          l,
+          leb-true _ _ (and-left (leb (s .start) k) (ltb k (s .start + s .count)) (w .2)),
+          ltb-true _ _ (and-right (leb (s .start) k) (ltb k (s .start + s .count)) (w .2)),
+        ),
+        ap (λ n. Arrives n k) q,
+      ))
+      (λ w. inr (w .1))
+      (found-or-not noMsi (hasSlot k) (λ _. MsiSlot (eioAt said e .node) k) Nothing (said .msis))
+
+  of-eio : (e v k : ℕ) → e < length (said .eios) → eioAt said e .cascade ≡ v
+      → Arrived said v k ⊎ (landed said (eioAt said e .node) k ≡ Nothing)
+  unfolding landed hasPin
+  of-eio e v k l q =
+      ⊎-elim
+      (λ w.
+      let t = w .2 in
+      let node = eqb-true _ _ (and-left (eqb (bioAt said (w .0) .node) (eioAt said e .node)) (ltb k 64) t) in
+      inl (
+        pin (w .0) k,
+        (w .1, ltb-true k 64 (and-right (eqb (bioAt said (w .0) .node) (eioAt said e .node)) (ltb k 64) t)),
+        through-at said g e (bioAt said (w .0) .node) k l (sym node) ∙ ap (λ n. Arrives n k) q,
+      ))
+      (λ w. ⊎-elim inl (λ z. inr (w .1 ∙ z)) (of-slot e v k l q))
+      (found-or-not noBio (hasPin (eioAt said e .node) k) (pinTold said k) (slotTold (said .msis) (eioAt said e .node) k) (said .bios))
+
+  pub source-or-nothing : (v k : ℕ) → Arrived said v k ⊎ (traced said v k ≡ Nothing)
+  unfolding traced eioTraced
+  source-or-nothing v k =
+      ⊎-elim
+      (λ no.
+      ⊎-elim
+      (λ w. ⊎-elim inl (λ z. inr (no-if _ _ _ no (w .3 ∙ z))) (of-eio (w .0) v k (w .1) (eqb-true _ _ (w .2))))
+      (λ w. inr (no-if _ _ _ no (w .1)))
+      (found-or-not noEio (λ x. eqb (x .cascade) v) (λ x. landed said (x .node) k) Nothing (said .eios)))
+      (λ yes. inl (of-lio v k yes))
+      (is-bool (leads (said .lio .low) v k || leads (said .lio .high) v k))
+
+  -- a source's name is not nothing
+  pub named : (x : Source) → name said x ≡ Nothing → ⊥
+  unfolding pinTold if
+  named (input i) e = let o : _≡_ {A = ℕ} 0 1 = cc in omega arith
+  named (pin j v) e = picked (isLpcPin said (bioAt said j) v) (bioAt said j .base + v) e
+    where
+      picked : (t : Bool) (n : ℕ) → if t (LpcCascade n) (BioInput n) ≡ Nothing → ⊥
+      picked true n e = let o : _≡_ {A = ℕ} 0 1 = cc in omega arith
+      picked false n e = let o : _≡_ {A = ℕ} 0 1 = cc in omega arith
+  named (slot m s n) e = let o : _≡_ {A = ℕ} 0 1 = cc in omega arith
+
+-- a map that keeps the rules is told as it is
+pub told : (map : Map) → keepsRules map ≡ true → (v k : ℕ) → traceOf map v k ≡ traced (says map) v k
+unfolding traceOf
+told map h v k = yes-if _ _ _ h
+
+-- ---- names tell sources apart
+is-lio : (m n : ℕ) → LioInput m ≡ LioInput n → m ≡ n
+is-lio m n h = cc
+
+-- the global number that a pin is told by
+pin-number : (t u : Bool) (m n : ℕ) → if t (LpcCascade m) (BioInput m) ≡ if u (LpcCascade n) (BioInput n) → m ≡ n
+unfolding if
+pin-number true true m n h = cc
+pin-number false false m n h = cc
+pin-number true false m n h = absurd (let o : _≡_ {A = ℕ} 0 1 = cc in omega arith)
+pin-number false true m n h = absurd (let o : _≡_ {A = ℕ} 0 1 = cc in omega arith)
+
+pin-not-lio : (t : Bool) (m n : ℕ) → if t (LpcCascade m) (BioInput m) ≡ LioInput n → ⊥
+unfolding if
+pin-not-lio true m n h = let o : _≡_ {A = ℕ} 0 1 = cc in omega arith
+pin-not-lio false m n h = let o : _≡_ {A = ℕ} 0 1 = cc in omega arith
+
+pin-not-slot : (t : Bool) (m node s : ℕ) → if t (LpcCascade m) (BioInput m) ≡ MsiSlot node s → ⊥
+unfolding if
+pin-not-slot true m node s h = let o : _≡_ {A = ℕ} 0 1 = cc in omega arith
+pin-not-slot false m node s h = let o : _≡_ {A = ℕ} 0 1 = cc in omega arith
+
+module _ (said : Said) (g : Good said) where
+  pins-one : (i j v w : ℕ) → IsSource said (pin i v) → IsSource said (pin j w) → bioAt said i .base + v ≡ bioAt said j .base + w → pin i v ≡ pin j w
+  pins-one i j v w p q e =
+      let n = bioAt said i .base + v in
+      let z : i ≡ j =
+      bio-number said g i j n (p .0) (q .0) (omega arith) (omega (arith, p .1)) (omega arith) (omega (arith, q .1)) in
+      let b : bioAt said i .base ≡ bioAt said j .base = ap (λ k. bioAt said k .base) z in
+      ap₂ pin z (omega arith)
+
+  one-name : (x y : Source) → IsSource said x → IsSource said y → name said x ≡ name said y → x ≡ y
+  unfolding pinTold
+  one-name (input i) (input j) p q e = let z = is-lio (16 + i) (16 + j) e in ap input (omega arith)
+  one-name (input i) (pin j v) p q e = absurd (pin-not-lio (isLpcPin said (bioAt said j) v) (bioAt said j .base + v) (16 + i) (sym e))
+  one-name (input i) (slot m s f) p q e = absurd (let o : _≡_ {A = ℕ} 0 1 = cc in omega arith)
+  one-name (pin j v) (input i) p q e = absurd (pin-not-lio (isLpcPin said (bioAt said j) v) (bioAt said j .base + v) (16 + i) e)
+  one-name (pin i v) (pin j w) p q e =
+      pins-one i j v w p q
+      (pin-number (isLpcPin said (bioAt said i) v) (isLpcPin said (bioAt said j) w) (bioAt said i .base + v) (bioAt said j .base + w) e)
+  one-name (pin j v) (slot m s f) p q e =
+      absurd (pin-not-slot (isLpcPin said (bioAt said j) v) (bioAt said j .base + v) (eioAt said f .node) s e)
+  one-name (slot m s f) (input i) p q e = absurd (let o : _≡_ {A = ℕ} 0 1 = cc in omega arith)
+  one-name (slot m s f) (pin j v) p q e =
+      absurd (pin-not-slot (isLpcPin said (bioAt said j) v) (bioAt said j .base + v) (eioAt said f .node) s (sym e))
+  one-name (slot m s f) (slot m′ s′ f′) p q e =
+      let node : eioAt said f .node ≡ eioAt said f′ .node = cc in
+      let number : s ≡ s′ = cc in
+      let a = eio-node said g f f′ (p .1) (q .1) node in
+      let b = msi-slot said g m m′ s (p .0) (q .0) (p .2) (p .3) (omega (arith, q .2)) (omega (arith, q .3)) in
+      cc
+
+  -- what is named arrives
+  named-arrives : (x : Source) (v k : ℕ) → IsSource said x → traced said v k ≡ name said x → arrives said x ≡ Arrives v k
+  named-arrives x v k p e =
+      ⊎-elim
+      (λ a.
+      let same = one-name (a .0) x (a .1) p (sym (names said g (a .0) v k (a .1) (a .2)) ∙ e) in
+      ap (arrives said) (sym same) ∙ a .2)
+      (λ z. absurd (named said g x (sym e ∙ z)))
+      (source-or-nothing said g v k)
+
+-- THE PROMISES
+pub tracing-names : (map : Map) → keepsRules map ≡ true → TracingNames map
+tracing-names map h x v k p = (
+  (λ q. told map h v k ∙ names (says map) (good map h) x v k p q),
+  λ q. named-arrives (says map) (good map h) x v k p (sym (told map h v k) ∙ q),
+)
+
+pub nothing-exactly : (map : Map) → keepsRules map ≡ true → NothingExactly map
+nothing-exactly map h v k =
+    ⊎-elim
+    (λ a. inl (a, λ z. named said g (a .0) (sym (tracing-names map h (a .0) v k (a .1) .0 (a .2)) ∙ z)))
+    (λ z. inr ((λ a. named said g (a .0) (sym (names said g (a .0) v k (a .1) (a .2)) ∙ z)), told map h v k ∙ z))
+    (source-or-nothing said g v k)
+  where
+    said : Said
+    said = says map
+
+    g : Good (says map)
+    g = good map h

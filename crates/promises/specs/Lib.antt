@@ -1,0 +1,3 @@
+pub mod Sources
+pub mod Structures
+pub mod Statements

@@ -1,0 +1,76 @@
+-- The sources of a map: document 01, "Where a line arrives": "Sources: wired LIO inputs, BIO inputs, and MSI slots once per
+-- EIO. Each belongs to its own structure: the same input or slot of two structures is two sources." Nothing here knows of
+-- tracing.
+use Prim.Native.Nat.{ℕ, _+_, _<_, _≤_}
+use mathlib.Core.Bool.{true}
+use mathlib.Core.Path.{_≡_}
+use lib.ListN.{length, getD}
+use Rattle.kinds.specs.declared.Eio.{Eio}
+use Rattle.kinds.specs.declared.Bio.{Bio}
+use Rattle.kinds.specs.declared.Msi.{Msi}
+use Rattle.parts.specs.Inputs.{wired, pins}
+use Rattle.lines.specs.Says.{Said}
+use Rattle.lines.specs.Routes.{lioArrival, through}
+use Rattle.lines.specs.Traces.{pinTold}
+use Rattle.lines.specs.declared.Route.{Route}
+use Rattle.lines.specs.declared.Route.the-variants.{Arrives}
+use Rattle.lines.specs.declared.Trace.{Trace}
+use Rattle.lines.specs.declared.Trace.the-variants.{LioInput, MsiSlot}
+
+-- input i of the LIO; pin v of the bridge at place j; slot s of the MSI at place m on the EIO at place e. Places are those in
+-- the map's lists, so that equal inputs of two structures differ.
+pub data Source : Type 0 where
+  input : ℕ → Source
+  pin : ℕ → ℕ → Source
+  slot : ℕ → ℕ → ℕ → Source
+
+-- what stands past the end of a list
+abbrev pub noEio : Eio
+noEio = record { cascade = 0; node = 0; nodes = 0 }
+
+abbrev pub noBio : Bio
+noBio = record { node = 0; base = 0 }
+
+abbrev pub noMsi : Msi
+noMsi = record { start = 0; count = 0 }
+
+-- the structure at a place of its list
+abbrev pub eioAt : Said → ℕ → Eio
+eioAt said e = getD (said .eios) e noEio
+
+abbrev pub bioAt : Said → ℕ → Bio
+bioAt said j = getD (said .bios) j noBio
+
+abbrev pub msiAt : Said → ℕ → Msi
+msiAt said m = getD (said .msis) m noMsi
+
+-- a source of the map: wired, or an input that a bridge has, or a slot from start to start + count - 1
+abbrev pub IsSource : Said → Source → Type 0
+IsSource said (input i) = wired (said .lio) i ≡ true
+IsSource said (pin j v) = (j < length (said .bios)) × (v < pins (bioAt said j))
+IsSource said (slot m s e) =
+    (m < length (said .msis)) × (e < length (said .eios)) × (msiAt said m .start ≤ s) × (s < msiAt said m .start + msiAt said m .count)
+
+-- where it arrives
+abbrev pub arrives : Said → Source → Route
+arrives said (input i) = lioArrival (said .lio) i
+arrives said (pin j v) = through (said .eios) (bioAt said j .node) v
+arrives said (slot m s e) = Arrives (eioAt said e .cascade) s
+
+-- what it is called
+abbrev pub name : Said → Source → Trace
+name said (input i) = LioInput (16 + i)
+name said (pin j v) = pinTold said v (bioAt said j)
+name said (slot m s e) = MsiSlot (eioAt said e .node) s
+
+-- its global number is g; a slot has none
+abbrev pub HasNumber : Said → Source → ℕ → Type 0
+HasNumber said (input i) g = 16 + i ≡ g
+HasNumber said (pin j v) g = bioAt said j .base + v ≡ g
+HasNumber said (slot m s e) g = ⊥
+
+-- it takes extended vector k of the EIO at place e; a LIO input takes none
+abbrev pub LandsOn : Said → Source → ℕ → ℕ → Type 0
+LandsOn said (input i) e k = ⊥
+LandsOn said (pin j v) e k = (eioAt said e .node ≡ bioAt said j .node) × (v ≡ k)
+LandsOn said (slot m s f) e k = (f ≡ e) × (s ≡ k)

@@ -1,0 +1,172 @@
+-- What is promised of maps. Each statement stands alone; proofs/ has a theorem of the same name for it.
+use Prim.Native.Nat.{ℕ, _+_, _^_, _<_, _≤_}
+use mathlib.Core.Bool.{true, false, not}
+use mathlib.Core.List.{List, List·Memᴰ}
+use mathlib.Core.Logic.{_⊎_}
+use mathlib.Core.Path.{_≡_}
+use Rattle.words.specs.Refusals.{refused}
+use Rattle.words.specs.declared.Refusal.{Refusal}
+use Rattle.kinds.specs.Ranges.{bitInBoth}
+use Rattle.kinds.specs.declared.Bio.{Bio}
+use Rattle.clashes.specs.Rules.{clash}
+use Rattle.clashes.specs.Search.{firstClash}
+use Rattle.clashes.specs.declared.Claim.{Claim}
+use Rattle.clashes.specs.declared.Pair.the-variants.{Two}
+use Rattle.lines.specs.Says.{Said, says, Same}
+use Rattle.lines.specs.Routes.{bridge}
+use Rattle.lines.specs.Claims.{claims}
+use Rattle.lines.specs.Rules.{tooMany, rangesKept, rule40, rule41, rule42, rule43, firstBroken, keepsRules}
+use Rattle.lines.specs.Answers.{routeOf, traceOf, badMap, routeCode, traceCode}
+use Rattle.lines.specs.declared.Map.{Map}
+use Rattle.lines.specs.declared.Places.{Places}
+use Rattle.lines.specs.declared.Bridge.the-variants.{Is}
+use Rattle.lines.specs.declared.Route.{Route}
+use Rattle.lines.specs.declared.Route.the-variants.{Arrives, Unwired, NoOwner, Refused}
+use Rattle.lines.specs.declared.Trace.{Trace}
+use Rattle.lines.specs.declared.Trace.the-variants.{Nothing, LioInput, BioInput, LpcCascade, MsiSlot, Refused as NoTrace}
+use Rattle.lines.specs.declared.Verdict.the-variants.{Kept, Broken}
+use Rattle.promises.specs.Sources.{Source, IsSource, arrives, name}
+use Rattle.promises.specs.Structures.{Placed, Shared}
+
+-- ---- demand 3: no two lines look alike
+-- every source arrives, and "Two different sources never arrive at the same core vector with the same number"
+abbrev pub NoTwoAlike : Said → Type 0
+NoTwoAlike said =
+    ((x : Source) → IsSource said x → (vector : ℕ) × (number : ℕ) × (arrives said x ≡ Arrives vector number))
+    × ((x y : Source) → IsSource said x → IsSource said y → arrives said x ≡ arrives said y → x ≡ y)
+
+-- "tracing any vector and number back names the one source that arrives there": it names it, and what it names arrives there
+abbrev pub TracingNames : Map → Type 0
+TracingNames map =
+    (x : Source) (vector number : ℕ) → IsSource (says map) x
+    → (arrives (says map) x ≡ Arrives vector number → traceOf map vector number ≡ name (says map) x)
+    × (traceOf map vector number ≡ name (says map) x → arrives (says map) x ≡ Arrives vector number)
+
+-- a source arrives there
+abbrev pub Arrived : Said → ℕ → ℕ → Type 0
+Arrived said vector number = (x : Source) × IsSource said x × (arrives said x ≡ Arrives vector number)
+
+-- "and says that none does exactly when none does"
+abbrev pub NothingExactly : Map → Type 0
+NothingExactly map =
+    (vector number : ℕ)
+    → (Arrived (says map) vector number × (traceOf map vector number ≡ Nothing → ⊥))
+    ⊎ ((Arrived (says map) vector number → ⊥) × (traceOf map vector number ≡ Nothing))
+
+-- ---- demand 3, its last sentence
+-- no rule below 51 is broken
+pub record KeepsTo43 (map : Map) (places : Places) (madt : ℕ) : Type 0 where
+  pub r36 : rangesKept (says map) ≡ true
+  pub r37 : bitInBoth (says map .lio) ≡ false
+  pub r38 : tooMany map ≡ false
+  pub r40 : rule40 (says map) madt ≡ Kept
+  pub r41 : rule41 (claims (says map) places) ≡ Kept
+  pub r42 : rule42 (claims (says map) places) ≡ Kept
+  pub r43 : rule43 (says map) (places .lpc) ≡ Kept
+
+-- the map is refused by 51, 52 or 53
+abbrev pub RefusedForClash : Map → Places → ℕ → ℕ → Type 0
+RefusedForClash map places madt fadt =
+    (n : ℕ) × (place : ℕ) × (partner : ℕ) × (51 ≤ n) × (n ≤ 53) × (firstBroken map places madt fadt ≡ Broken (refused n place) partner)
+
+-- "refused for a clash exactly when two sources share a global number or an extended vector of one EIO, or two controllers
+-- enter by one core vector"
+abbrev pub ClashExactly : Map → Places → ℕ → ℕ → Type 0
+ClashExactly map places madt fadt =
+    Placed (says map) places → KeepsTo43 map places madt
+    → (RefusedForClash map places madt fadt → Shared (says map)) × (Shared (says map) → RefusedForClash map places madt fadt)
+
+-- ---- places
+-- whether a rule is broken does not hang on the places: the reading, which knows them, accepts no map that 61 refuses, and
+-- refuses none that 61 lets pass
+abbrev pub PlacesDoNotMatter : Map → Type 0
+PlacesDoNotMatter map =
+    (places : Places) (madt fadt : ℕ)
+    → Placed (says map) places
+    → (rangesKept (says map) ≡ true → bitInBoth (says map .lio) ≡ false → firstBroken map places madt fadt ≡ Kept → keepsRules map ≡ true)
+    × (keepsRules map ≡ true → firstBroken map places madt fadt ≡ Kept)
+
+-- "the first structure that clashes with an earlier": x at p clashes with y at q, which stands before it; no structure before
+-- x clashes with an earlier one; and x clashes with none that stands before y
+pub record FirstClash (rule : ℕ) (all : List Claim) (p q : ℕ) : Type 0 where
+  pub x : Claim
+  pub y : Claim
+  pub x-listed : List·Memᴰ x all
+  pub y-listed : List·Memᴰ y all
+  pub x-at : x .place ≡ p
+  pub y-at : y .place ≡ q
+  pub earlier : q < p
+  pub clashes : clash rule x y ≡ true
+  pub first : (z w : Claim) → List·Memᴰ z all → List·Memᴰ w all → w .place < z .place → clash rule z w ≡ true → p ≤ z .place
+  pub earliest : (w : Claim) → List·Memᴰ w all → w .place < p → clash rule x w ≡ true → q ≤ w .place
+
+-- what the search names is that
+abbrev pub SearchNames : ℕ → List Claim → Type 0
+SearchNames rule all = (p q : ℕ) → firstClash rule all ≡ Two p q → FirstClash rule all p q
+
+-- ---- the LPC lines, and there and back
+-- "The sixteen LPC lines count as the one pin that they share": each arrives where that pin does
+abbrev pub LpcLinesShare : Map → Type 0
+LpcLinesShare map =
+    (n : ℕ) → n < 16 → says map .lpc .present ≡ true
+    → (b : Bio) × (bridge (says map .bios) ≡ Is b) × (routeOf map n ≡ routeOf map (b .base + says map .lpc .cascade))
+
+-- a trace tells the global number n
+abbrev pub Tells : ℕ → Trace → Type 0
+Tells n trace = (trace ≡ LioInput n) ⊎ ((trace ≡ BioInput n) ⊎ (trace ≡ LpcCascade n))
+
+-- routing a number and tracing its arrival comes back to that number; from an LPC line, to the pin that it shares
+abbrev pub ThereAndBack : Map → Type 0
+ThereAndBack map =
+    (n vector number : ℕ) → routeOf map n ≡ Arrives vector number
+    → (16 ≤ n → Tells n (traceOf map vector number))
+    × (n < 16 → (b : Bio) × (bridge (says map .bios) ≡ Is b) × (traceOf map vector number ≡ LpcCascade (b .base + says map .lpc .cascade)))
+
+-- ---- 61
+-- a map that breaks a rule is refused with 61 at place 0, whatever is asked; one that keeps them is never refused
+abbrev pub RefusedExactly : Map → Type 0
+RefusedExactly map =
+    (keepsRules map ≡ false
+    → ((n : ℕ) → routeOf map n ≡ Refused badMap) × ((vector number : ℕ) → traceOf map vector number ≡ NoTrace badMap))
+    × (keepsRules map ≡ true
+    → ((n : ℕ) (r : Refusal) → routeOf map n ≡ Refused r → ⊥) × ((vector number : ℕ) (r : Refusal) → traceOf map vector number ≡ NoTrace r → ⊥))
+
+-- ---- one map, one answer
+-- "maps that differ only there are the same map": they get the same answers
+abbrev pub SameAnswers : Map → Map → Type 0
+SameAnswers map other =
+    Same map other
+    → (keepsRules map ≡ keepsRules other)
+    × ((n : ℕ) → routeOf map n ≡ routeOf other n)
+    × ((vector number : ℕ) → traceOf map vector number ≡ traceOf other vector number)
+
+-- any two results that the contracts of `route` and `trace` allow are equal
+abbrev pub RouteDetermined : Map → ℕ → Type 0
+RouteDetermined map n = (r s : Route) → r ≡ routeOf map n → s ≡ routeOf map n → r ≡ s
+
+abbrev pub TraceDetermined : Map → ℕ → ℕ → Type 0
+TraceDetermined map vector number = (r s : Trace) → r ≡ traceOf map vector number → s ≡ traceOf map vector number → r ≡ s
+
+-- ---- answers as numbers
+-- a route, or a trace, whose values fit the code: a core vector and a node take a byte, any other value 32 bits, and a
+-- refusal's number is not 0
+abbrev pub RouteFits : Route → Type 0
+RouteFits (Arrives vector number) = (vector < 2 ^ 8) × (number < 2 ^ 32)
+RouteFits Unwired = 0 < 1
+RouteFits NoOwner = 0 < 1
+RouteFits (Refused r) = (0 < r .number) × (r .place < 2 ^ 32)
+
+abbrev pub TraceFits : Trace → Type 0
+TraceFits Nothing = 0 < 1
+TraceFits (LioInput n) = n < 2 ^ 32
+TraceFits (BioInput n) = n < 2 ^ 32
+TraceFits (LpcCascade n) = n < 2 ^ 32
+TraceFits (MsiSlot node slot) = (node < 2 ^ 8) × (slot < 2 ^ 32)
+TraceFits (NoTrace r) = (0 < r .number) × (r .place < 2 ^ 32)
+
+-- no two answers have one code
+abbrev pub RouteCodesApart : Type 0
+RouteCodesApart = (r s : Route) → RouteFits r → RouteFits s → routeCode r ≡ routeCode s → r ≡ s
+
+abbrev pub TraceCodesApart : Type 0
+TraceCodesApart = (r s : Trace) → TraceFits r → TraceFits s → traceCode r ≡ traceCode s → r ≡ s
