@@ -74,6 +74,10 @@ def lio(cascade0, cascade1, mask0, mask1):
     return structure(18, le(0x1FE01400, 8) + le(0x80, 2) + le(cascade0, 1) + le(cascade1, 1) + le(mask0, 4) + le(mask1, 4))
 
 
+def ht(cascades=bytes(8)):
+    return structure(19, le(0, 8) + le(0, 2) + cascades)
+
+
 def eio(cascade, node, node_map=1):
     return structure(20, le(cascade, 1) + le(node, 1) + le(node_map, 8))
 

@@ -8,9 +8,10 @@ Labels begin with the point that they settle: a refusal number of document 01, o
 import pathlib
 import sys
 
-from board import A, BASE, STRUCTURES_OF_A, board, capture, fadt, image, lay, le, madt, rsdp, summed, table
+from board import A, BASE, STRUCTURES_OF_A, bio, board, capture, core, eio, fadt, ht, image, lay, le, lio, lpc, madt, msi, rsdp
+from board import structure, summed, table
 
-CHECK, RSDP, LOCATE, SURVEY = 0, 1, 2, 3  # the kinds of question that crates/vectors/src/main.rt knows
+CHECK, RSDP, LOCATE, SURVEY, READ, ROUTE, TRACE = range(7)  # the kinds of question that crates/vectors/src/main.rt knows
 TOP = 1 << 64
 cases = []
 
@@ -248,6 +249,187 @@ for name, answer in [
     ("p15-twobridge-onemsi", found(16414, 281, 20510, 268, 0)),
 ]:
     survey("real: " + name, (REAL / (name + ".cap")).read_bytes(), answer)
+
+
+# From here on the whole reading: a list of `room` numbers is lent; what is printed after the count is the list afterwards.
+
+
+def read(label, data, answer, room=512):
+    ask(READ, label, data, answer, room)
+
+
+def route(label, data, number, answer):
+    ask(ROUTE, label, data, answer, number)
+
+
+def trace(label, data, vector, number, answer):
+    ask(TRACE, label, data, answer, vector, number)
+
+
+CORES, LIO, EIO, MSI, BIO, LPC = 0, 3, 4, 5, 6, 7  # where board A's structures stand in its list
+PLACES = [162, 177, 192, 207, 230, 243, 262, 279, 294]
+TWO = "read 2 0 0 1 1"
+
+
+def put(at, new, sci=75):
+    """Board A with one structure replaced."""
+    return board(STRUCTURES_OF_A[:at] + [new] + STRUCTURES_OF_A[at + 1:], sci)
+
+
+def plus(*more, sci=75):
+    """Board A with structures behind its last one, at 294."""
+    return board(STRUCTURES_OF_A + list(more), sci)
+
+
+def made(*structures, sci=26):
+    """A board of our own, without bridge and LPC unless given."""
+    return board(list(structures), sci)
+
+
+C, L = core(0, 0), lio(2, 0, 0xFFFFFF, 0)
+
+read("board A", A, TWO)
+read("refusals of the tables come first", with_root(revision=0), refused(12, 30))
+
+# 31 to 34: structures in turn.
+read("31: one byte left", plus(b"\x11"), refused(31, 294))
+read("31: length 1", plus(b"\0\1"), refused(31, 294))
+read("31: length 0", plus(b"\0\0"), refused(31, 294))
+read("31: past the end", plus(b"\x14\4\1"), refused(31, 294))
+read("31: past the end by one", plus(core(5, 5)[:14]), refused(31, 294))
+read("passed over: length 2", plus(b"\0\2"), TWO)
+for kind in (0, 16, 24, 255):
+    read(f"passed over: type {kind}, version unread", plus(le(kind, 1) + b"\x08" + bytes(6)), TWO)
+for kind, length in ((17, 15), (18, 23), (19, 21), (20, 13), (21, 19), (22, 17), (23, 15)):
+    for wrong in (length - 1, length + 1):
+        read(f"32: type {kind}, length {wrong}", plus(le(kind, 1) + le(wrong, 1) + bytes(wrong - 2)), refused(32, 294))
+    for version in (0, 2):
+        read(f"33: type {kind}, version {version}", plus(structure(kind, bytes(length - 3), version)), refused(33, 294))
+read("32: a known type of length 2", plus(b"\x11\2"), refused(32, 294))
+read("32: EIO of 4 bytes, as the source prints it", plus(b"\x14\4\1\5"), refused(32, 294))
+read("34: HT", plus(ht()), refused(34, 294))
+read("34 before a later 32", made(ht(), b"\x11\2"), refused(34, 162))
+read("in turn: 35 before a later 31", made(core(0, 0, 2), b"\0\1"), refused(35, 162))
+
+# 35 to 38.
+read("35: flags 2", put(1, core(1, 1, 2)), refused(35, 177))
+read("35: flags 2^31 + 1", put(0, core(0, 0, 0x80000001)), refused(35, 162))
+read("35: on a disabled CORE", put(2, core(2, 2, 2)), refused(35, 192))
+for cascade, answer in ((1, refused(36, 230)), (2, refused(53, 230)), (9, TWO), (10, refused(36, 230))):
+    read(f"36: EIO cascade {cascade}", put(EIO, eio(cascade, 0)), answer)
+for cascade, answer in ((1, refused(36, 207)), (9, TWO), (10, refused(36, 207))):
+    read(f"36: low half's cascade {cascade}", put(LIO, lio(cascade, 0, 0xFFFFFF, 0)), answer)
+    read(f"36: high half's cascade {cascade}", put(LIO, lio(0, cascade, 0, 0xFFFFFF)), answer)
+read("36: EIO node 64", plus(eio(4, 64)), refused(36, 294))
+read("36: EIO node 63", plus(eio(4, 63)), TWO)
+read("36: EIO node map 0", put(EIO, eio(3, 0, 0)), refused(36, 230))
+read("36: EIO node map 2^63, without its own node", put(EIO, eio(3, 0, 1 << 63)), TWO)
+read("36: MSI count 0", put(MSI, msi(64, 0)), refused(36, 243))
+read("36: MSI count 0, start 300", put(MSI, msi(300, 0)), refused(36, 243))
+read("36: MSI end 257", put(MSI, msi(65, 192)), refused(36, 243))
+read("36: MSI of one slot", put(MSI, msi(255, 1)), TWO)
+read("36: MSI start 2^32 - 1, count 2", put(MSI, msi(0xFFFFFFFF, 2)), refused(36, 243))
+read("36: BIO base 63", put(BIO, bio(0, 63)), refused(36, 262))
+read("36: BIO base 65,472", put(BIO, bio(0, 65472), 65535), TWO)
+read("36: BIO base 65,473", put(BIO, bio(0, 65473)), refused(36, 262))
+read("36: BIO hardware ID 64", put(BIO, bio(64, 64)), refused(36, 262))
+read("36: BIO hardware ID 256, its low byte 0", put(BIO, bio(256, 64)), refused(36, 262))
+read("36: LPC cascade 63", put(LPC, lpc(63)), TWO)
+read("36: LPC cascade 64", put(LPC, lpc(64)), refused(36, 279))
+read("36: LPC cascade 275, its low byte 19", put(LPC, lpc(275)), refused(36, 279))
+read("36 before 37", put(LIO, lio(10, 2, 1, 1)), refused(36, 207))
+read("37: a bit in both masks", put(LIO, lio(2, 4, 0xFF, 0x80)), refused(37, 207))
+read("37 before 38", plus(lio(2, 2, 1, 1)), refused(37, 294))
+read("an unused half's byte is free", put(LIO, lio(2, 255, 0xFFFFFF, 0)), TWO)
+read("both halves unused", board(STRUCTURES_OF_A[:3] + [lio(255, 255, 0, 0)] + STRUCTURES_OF_A[4:]), TWO)
+read("38: second LIO", plus(lio(4, 0, 1, 0)), refused(38, 294))
+read("38: second LPC", plus(lpc(1)), refused(38, 294))
+read("38: fifth EIO", plus(*[eio(4 + k, 1 + k) for k in range(4)]), refused(38, 333))
+read("38: four EIO are fine", plus(*[eio(4 + k, 1 + k) for k in range(3)]), TWO)
+read("38: fifth MSI", made(C, L, eio(3, 0), *[msi(k, 1) for k in range(5)]), refused(38, 289))
+read("38: four MSI are fine", made(C, L, eio(3, 0), *[msi(k, 1) for k in range(4)]), "read 1 0 0")
+FOUR = [eio(3 + k, k) for k in range(4)]
+read("38: four BIO are fine", made(C, L, *FOUR, *[bio(k, 64 + 64 * k) for k in range(4)]), "read 1 0 0")
+read("38: fifth BIO", made(C, L, *FOUR, *[bio(k, 64 + 64 * k) for k in range(5)]), refused(38, 320))
+MANY = [core(k, k, 0 if k % 2 else 1) for k in range(257)]
+read("38: 257th CORE, disabled", made(*MANY[:256], core(256, 256, 0), L, eio(3, 0)), refused(38, 162 + 15 * 256))
+read("38: 35 of the 257th CORE first", made(*MANY[:256], core(256, 256, 2), L, eio(3, 0)), refused(35, 162 + 15 * 256))
+read("38: 256 CORE are fine", made(*MANY[:256], L, eio(3, 0)), "read 128" + "".join(f" {k} {k}" for k in range(0, 256, 2)))
+
+# 39 to 43.
+read("39: UIDs 0, 1, 1, 0: the earliest later one", made(core(0, 0), core(1, 1), core(1, 2), core(0, 3), L, eio(3, 0)), refused(39, 192))
+read("39: physical ID", put(1, core(1, 0)), refused(39, 177))
+read("39: of a disabled CORE", put(2, core(0, 2, 0)), refused(39, 192))
+read("39: UID against physical ID is none", made(core(0, 1), core(1, 0), L, eio(3, 0)), "read 2 0 1 1 0")
+read("39 after 31", made(C, C, b"\0\1"), refused(31, 192))
+read("39 before 40", made(C, C), refused(39, 177))
+read("40: no structure", made(), refused(40, 118))
+read("40: no enabled CORE", made(core(0, 0, 0), L, eio(3, 0)), refused(40, 118))
+read("40: no LIO", made(C, eio(3, 0)), refused(40, 118))
+read("40: no EIO", made(C, L), refused(40, 118))
+read("41: EIO repeats a node, and not 53", plus(eio(3, 0)), refused(41, 294))
+read("41 before 42", made(C, L, eio(3, 0), eio(4, 0), bio(9, 64)), refused(41, 213))
+read("42: BIO without its EIO", plus(bio(9, 128)), refused(42, 294))
+read("42: BIO before its EIO is fine", made(C, L, bio(0, 64), eio(3, 0)), "read 1 0 0")
+read("43: LPC without a BIO", made(C, L, eio(3, 0), lpc(19)), refused(43, 213))
+
+# 51 to 54, 60.
+read("51: bases 64 and 127", plus(eio(4, 5), bio(5, 127)), refused(51, 307))
+read("51: bases 64 and 128 are fine", plus(eio(4, 5), bio(5, 128)), TWO)
+read("51: the same BIO twice", plus(bio(0, 64)), refused(51, 294))
+read("51 before 53", board(STRUCTURES_OF_A[:4] + [eio(2, 0)] + STRUCTURES_OF_A[5:] + [eio(4, 5), bio(5, 127)]), refused(51, 307))
+read("52: two BIO of one node", plus(bio(0, 128)), refused(52, 294))
+read("52: MSI 63 before the BIO", put(MSI, msi(63, 193)), refused(52, 262))
+read("52: BIO before the MSI", made(C, L, eio(3, 0), bio(0, 64), msi(0, 64)), refused(52, 230))
+read("52: an EIO that stands last is not named", made(C, L, msi(0, 64), bio(0, 64), eio(3, 0)), refused(52, 219))
+read("52: slots are on every EIO", made(C, L, eio(3, 0), eio(4, 5), msi(0, 256), bio(5, 64)), refused(52, 245))
+read("52: two equal MSI, as the source describes", plus(eio(4, 5), msi(64, 192), bio(5, 128)), refused(52, 307))
+read("53: EIO cascade 2", put(EIO, eio(2, 0)), refused(53, 230))
+read("53: LIO after the EIO", made(C, eio(2, 0), L), refused(53, 190))
+read("53: high half", put(LIO, lio(2, 3, 0xFF, 0xFF00)), refused(53, 230))
+read("53: both halves on one vector are fine", put(LIO, lio(2, 2, 0xFFFF, 0xFF0000)), TWO)
+read("53: two EIO", plus(eio(3, 5)), refused(53, 294))
+for sci, answer in ((0, TWO), (15, TWO), (39, TWO), (40, refused(54, 294)), (45, refused(54, 294)), (48, refused(54, 294)),
+                    (63, refused(54, 294)), (64, TWO), (83, TWO), (127, TWO), (128, refused(54, 294)), (65535, refused(54, 294))):
+    read(f"54: SCI {sci}", board(sci=sci), answer)
+read("54: SCI 3 without LPC", board(STRUCTURES_OF_A[:7], 3), refused(54, 279))
+read("no BIO, no LPC, SCI 26, MSI 0 to 255", made(C, L, eio(3, 0), msi(0, 256)), "read 1 0 0")
+read("the same with SCI 75", made(C, L, eio(3, 0), msi(0, 256), sci=75), refused(54, 232))
+read("60: a list of 3", A, refused(60, 0), 3)
+read("60: a list of 4", A, TWO, 4)
+read("60: no list", A, refused(60, 0), 0)
+read("60: a list of 5", A, TWO, 5)
+read("60 after 54", board(sci=45), refused(54, 294), 0)
+
+# Routes and traces by the C entries: kind, vector or node, number.
+for number, answer in ((72, "kind 0 3 8"), (26, "kind 0 2 10"), (3, "kind 0 3 19"), (45, "kind 1 0 0"), (50, "kind 2 0 0"),
+                       (128, "kind 2 0 0"), (127, "kind 0 3 63"), (83, "kind 0 3 19"), (0xFFFFFFFF, "kind 2 0 0")):
+    route(f"A: {number}", A, number, answer)
+for vector, number, answer in ((3, 19, "kind 3 0 83"), (3, 64, "kind 4 0 64"), (2, 24, "kind 0 0 0"), (3, 8, "kind 2 0 72"),
+                               (2, 10, "kind 1 0 26"), (0xFFFFFFFF, 19, "kind 0 0 0"), (3, 0xFFFFFFFF, "kind 0 0 0")):
+    trace(f"A: {vector} {number}", A, vector, number, answer)
+TWO_BRIDGES = made(C, L, eio(3, 0), eio(4, 5), bio(5, 128), bio(0, 64), lpc(19))
+route("the LPC's bridge has the smallest hardware ID", TWO_BRIDGES, 3, "kind 0 3 19")
+trace("the LPC's pin", TWO_BRIDGES, 3, 19, "kind 3 0 83")
+trace("the other bridge's input 19", TWO_BRIDGES, 4, 19, "kind 2 0 147")
+HALVES = put(LIO, lio(2, 5, 0xF, 0xF0), 72)
+route("low half", HALVES, 16, "kind 0 2 0")
+route("high half", HALVES, 20, "kind 0 5 4")
+trace("a slot on node 5", plus(eio(4, 5)), 4, 64, "kind 4 5 64")
+trace("below the slots of node 5", plus(eio(4, 5)), 4, 63, "kind 0 0 0")
+route("refused as the reading is", put(MSI, msi(63, 193)), 72, refused(52, 262))
+trace("refused as the reading is", b"", 3, 19, refused(1, 0))
+for name, answer in [
+    ("qemu111-smp4", refused(30, 5331)),
+    ("edk2-qemu111-smp4-tables", refused(30, 690)),
+    ("qemu111-smp256-pages", refused(21, 31159)),
+    ("p3-flags-lio-lpc-tables", "read 4 0 0 1 1 2 2 3 3"),
+    ("p5-flags-lio-lpc14", refused(32, 16590)),
+    ("a6-vector4", "read 1 1 0"),
+    ("p14-twobridge", refused(52, 16646)),
+    ("p15-twobridge-onemsi", "read 8" + "".join(f" {k} {k}" for k in range(8))),
+]:
+    read("real: " + name, (REAL / (name + ".cap")).read_bytes(), answer)
 
 
 ROOT = pathlib.Path(__file__).resolve().parent.parent

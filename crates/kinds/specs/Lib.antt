@@ -1,2 +1,3 @@
 pub mod Used
 pub mod Ranges
+pub mod Makers

@@ -8,6 +8,8 @@ use capture::Stretch;
 use capture::Verdict;
 use libc::STDIN_FILENO;
 use libc::STDOUT_FILENO;
+use reading::Answer;
+use reading::Reading;
 use tables::Survey;
 use tables::Tables;
 use words::Refusal;
@@ -35,6 +37,17 @@ const RSDP: u32 = 1;
 const LOCATE: u32 = 2;
 
 const SURVEY: u32 = 3;
+
+const READ: u32 = 4;
+
+const ROUTE: u32 = 5;
+
+const TRACE: u32 = 6;
+
+const MOST_NUMBERS: usize = 520;
+
+// What a lent list holds before the call.
+const UNTOUCHED: u32 = 0xA5A5A5A5;
 
 fn say(text: &[u8]) {
     io::write_all(STDOUT_FILENO, text);
@@ -91,6 +104,64 @@ fn answer_survey(bytes: &[u8]) {
     }
 }
 
+fn wide(number: u32) -> u64 {
+    number as u64
+}
+
+// Every number of a list that is not as it was.
+fn say_list(list: &[u32]) {
+    let mut i = 0;
+    while i < list.len() {
+        if list[i] != UNTOUCHED {
+            say_number(b" ", wide(list[i]));
+        }
+        i += 1;
+    }
+}
+
+fn say_answer(reading: Reading) {
+    let answer = reading.answer;
+    match answer {
+        Answer::Read(count) => say_number(b"read ", count as u64),
+        Answer::Refused(refusal) => say_refusal(refusal),
+    }
+}
+
+// The reading with the first numbers of a list lent, and the whole list afterwards.
+fn read_into(bytes: &[u8], list: &mut [u32], room: usize) {
+    if list.len() < room {
+        return;
+    }
+    let reading = reading::read(bytes, &mut list[..room]);
+    say_answer(reading);
+    say_list(list);
+}
+
+fn answer_read(bytes: &[u8], room: usize) {
+    let mut list = [UNTOUCHED; MOST_NUMBERS];
+    read_into(bytes, &mut list, room);
+}
+
+// A C result: a refusal, or kind, high value and low value.
+fn say_result(result: u64) {
+    if 281474976710656 <= result {
+        say_number(b"refused ", result / 281474976710656);
+        say_number(b" at ", result % 281474976710656);
+        return;
+    }
+    say_number(b"kind ", result / 1099511627776);
+    say_number(b" ", result / 4294967296 % 256);
+    say_number(b" ", result % 4294967296);
+}
+
+fn answer_route(bytes: &[u8], number: u32) {
+    say_result(reading::entries::yasmirand_route(bytes, number));
+}
+
+fn answer_trace(bytes: &[u8], vector: u32, number: u32) {
+    say_result(reading::entries::yasmirand_trace(bytes, vector, number));
+}
+
 fn answer(head: &[u8], bytes: &[u8]) {
     let kind = words::u32_at(head, KIND);
     match kind {
@@ -102,6 +173,13 @@ fn answer(head: &[u8], bytes: &[u8]) {
             words::u32_at(head, SECOND),
         ),
         SURVEY => answer_survey(bytes),
+        READ => answer_read(bytes, words::u32_at(head, FIRST) as usize),
+        ROUTE => answer_route(bytes, words::u32_at(head, FIRST)),
+        TRACE => answer_trace(
+            bytes,
+            words::u32_at(head, FIRST),
+            words::u32_at(head, SECOND),
+        ),
         _ => say(b"no such question"),
     }
 }

@@ -1,0 +1,18 @@
+-- `Found::nothing` is nothing found.
+use Rattle.madt.specs.Adding.{nothing}
+use borrow.Author.Needs.{needs}
+use Rattle.madt.proofs.Found.nothing.Statement.{statement}
+use Rattle.madt.proofs.Found.nothing.Tie as tie
+
+no-map-requires : tie.Need-no-map-requires
+no-map-requires c κs = search needs
+
+no-places-requires : tie.Need-no-places-requires
+no-places-requires c κs = search needs
+
+returns : tie.Need-returns
+unfolding nothing
+returns c = rw (c .no-places .ensures, c .before .no-map .ensures)
+
+pub nothing-spec : {M : Type 1} → statement M
+nothing-spec = tie.close (tie.spec no-map-requires no-places-requires returns)

@@ -1,0 +1,3 @@
+pub mod Pieces
+pub mod Taking
+pub mod Walking

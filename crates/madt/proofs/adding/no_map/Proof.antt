@@ -1,0 +1,12 @@
+-- `no_map` is the map without structures.
+use mathlib.Core.Path.{refl}
+use Rattle.madt.specs.Adding.{noMap}
+use Rattle.madt.proofs.adding.no_map.Statement.{statement}
+use Rattle.madt.proofs.adding.no_map.Tie as tie
+
+returns : tie.Need-returns
+unfolding noMap
+returns c = refl
+
+pub no-map-spec : {M : Type 1} → statement M
+no-map-spec = tie.close (tie.spec returns)

@@ -1,0 +1,18 @@
+-- `turn_away` is a refusal with nothing found.
+use Rattle.madt.specs.Walk.{turnedAway}
+use borrow.Author.Needs.{needs}
+use Rattle.madt.proofs.walk.turn_away.Statement.{statement}
+use Rattle.madt.proofs.walk.turn_away.Tie as tie
+
+refuse-requires : tie.Need-refuse-requires
+refuse-requires c κs = search needs
+
+nothing-requires : tie.Need-nothing-requires
+nothing-requires c κs = search needs
+
+returns : tie.Need-returns
+unfolding turnedAway
+returns c = rw (c .nothing .ensures, c .before .refuse .ensures)
+
+pub turn-away-spec : {M : Type 1} → statement M
+turn-away-spec = tie.close (tie.spec refuse-requires nothing-requires returns)

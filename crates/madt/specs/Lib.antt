@@ -1,0 +1,5 @@
+pub mod Pieces
+pub mod Rules
+pub mod Adding
+pub mod Takes
+pub mod Walk

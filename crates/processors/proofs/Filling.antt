@@ -1,0 +1,154 @@
+-- Counting and writing what each structure adds to the list: what holds at each turn of the loops, and a law for each way
+-- that a turn can go.
+use mathlib.Core.Path.{_≡_, refl, sym, _∙_}
+use mathlib.Core.Bool.{true, false}
+use mathlib.Core.List.{List, [], _∷_, _++_}
+use Prim.Native.Nat.{ℕ, _+_, _*_, _/_, _≤_, _<_}
+use native.Mathlib.Nat.{add-zero, zero-add, add-suc, suc-add}
+use native.Mathlib.Omega.{arith}
+use borrow.Author.Tests.{le-leb, lt-leb}
+use lib.ListN.{length, length-append}
+use lib.Seq.{sets, sets-eq, length-sets}
+use Rattle.words.specs.Bytes.{partAt}
+use Rattle.words.specs.Choice.{if}
+use Rattle.words.proofs.Choices.{yes-if, no-if}
+use Rattle.kinds.specs.Makers.{coreOf}
+use Rattle.madt.specs.Pieces.{Piece, whole, cut, pieces, sizeAt}
+use Rattle.madt.proofs.Pieces.{pieces-end, pieces-cut, pieces-next}
+use Rattle.processors.specs.Listing.{isEnabledCore, entriesOf, entriesIn, processors, countOf, countIn, count, hasRoom, written, filled}
+
+-- what a structure adds
+module _ (s : List ℕ) where
+  pub entries-none : isEnabledCore s ≡ false → entriesOf s ≡ []
+  unfolding entriesOf
+  entries-none h = no-if _ _ _ h refl
+
+  pub entries-two : isEnabledCore s ≡ true → entriesOf s ≡ coreOf s .uid ∷ coreOf s .id ∷ []
+  unfolding entriesOf
+  entries-two h = yes-if _ _ _ h
+
+  twice : length (entriesOf s) ≡ 2 * countOf s
+  unfolding entriesOf countOf if
+  twice = go (isEnabledCore s)
+    where
+      go : (b : _) → length (if b (coreOf s .uid ∷ coreOf s .id ∷ []) []) ≡ 2 * (if b 1 0)
+      go true = refl
+      go false = refl
+
+-- two entries for each enabled CORE
+twice-in : (ps : List Piece) → length (entriesIn ps) ≡ 2 * countIn ps
+unfolding entriesIn countIn
+twice-in [] = refl
+twice-in (cut at ∷ ps) = refl
+twice-in (whole at s ∷ ps) =
+    let one = twice s in
+    let rest = twice-in ps in
+    omega (arith, length-append (entriesOf s) (entriesIn ps))
+
+pub twice-all : (table : List ℕ) → length (processors table) ≡ 2 * count table
+unfolding processors count
+twice-all table = twice-in (pieces table 44)
+
+-- ---- counting
+pub record Counting (table : List ℕ) (sofar at : ℕ) : Type 0 where
+  pub small : sofar ≤ at
+  pub rest : sofar + countIn (pieces table at) ≡ count table
+
+pub count-start : (table : List ℕ) → Counting table 0 44
+unfolding count
+count-start table = record { small = omega arith; rest = zero-add _ }
+
+module _ {table : List ℕ} {sofar at : ℕ} (inv : Counting table sofar at) where
+  pub count-end : length table ≤ at → sofar ≡ count table
+  unfolding countIn
+  count-end h = sym (add-zero sofar) ∙ (rw (pieces-end table at h) at (inv .rest))
+
+  pub count-cut : at < length table → sizeAt table at ≡ 0 → sofar ≡ count table
+  unfolding countIn
+  count-cut more h = sym (add-zero sofar) ∙ (rw (pieces-cut table at more h) at (inv .rest))
+
+  pub count-next : {one size : ℕ} → size ≡ sizeAt table at → (size ≡ 0 → ⊥) → one ≡ countOf (partAt table at size) → one ≤ 1
+      → Counting table (sofar + one) (at + size)
+  unfolding countIn
+  count-next {one} {size} e more o least =
+      let before : sofar ≤ at = inv .small in
+      let all = rw (pieces-next table at (rw e at more), ← e, ← o) at (inv .rest) in
+      record { small = omega arith; rest = omega arith }
+
+-- ---- writing
+sets-append : (l : List ℕ) (i : ℕ) (vs us : List ℕ) → sets l i (vs ++ us) ≡ sets (sets l i vs) (i + length vs) us
+sets-append l i [] us = rw add-zero
+sets-append l i (v ∷ vs) us = rw (sets-append _ _ vs us, add-suc, suc-add)
+
+-- what the list is once the entries to come are written from entry n on is known
+pub record Writing (table old list : List ℕ) (at n : ℕ) : Type 0 where
+  pub fits : n + length (entriesIn (pieces table at)) ≤ length list
+  pub same : length list ≡ length old
+  pub rest : sets list n (entriesIn (pieces table at)) ≡ written (processors table) old
+
+pub write-start : (table old : List ℕ) → length (processors table) ≤ length old → Writing table old old 44 0
+unfolding written processors
+write-start table old h =
+    record { fits = omega arith; same = refl; rest = rw zero-add at (sets-eq (entriesIn (pieces table 44)) old 0 (omega arith)) }
+
+module _ {table old list : List ℕ} {at n : ℕ} (inv : Writing table old list at n) where
+  pub write-end : length table ≤ at → list ≡ written (processors table) old
+  unfolding entriesIn
+  write-end h = rw (pieces-end table at h) at (inv .rest)
+
+  pub write-cut : at < length table → sizeAt table at ≡ 0 → list ≡ written (processors table) old
+  unfolding entriesIn
+  write-cut more h = rw (pieces-cut table at more h) at (inv .rest)
+
+  module _ (more : sizeAt table at ≡ 0 → ⊥) where
+    abbrev one : List ℕ
+    one = entriesOf (partAt table at (sizeAt table at))
+
+    abbrev later : List ℕ
+    later = entriesIn (pieces table (at + sizeAt table at))
+
+    split : entriesIn (pieces table at) ≡ one ++ later
+    unfolding entriesIn
+    split = rw (pieces-next table at more)
+
+    room : n + (length one + length later) ≤ length list
+    room = rw (split, length-append) at (inv .fits)
+
+    pub write-room : {part : List ℕ} → part ≡ partAt table at (sizeAt table at) → n + length (entriesOf part) ≤ length list
+    write-room e = let all = room in rw e (omega arith)
+
+    pub write-next : {part list′ : List ℕ} {to n′ : ℕ} → list′ ≡ sets list n (entriesOf part)
+        → n′ ≡ n + length (entriesOf part) → part ≡ partAt table at (sizeAt table at) → to ≡ at + sizeAt table at
+        → Writing table old list′ to n′
+    write-next e k p g =
+        let all = room in
+        let size = length-sets list n one in
+        rw (e, k, g, p)
+        (record {
+          fits = rw size (omega arith);
+          same = rw size (inv .same);
+          rest = sym (sets-append list n one later) ∙ (rw split at (inv .rest));
+        })
+
+-- ---- a list that is too short, and one that has room
+module _ (entries list : List ℕ) where
+  pub too-short : length list < length entries → (false ≡ hasRoom entries list) × (list ≡ filled entries list)
+  unfolding hasRoom filled
+  too-short h =
+      let no = lt-leb (length entries) (length list) h in
+      (sym no, sym (no-if _ _ _ no refl))
+
+  pub enough-room : {list′ : List ℕ} → length entries ≤ length list → list′ ≡ written entries list
+      → (true ≡ hasRoom entries list) × (list′ ≡ filled entries list)
+  unfolding hasRoom filled
+  enough-room h e =
+      let yes = le-leb (length entries) (length list) h in
+      (sym yes, e ∙ sym (yes-if _ _ _ yes))
+
+-- the test by the count
+module _ (table list : List ℕ) {n : ℕ} (e : n ≡ count table) where
+  pub short-by-count : length list / 2 < n → length list < length (processors table)
+  short-by-count h = let two = twice-all table in omega arith
+
+  pub room-by-count : n ≤ length list / 2 → length (processors table) ≤ length list
+  room-by-count h = let two = twice-all table in omega arith

@@ -1,0 +1,5 @@
+pub mod Cases
+pub mod Filling
+pub mod Twins
+pub mod Inside
+pub mod Agreement

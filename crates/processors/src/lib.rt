@@ -1,0 +1,10 @@
+// The processors of a MADT, given by its own bytes: how many are enabled, the list of their numbers, and refusal 39
+// (document 01, "What comes back" and "Refusals in order"). The table is read again for each of the three.
+pub mod list; // UID and physical ID of each enabled CORE
+pub mod repeats; // 39: a CORE that repeats an ID of an earlier one
+
+// The offset of the first CORE that repeats an ID of an earlier one, if there is such a CORE.
+pub enum Repeat {
+    At(usize),
+    Nowhere,
+}

@@ -1,0 +1,57 @@
+-- `reading::entries::yasmirand_route` is the route of the capture's map as a number, or the refusal.
+use mathlib.Core.Path.{ap, sym, _∙_}
+use Rattle.lines.specs.Answers.{routeOf, routeCode}
+use Rattle.reading.specs.Entries.{routeResult}
+use Rattle.reading.specs.declared.Scan.{Scan}
+use Rattle.reading.proofs.Laws.{asked-refused, asked-sound}
+use borrow.Author.Needs.{needs}
+use Rattle.reading.proofs.entries.yasmirand_route.Statement.{statement}
+use Rattle.reading.proofs.entries.yasmirand_route.Tie as tie
+
+scan-capture-requires : tie.Need-scan-capture-requires
+scan-capture-requires c κs = search needs
+
+enum-known-verdict : tie.Need-enum-known-verdict
+enum-known-verdict c = search needs
+
+refusal-code-requires : tie.Need-refusal-code-requires
+refusal-code-requires c κs = search needs
+
+enum-told : tie.Need-enum-told
+enum-told c = search needs
+
+route-requires : tie.Need-route-requires
+route-requires c κs = search needs
+
+route-code-requires : tie.Need-route-code-requires
+route-code-requires c κs = search needs
+
+returns : tie.Need-returns
+unfolding routeResult
+returns c =
+    let s = c .before .before .before .before .before in
+    c .refusal-code .ensures
+    ∙ sym (asked-refused _ _ (ap (λ (x : Scan). x .verdict) (sym (s .scan-capture .ensures)) ∙ c .before .before .verdict .given .1))
+
+returns-2 : tie.Need-returns-2
+unfolding routeResult
+returns-2 c =
+    let s = c .before .before .before .before .before in
+    let number = s .before .before .args .number in
+    c .route-code .ensures
+    ∙ ap routeCode (c .before .route .ensures)
+    ∙ ap (λ (x : Scan). routeCode (routeOf (x .map) number)) (s .scan-capture .ensures)
+    ∙ sym (asked-sound _ _ (ap (λ (x : Scan). x .verdict) (sym (s .scan-capture .ensures)) ∙ c .before .before .enum-told .given .1))
+
+pub yasmirand-route-spec : {M : Type 1} → statement M
+yasmirand-route-spec =
+    tie.close
+    (tie.spec
+    scan-capture-requires
+    enum-known-verdict
+    refusal-code-requires
+    enum-told
+    route-requires
+    route-code-requires
+    returns
+    returns-2)

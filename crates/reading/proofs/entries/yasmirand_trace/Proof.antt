@@ -1,0 +1,57 @@
+-- `reading::entries::yasmirand_trace` is the trace of the capture's map as a number, or the refusal.
+use mathlib.Core.Path.{ap, sym, _∙_}
+use Rattle.lines.specs.Answers.{traceOf, traceCode}
+use Rattle.reading.specs.Entries.{traceResult}
+use Rattle.reading.specs.declared.Scan.{Scan}
+use Rattle.reading.proofs.Laws.{asked-refused, asked-sound}
+use borrow.Author.Needs.{needs}
+use Rattle.reading.proofs.entries.yasmirand_trace.Statement.{statement}
+use Rattle.reading.proofs.entries.yasmirand_trace.Tie as tie
+
+scan-capture-requires : tie.Need-scan-capture-requires
+scan-capture-requires c κs = search needs
+
+enum-known-verdict : tie.Need-enum-known-verdict
+enum-known-verdict c = search needs
+
+refusal-code-requires : tie.Need-refusal-code-requires
+refusal-code-requires c κs = search needs
+
+enum-told : tie.Need-enum-told
+enum-told c = search needs
+
+trace-requires : tie.Need-trace-requires
+trace-requires c κs = search needs
+
+trace-code-requires : tie.Need-trace-code-requires
+trace-code-requires c κs = search needs
+
+returns : tie.Need-returns
+unfolding traceResult
+returns c =
+    let s = c .before .before .before .before .before in
+    c .refusal-code .ensures
+    ∙ sym (asked-refused _ _ (ap (λ (x : Scan). x .verdict) (sym (s .scan-capture .ensures)) ∙ c .before .before .verdict .given .1))
+
+returns-2 : tie.Need-returns-2
+unfolding traceResult
+returns-2 c =
+    let s = c .before .before .before .before .before in
+    let a = s .before .before .args in
+    c .trace-code .ensures
+    ∙ ap traceCode (c .before .trace .ensures)
+    ∙ ap (λ (x : Scan). traceCode (traceOf (x .map) (a .vector) (a .number))) (s .scan-capture .ensures)
+    ∙ sym (asked-sound _ _ (ap (λ (x : Scan). x .verdict) (sym (s .scan-capture .ensures)) ∙ c .before .before .enum-told .given .1))
+
+pub yasmirand-trace-spec : {M : Type 1} → statement M
+yasmirand-trace-spec =
+    tie.close
+    (tie.spec
+    scan-capture-requires
+    enum-known-verdict
+    refusal-code-requires
+    enum-told
+    trace-requires
+    trace-code-requires
+    returns
+    returns-2)

@@ -1,0 +1,74 @@
+-- `reading::read` scans, and fills the list only where it answers.
+use mathlib.Core.List.{List}
+use Prim.Native.Nat.{ℕ}
+use Rattle.processors.specs.Listing.{processors, filled}
+use Rattle.reading.specs.Scan.{madtBytes}
+use Rattle.reading.specs.Reading.{answered}
+use Rattle.reading.specs.declared.Scan.{Scan}
+use mathlib.Core.Path.{ap, sym, _∙_}
+use Rattle.reading.proofs.Laws.{reading-refused, list-refused, reading-sound, list-sound}
+use borrow.Author.Needs.{needs}
+use Rattle.reading.proofs.read.Statement.{statement}
+use Rattle.reading.proofs.read.Tie as tie
+
+scan-capture-requires : tie.Need-scan-capture-requires
+scan-capture-requires c κs = search needs
+
+enum-known-verdict : tie.Need-enum-known-verdict
+enum-known-verdict c = search needs
+
+without-map-requires : tie.Need-without-map-requires
+without-map-requires c κs = search needs
+
+enum-told : tie.Need-enum-told
+enum-told c = search needs
+
+madt-bytes-requires : tie.Need-madt-bytes-requires
+madt-bytes-requires c κs = search needs
+
+answer-list-requires : tie.Need-answer-list-requires
+answer-list-requires c κs = search needs
+
+returns : tie.Need-returns
+returns c =
+    let s = c .before .before .before .before .before .before in
+    let a = s .before .before .before .args in
+    let refused = ap (λ (x : Scan). x .verdict) (sym (s .scan-capture .ensures)) ∙ c .before .before .verdict .given .1 in
+    (c .without-map .ensures ∙ sym (reading-refused (a .capture .now) (a .list .now) refused), sym (list-refused (a .capture .now) (a .list .now) refused))
+
+same-length : tie.Need-same-length
+same-length c = search needs
+
+returns-2 : tie.Need-returns-2
+returns-2 c =
+    let l = c .before .before in
+    let b = l .before .before in
+    let s = b .before .before .before .before .before in
+    let a = s .before .before .before .args in
+    let r = s .scan-capture .result in
+    let capture = a .capture .now in
+    let list = a .list .now in
+    let sound = ap (λ (x : Scan). x .verdict) (sym (s .scan-capture .ensures)) ∙ b .before .enum-told .given .1 in (
+      l .answer-list .ensures .0
+          ∙ ap (λ (x : List ℕ). answered x (r .map) list) (b .madt-bytes .ensures)
+          ∙ ap (λ (x : Scan). answered (madtBytes capture (x .madt)) (x .map) list) (s .scan-capture .ensures)
+          ∙ sym (reading-sound capture list sound),
+      l .answer-list .ensures .1
+          ∙ ap (λ (x : List ℕ). filled (processors x) list) (b .madt-bytes .ensures)
+          ∙ ap (λ (x : Scan). filled (processors (madtBytes capture (x .madt))) list) (s .scan-capture .ensures)
+          ∙ sym (list-sound capture list sound),
+    )
+
+pub read-spec : {M : Type 1} → statement M
+read-spec =
+    tie.close
+    (tie.spec
+    scan-capture-requires
+    enum-known-verdict
+    without-map-requires
+    enum-told
+    madt-bytes-requires
+    answer-list-requires
+    returns
+    same-length
+    returns-2)

@@ -1,0 +1,64 @@
+-- `reading::rules_after_walk` gives 39, then 40 to 54.
+use mathlib.Core.Path.{sym, _∙_}
+use Rattle.reading.specs.Scan.{rulesAfterWalk}
+use Rattle.reading.proofs.Laws.{turn-refused, turn-sound}
+use borrow.Author.Needs.{needs}
+use Rattle.reading.proofs.rules_after_walk.Statement.{statement}
+use Rattle.reading.proofs.rules_after_walk.Tie as tie
+
+check-repeats-requires : tie.Need-check-repeats-requires
+check-repeats-requires c κs = search needs
+
+enum-known-refusal : tie.Need-enum-known-refusal
+enum-known-refusal c = search needs
+
+enum-told : tie.Need-enum-told
+enum-told c = search needs
+
+check-processors-requires : tie.Need-check-processors-requires
+check-processors-requires c κs = search needs
+
+enum-known-refusal-2 : tie.Need-enum-known-refusal-2
+enum-known-refusal-2 c = search needs
+
+enum-told-2 : tie.Need-enum-told-2
+enum-told-2 c = search needs
+
+check-map-requires : tie.Need-check-map-requires
+check-map-requires c κs = search needs
+
+returns : tie.Need-returns
+unfolding rulesAfterWalk
+returns c = sym (turn-refused _ _ (sym (c .before .before .before .check-repeats .ensures) ∙ c .before .refusal .given .1))
+
+returns-2 : tie.Need-returns-2
+unfolding rulesAfterWalk
+returns-2 c =
+    let p = c .before .before .before in
+    let r = p .before .before .before in
+    sym (turn-sound _ _ (sym (r .check-repeats .ensures) ∙ p .before .enum-told .given .1)
+    ∙ turn-refused _ _ (sym (p .check-processors .ensures) ∙ c .before .refusal2 .given .1))
+
+returns-3 : tie.Need-returns-3
+unfolding rulesAfterWalk
+returns-3 c =
+    let p = c .before .before .before in
+    let r = p .before .before .before in
+    c .check-map .ensures
+    ∙ sym (turn-sound _ _ (sym (r .check-repeats .ensures) ∙ p .before .enum-told .given .1)
+    ∙ turn-sound _ _ (sym (p .check-processors .ensures) ∙ c .before .enum-told2 .given .1))
+
+pub rules-after-walk-spec : {M : Type 1} → statement M
+rules-after-walk-spec =
+    tie.close
+    (tie.spec
+    check-repeats-requires
+    enum-known-refusal
+    enum-told
+    check-processors-requires
+    enum-known-refusal-2
+    enum-told-2
+    check-map-requires
+    returns
+    returns-2
+    returns-3)

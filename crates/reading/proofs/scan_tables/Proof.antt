@@ -1,0 +1,69 @@
+-- `reading::scan_tables` walks the MADT, then asks 39 to 54.
+use Rattle.madt.specs.declared.Walked.{Walked}
+use Rattle.reading.specs.Scan.{judged, rulesAfterWalk, madtBytes, afterSurvey, afterWalk}
+use mathlib.Core.List.{List}
+use Prim.Native.Nat.{ℕ}
+use mathlib.Core.Path.{ap, sym, _∙_}
+use native.Mathlib.Omega.{arith}
+use lib.ListN.{length}
+use Rattle.reading.proofs.Laws.{bytes-small, walk-refused, walk-sound}
+use borrow.Author.Needs.{needs}
+use Rattle.reading.proofs.scan_tables.Statement.{statement}
+use Rattle.reading.proofs.scan_tables.Tie as tie
+
+walk-madt-requires : tie.Need-walk-madt-requires
+walk-madt-requires c κs = search needs
+
+enum-known-verdict : tie.Need-enum-known-verdict
+enum-known-verdict c = search needs
+
+turn-down-requires : tie.Need-turn-down-requires
+turn-down-requires c κs = search needs
+
+enum-told : tie.Need-enum-told
+enum-told c = search needs
+
+madt-bytes-requires : tie.Need-madt-bytes-requires
+madt-bytes-requires c κs = search needs
+
+rules-after-walk-requires : tie.Need-rules-after-walk-requires
+rules-after-walk-requires c κs =
+    let a = c .before .before .before .before .before .before .before .before .args in
+    let small = bytes-small (a .capture .now) (a .t .madt) in
+    let same = ap length (c .madt-bytes .ensures) in
+    omega arith
+
+judge-requires : tie.Need-judge-requires
+judge-requires c κs = search needs
+
+returns : tie.Need-returns
+unfolding afterSurvey madtBytes
+returns c =
+    let w = c .before .before .before .before .before .before in
+    c .turn-down .ensures
+    ∙ sym (walk-refused _ _ _ (ap (λ (x : Walked). x .verdict) (sym (w .walk-madt .ensures)) ∙ c .before .before .verdict .given .1))
+
+returns-2 : tie.Need-returns-2
+unfolding afterSurvey madtBytes
+returns-2 c =
+    let w = c .before .before .before .before .before .before .before in
+    let a = w .before .before .before .args in
+    let r = w .walk-madt .result in
+    c .judge .ensures
+    ∙ ap (judged (a .t) (r .found .map)) (c .before .rules-after-walk .ensures ∙ ap (λ (x : List ℕ). rulesAfterWalk x (a .t) (r .found)) (c .before .before .madt-bytes .ensures))
+    ∙ sym (walk-sound (madtBytes (a .capture .now) (a .t .madt)) (a .t) r (c .before .before .before .enum-told .given .1))
+    ∙ ap (afterWalk (madtBytes (a .capture .now) (a .t .madt)) (a .t)) (w .walk-madt .ensures)
+
+pub scan-tables-spec : {M : Type 1} → statement M
+scan-tables-spec =
+    tie.close
+    (tie.spec
+    walk-madt-requires
+    enum-known-verdict
+    turn-down-requires
+    enum-told
+    madt-bytes-requires
+    rules-after-walk-requires
+    judge-requires
+    returns
+    returns-2)

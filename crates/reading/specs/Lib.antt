@@ -1,0 +1,3 @@
+pub mod Scan
+pub mod Reading
+pub mod Entries

@@ -1,0 +1,195 @@
+// The reading: a capture in, the map, the processor list and their count out, or the first refusal of all the rules.
+ghost use mathlib.Core.Path.{_≡_};
+ghost use Prim.Native.Nat.{_<_};
+ghost use lib.ListN.{length};
+ghost use Rattle.lines.specs.Rules.{firstBroken};
+ghost use Rattle.processors.specs.Listing.{processors, count, filled};
+ghost use Rattle.processors.specs.Repeats.{firstRepeat};
+ghost use Rattle.capture.specs.declared.Verdict.the-variants.{Sound};
+ghost use Rattle.tables.specs.declared.Survey.the-variants as surveys;
+ghost use Rattle.reading.specs.Scan.{madtBytes, emptyMap, turnedDown, repeatRule, processorRule, mapRule, rulesAfterWalk, judged, afterWalk, afterSurvey, scan};
+ghost use Rattle.reading.specs.Reading.{withoutMap, answered, readingOf, listAfter};
+use capture::Verdict;
+use lines::Map;
+use lines::Verdict as Kept;
+use madt::Found;
+use processors::Repeat;
+use tables::Survey;
+use tables::Table;
+use tables::Tables;
+use words::Refusal;
+
+pub mod entries; // the C entries
+
+// What all rules up to 54 leave: sound with the MADT and the map, or the refusal with an empty map.
+pub struct Scan {
+    pub verdict: Verdict,
+    pub madt: Table,
+    pub map: Map,
+}
+
+// Read, with the number of processors; or refused.
+pub enum Answer {
+    Read(usize),
+    Refused(Refusal),
+}
+
+// The answer, and the map beside it: the fixed empty one where the capture is refused.
+pub struct Reading {
+    pub answer: Answer,
+    pub map: Map,
+}
+
+fn madt_bytes(capture: &[u8], madt: Table) -> &[u8]
+    ensures { λ r. ⌜ now r ≡ madtBytes (now (capture .entry)) madt ⌝ }
+{
+    words::part(capture, madt.place as usize, madt.length as usize)
+}
+
+fn empty_map() -> Map
+    ensures { λ r. ⌜ r ≡ emptyMap ⌝ }
+{
+    let nothing = Found::nothing(0);
+    nothing.map
+}
+
+fn turn_down(refusal: Refusal) -> Scan
+    ensures { λ r. ⌜ r ≡ turnedDown refusal ⌝ }
+{
+    let verdict = Verdict::Refused(refusal);
+    let madt = Table {
+        place: 0,
+        length: 0,
+    };
+    let map = empty_map();
+    Scan { verdict, madt, map }
+}
+
+// Refusal 39.
+fn check_repeats(table: &[u8], base: u16) -> Verdict
+    requires { ⌜ length (now table) < 65536 ⌝ }
+    ensures { λ r. ⌜ r ≡ repeatRule base (firstRepeat (now (table .entry))) ⌝ }
+{
+    match processors::repeats::first_repeat(table) {
+        Repeat::Nowhere => Verdict::Sound,
+        Repeat::At(offset) => Verdict::Refused(words::refuse(39, base as u32 + offset as u32)),
+    }
+}
+
+// Refusal 40, of the processors.
+fn check_processors(table: &[u8], base: u16) -> Verdict
+    ensures { λ r. ⌜ r ≡ processorRule base (count (now (table .entry))) ⌝ }
+{
+    if processors::list::count(table) == 0 {
+        return Verdict::Refused(words::refuse(40, base as u32));
+    }
+    Verdict::Sound
+}
+
+// The rest of 40, and 41 to 54.
+fn check_map(found: Found, madt: u16, fadt: u16) -> Verdict
+    ensures { λ r. ⌜ r ≡ mapRule (firstBroken (found .map) (found .places) madt fadt) ⌝ }
+{
+    let map = found.map;
+    let places = found.places;
+    match map.first_broken(places, madt as u32, fadt as u32) {
+        Kept::Kept => Verdict::Sound,
+        Kept::Broken(refusal, _) => Verdict::Refused(refusal),
+    }
+}
+
+// Refusals 39 to 54.
+fn rules_after_walk(table: &[u8], t: Tables, found: Found) -> Verdict
+    requires { ⌜ length (now table) < 65536 ⌝ }
+    ensures { λ r. ⌜ r ≡ rulesAfterWalk (now (table .entry)) t found ⌝ }
+{
+    let madt = t.madt;
+    let fadt = t.fadt;
+    match check_repeats(table, madt.place) {
+        Verdict::Refused(refusal) => Verdict::Refused(refusal),
+        Verdict::Sound => match check_processors(table, madt.place) {
+            Verdict::Refused(refusal) => Verdict::Refused(refusal),
+            Verdict::Sound => check_map(found, madt.place, fadt.place),
+        },
+    }
+}
+
+// What a verdict leaves of what was found.
+fn judge(t: Tables, map: Map, verdict: Verdict) -> Scan
+    ensures { λ r. ⌜ r ≡ judged t map verdict ⌝ }
+{
+    match verdict {
+        Verdict::Refused(refusal) => turn_down(refusal),
+        Verdict::Sound => {
+            let madt = t.madt;
+            let verdict = Verdict::Sound;
+            Scan { verdict, madt, map }
+        }
+    }
+}
+
+// The walk of the MADT that a survey found, and what comes after it.
+fn scan_tables(capture: &[u8], t: Tables) -> Scan
+    ensures { λ r. ⌜ r ≡ afterSurvey (now (capture .entry)) (surveys.Found t) ⌝ }
+{
+    let madt = t.madt;
+    let walked = madt::walk::walk_madt(capture, madt, t.sci);
+    let found = walked.found;
+    let map = found.map;
+    let verdict = walked.verdict;
+    match verdict {
+        Verdict::Refused(refusal) => turn_down(refusal),
+        Verdict::Sound => judge(
+            t,
+            map,
+            rules_after_walk(madt_bytes(capture, madt), t, found),
+        ),
+    }
+}
+
+// All rules from 1 to 54, and what is found where none is broken.
+pub fn scan_capture(capture: &[u8]) -> Scan
+    ensures { λ r. ⌜ r ≡ scan (now (capture .entry)) ⌝ }
+{
+    match tables::survey_capture(capture) {
+        Survey::Refused(refusal) => turn_down(refusal),
+        Survey::Found(t) => scan_tables(capture, t),
+    }
+}
+
+// A refusal, with no map.
+fn without_map(refusal: Refusal) -> Reading
+    ensures { λ r. ⌜ r ≡ withoutMap refusal ⌝ }
+{
+    let answer = Answer::Refused(refusal);
+    let map = empty_map();
+    Reading { answer, map }
+}
+
+// The list filled and its count, or refusal 60.
+fn answer_list(table: &[u8], map: Map, list: &mut [u32]) -> Reading
+    ensures { λ r. ⌜ r ≡ answered (now (table .entry)) map (now (list .entry)) ⌝ }
+    ensures { λ r. ⌜ now (list .exit) ≡ filled (processors (now (table .entry))) (now (list .entry)) ⌝ }
+{
+    if processors::list::fill(table, list) {
+        let answer = Answer::Read(processors::list::count(table));
+        return Reading { answer, map };
+    }
+    without_map(words::refuse(60, 0))
+}
+
+// The reading: UID and physical ID of each enabled processor are written to the front of the list, in table order. A refusal
+// leaves the list as it was.
+pub fn read(capture: &[u8], list: &mut [u32]) -> Reading
+    ensures { λ r. ⌜ r ≡ readingOf (now (capture .entry)) (now (list .entry)) ⌝ }
+    ensures { λ r. ⌜ now (list .exit) ≡ listAfter (now (capture .entry)) (now (list .entry)) ⌝ }
+{
+    let s = scan_capture(capture);
+    let verdict = s.verdict;
+    let madt = s.madt;
+    let map = s.map;
+    match verdict {
+        Verdict::Refused(refusal) => without_map(refusal),
+        Verdict::Sound => answer_list(madt_bytes(capture, madt), map, list),
+    }
+}
