@@ -1,0 +1,34 @@
+/*
+ * Yasmirand's entries for C (crates/reading/src/entries.rt). A slice of bytes is a pointer and a length.
+ *
+ * A result of 2^48 or more is a refusal: refusal number × 2^48 + place in the capture. Any other result is an answer.
+ * The functions keep nothing between calls, allocate nothing and end for any bytes.
+ */
+#ifndef YASMIRAND_H
+#define YASMIRAND_H
+
+#include <stddef.h>
+#include <stdint.h>
+
+#ifdef __cplusplus
+extern "C" {
+#endif
+
+/*
+ * Where a global number arrives: kind × 2^40 + vector × 2^32 + number.
+ * kind 0 arrives; 1 unwired, 2 no owner (vector and number are 0).
+ */
+uint64_t yasmirand_route(const uint8_t *capture, size_t capture_len, uint32_t number);
+
+/*
+ * What arrives at a core vector with a number: kind × 2^40 + node × 2^32 + value.
+ * kind 0 nothing; 1 LIO input, 2 BIO input, 3 LPC cascade input (value is the global number);
+ * 4 MSI slot (value is the slot, node its EIO's node; node is 0 in every other kind).
+ */
+uint64_t yasmirand_trace(const uint8_t *capture, size_t capture_len, uint32_t vector, uint32_t number);
+
+#ifdef __cplusplus
+}
+#endif
+
+#endif
