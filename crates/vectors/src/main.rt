@@ -46,6 +46,13 @@ const TRACE: u32 = 6;
 
 const MOST_NUMBERS: usize = 520;
 
+// What stands above the place of a refusal in a C result, above both values of an answer, and above its second value.
+const REFUSALS: u64 = 281474976710656;
+
+const KINDS: u64 = 1099511627776;
+
+const HIGH: u64 = 4294967296;
+
 // What a lent list holds before the call.
 const UNTOUCHED: u32 = 0xA5A5A5A5;
 
@@ -144,14 +151,14 @@ fn answer_read(bytes: &[u8], room: usize) {
 
 // A C result: a refusal, or kind, high value and low value.
 fn say_result(result: u64) {
-    if 281474976710656 <= result {
-        say_number(b"refused ", result / 281474976710656);
-        say_number(b" at ", result % 281474976710656);
+    if REFUSALS <= result {
+        say_number(b"refused ", result / REFUSALS);
+        say_number(b" at ", result % REFUSALS);
         return;
     }
-    say_number(b"kind ", result / 1099511627776);
-    say_number(b" ", result / 4294967296 % 256);
-    say_number(b" ", result % 4294967296);
+    say_number(b"kind ", result / KINDS);
+    say_number(b" ", result % KINDS / HIGH);
+    say_number(b" ", result % HIGH);
 }
 
 fn answer_route(bytes: &[u8], number: u32) {
