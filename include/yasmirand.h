@@ -15,6 +15,13 @@ extern "C" {
 #endif
 
 /*
+ * The reading: UID and physical ID of each enabled processor go to the front of the list, in table order, each as four
+ * little-endian bytes; what lies behind them stays. The result is the number of processors, or a refusal, which leaves
+ * the list as it was: 60 where the list is under 8 bytes for each processor.
+ */
+uint64_t yasmirand_read(const uint8_t *capture, size_t capture_len, uint8_t *list, size_t list_len);
+
+/*
  * Where a global number arrives: kind × 2^40 + vector × 2^32 + number.
  * kind 0 arrives; 1 unwired, 2 no owner (vector and number are 0).
  */

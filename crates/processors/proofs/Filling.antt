@@ -76,59 +76,71 @@ module _ {table : List ℕ} {sofar at : ℕ} (inv : Counting table sofar at) whe
       record { small = omega arith; rest = omega arith }
 
 -- ---- writing
-sets-append : (l : List ℕ) (i : ℕ) (vs us : List ℕ) → sets l i (vs ++ us) ≡ sets (sets l i vs) (i + length vs) us
+pub sets-append : (l : List ℕ) (i : ℕ) (vs us : List ℕ) → sets l i (vs ++ us) ≡ sets (sets l i vs) (i + length vs) us
 sets-append l i [] us = rw add-zero
 sets-append l i (v ∷ vs) us = rw (sets-append _ _ vs us, add-suc, suc-add)
 
--- what the list is once the entries to come are written from entry n on is known
-pub record Writing (table old list : List ℕ) (at n : ℕ) : Type 0 where
-  pub fits : n + length (entriesIn (pieces table at)) ≤ length list
+-- how entries are written: as numbers, or as bytes
+pub record Spelling (g : List ℕ → List ℕ) : Type 0 where
+  pub none : g [] ≡ []
+  pub joined : (xs ys : List ℕ) → g (xs ++ ys) ≡ g xs ++ g ys
+
+abbrev pub plain : List ℕ → List ℕ
+plain xs = xs
+
+pub plainly : Spelling plain
+plainly = record { none = refl; joined = λ xs ys. refl }
+
+-- what the list is once the entries to come are written from place n on is known
+pub record Writing (g : List ℕ → List ℕ) (table old list : List ℕ) (at n : ℕ) : Type 0 where
+  pub fits : n + length (g (entriesIn (pieces table at))) ≤ length list
   pub same : length list ≡ length old
-  pub rest : sets list n (entriesIn (pieces table at)) ≡ written (processors table) old
+  pub rest : sets list n (g (entriesIn (pieces table at))) ≡ written (g (processors table)) old
 
-pub write-start : (table old : List ℕ) → length (processors table) ≤ length old → Writing table old old 44 0
-unfolding written processors
-write-start table old h =
-    record { fits = omega arith; same = refl; rest = rw zero-add at (sets-eq (entriesIn (pieces table 44)) old 0 (omega arith)) }
+module _ {g : List ℕ → List ℕ} (spelling : Spelling g) where
+  pub write-start : (table old : List ℕ) → length (g (processors table)) ≤ length old → Writing g table old old 44 0
+  unfolding written processors
+  write-start table old h =
+      record { fits = omega arith; same = refl; rest = rw zero-add at (sets-eq (g (entriesIn (pieces table 44))) old 0 (omega arith)) }
 
-module _ {table old list : List ℕ} {at n : ℕ} (inv : Writing table old list at n) where
-  pub write-end : length table ≤ at → list ≡ written (processors table) old
-  unfolding entriesIn
-  write-end h = rw (pieces-end table at h) at (inv .rest)
-
-  pub write-cut : at < length table → sizeAt table at ≡ 0 → list ≡ written (processors table) old
-  unfolding entriesIn
-  write-cut more h = rw (pieces-cut table at more h) at (inv .rest)
-
-  module _ (more : sizeAt table at ≡ 0 → ⊥) where
-    abbrev one : List ℕ
-    one = entriesOf (partAt table at (sizeAt table at))
-
-    abbrev later : List ℕ
-    later = entriesIn (pieces table (at + sizeAt table at))
-
-    split : entriesIn (pieces table at) ≡ one ++ later
+  module _ {table old list : List ℕ} {at n : ℕ} (inv : Writing g table old list at n) where
+    pub write-end : length table ≤ at → list ≡ written (g (processors table)) old
     unfolding entriesIn
-    split = rw (pieces-next table at more)
+    write-end h = rw (pieces-end table at h, spelling .none) at (inv .rest)
 
-    room : n + (length one + length later) ≤ length list
-    room = rw (split, length-append) at (inv .fits)
+    pub write-cut : at < length table → sizeAt table at ≡ 0 → list ≡ written (g (processors table)) old
+    unfolding entriesIn
+    write-cut more h = rw (pieces-cut table at more h, spelling .none) at (inv .rest)
 
-    pub write-room : {part : List ℕ} → part ≡ partAt table at (sizeAt table at) → n + length (entriesOf part) ≤ length list
-    write-room e = let all = room in rw e (omega arith)
+    module _ (more : sizeAt table at ≡ 0 → ⊥) where
+      abbrev one : List ℕ
+      one = g (entriesOf (partAt table at (sizeAt table at)))
 
-    pub write-next : {part list′ : List ℕ} {to n′ : ℕ} → list′ ≡ sets list n (entriesOf part)
-        → n′ ≡ n + length (entriesOf part) → part ≡ partAt table at (sizeAt table at) → to ≡ at + sizeAt table at
-        → Writing table old list′ to n′
-    write-next e k p g =
-        let all = room in
-        let size = length-sets list n one in
-        rw (e, k, g, p)
-        (record {
-          fits = rw size (omega arith);
-          same = rw size (inv .same);
-          rest = sym (sets-append list n one later) ∙ (rw split at (inv .rest));
-        })
+      abbrev later : List ℕ
+      later = g (entriesIn (pieces table (at + sizeAt table at)))
+
+      split : g (entriesIn (pieces table at)) ≡ one ++ later
+      unfolding entriesIn
+      split = rw (pieces-next table at more) (spelling .joined _ _)
+
+      room : n + (length one + length later) ≤ length list
+      room = rw (split, length-append) at (inv .fits)
+
+      pub write-room : {part : List ℕ} → part ≡ partAt table at (sizeAt table at) → n + length (g (entriesOf part)) ≤ length list
+      write-room e = let all = room in rw e (omega arith)
+
+      pub write-next : {part list′ : List ℕ} {to n′ : ℕ} → list′ ≡ sets list n (g (entriesOf part))
+          → n′ ≡ n + length (g (entriesOf part)) → part ≡ partAt table at (sizeAt table at) → to ≡ at + sizeAt table at
+          → Writing g table old list′ to n′
+      write-next e k p q =
+          let all = room in
+          let size = length-sets list n one in
+          rw (e, k, q, p)
+          (record {
+            fits = rw size (omega arith);
+            same = rw size (inv .same);
+            rest = sym (sets-append list n one later) ∙ (rw split at (inv .rest));
+          })
 
 -- ---- a list that is too short, and one that has room
 module _ (entries list : List ℕ) where

@@ -1,5 +1,6 @@
 pub mod Cases
 pub mod Filling
+pub mod Image
 pub mod Twins
 pub mod Inside
 pub mod Agreement

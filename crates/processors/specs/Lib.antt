@@ -1,2 +1,3 @@
 pub mod Listing
+pub mod Image
 pub mod Repeats

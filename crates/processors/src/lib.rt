@@ -1,5 +1,6 @@
 // The processors of a MADT, given by its own bytes: how many are enabled, the list of their numbers, and refusal 39
 // (document 01, "What comes back" and "Refusals in order"). The table is read again for each of the three.
+pub mod bytes; // the same list as bytes, for the C entry
 pub mod list; // UID and physical ID of each enabled CORE
 pub mod repeats; // 39: a CORE that repeats an ID of an earlier one
 

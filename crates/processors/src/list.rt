@@ -15,7 +15,7 @@ pub(crate) fn is_core(structure: &[u8]) -> bool
 }
 
 // Whether it is an enabled CORE.
-fn is_enabled_core(structure: &[u8]) -> bool
+pub(crate) fn is_enabled_core(structure: &[u8]) -> bool
     ensures { λ r. ⌜ r ≡ isEnabledCore (now (structure .entry)) ⌝ }
 {
     let core = Core::from_bytes(structure);

@@ -1,9 +1,10 @@
 -- Laws of the reading's definitions: what each answer is, by what was found.
 use mathlib.Core.Bool.{true, false}
 use mathlib.Core.List.{List}
-use mathlib.Core.Path.{_≡_, refl}
-use Prim.Native.Nat.{ℕ, _+_, _≤_}
+use mathlib.Core.Path.{_≡_, refl, _∙_}
+use Prim.Native.Nat.{ℕ, _+_, _*_, _≤_}
 use native.Mathlib.Omega.{arith}
+use lib.Dec.{leb}
 use lib.ListN.{length, drop, length-take}
 use Rattle.words.specs.Refusals.{refused}
 use Rattle.words.specs.declared.Refusal.{Refusal}
@@ -19,12 +20,16 @@ use Rattle.lines.specs.declared.Verdict.{Verdict as Kept}
 use Rattle.lines.specs.declared.Verdict.the-variants as rules
 use Rattle.madt.specs.declared.Walked.{Walked}
 use Rattle.processors.specs.Listing.{processors, count, hasRoom, filled}
+use Rattle.processors.specs.Image.{image}
+use Rattle.processors.proofs.Image.{eight-each}
 use Rattle.processors.specs.declared.Repeat.{Repeat}
 use Rattle.processors.specs.declared.Repeat.the-variants.{At, Nowhere}
 use Rattle.reading.specs.Scan.{madtBytes, turnedDown, repeatRule, mapRule, inTurn, rulesAfterWalk, judged, afterWalk, afterSurvey, scan}
 use Rattle.lines.specs.Answers.{refusalCode}
-use Rattle.reading.specs.Entries.{asked}
-use Rattle.reading.specs.Reading.{withoutMap, answered, afterScan, readingOf, listFrom, listAfter}
+use Rattle.reading.specs.Entries.{asked, answerIn, readCode}
+use Rattle.reading.specs.Reading.{withoutMap, answered, tableOf, afterScan, readingOf, listFrom}
+use Rattle.reading.specs.declared.Answer.{Answer}
+use Rattle.reading.specs.declared.Answer.the-variants as answers
 use Rattle.reading.specs.declared.Answer.the-variants.{Read}
 
 -- the MADT's bytes are no more than its length
@@ -104,19 +109,19 @@ module _ (capture list : List ℕ) where
   unfolding readingOf afterScan
   reading-refused h = rw h
 
-  pub list-refused : {refusal : Refusal} → scan capture .verdict ≡ Refused refusal → listAfter capture list ≡ list
-  unfolding listAfter listFrom
-  list-refused h = rw h
-
   pub reading-sound : scan capture .verdict ≡ Sound
       → readingOf capture list ≡ answered (madtBytes capture (scan capture .madt)) (scan capture .map) list
-  unfolding readingOf afterScan
+  unfolding readingOf afterScan tableOf
   reading-sound h = rw h
 
-  pub list-sound : scan capture .verdict ≡ Sound
-      → listAfter capture list ≡ filled (processors (madtBytes capture (scan capture .madt))) list
-  unfolding listAfter listFrom
-  list-sound h = rw h
+  module _ (entries : List ℕ) where
+    pub list-refused : {refusal : Refusal} → scan capture .verdict ≡ Refused refusal → listFrom (scan capture .verdict) entries list ≡ list
+    unfolding listFrom
+    list-refused h = rw h
+
+    pub list-sound : scan capture .verdict ≡ Sound → listFrom (scan capture .verdict) entries list ≡ filled entries list
+    unfolding listFrom
+    list-sound h = rw h
 
 -- an entry's result, by the scan's verdict
 pub asked-refused : (v : Verdict) (answer : ℕ) {refusal : Refusal} → v ≡ Refused refusal → asked v answer ≡ refusalCode refusal
@@ -126,3 +131,24 @@ asked-refused v answer h = rw h
 pub asked-sound : (v : Verdict) (answer : ℕ) → v ≡ Sound → asked v answer ≡ answer
 unfolding asked
 asked-sound v answer h = rw h
+
+-- 60 over bytes: the room for the entries' bytes is the room for 8 × count
+eight-room : (table list : List ℕ) → leb (8 * count table) (length list) ≡ hasRoom (image (processors table)) list
+unfolding hasRoom
+eight-room table list = rw (eight-each table)
+
+pub in-read : (table list : List ℕ) → hasRoom (image (processors table)) list ≡ true → answerIn table list ≡ Read (count table)
+unfolding answerIn
+in-read table list h = yes-if _ _ _ (eight-room table list ∙ h)
+
+pub in-60 : (table list : List ℕ) → hasRoom (image (processors table)) list ≡ false → answerIn table list ≡ answers.Refused (refused 60 0)
+unfolding answerIn
+in-60 table list h = no-if _ _ _ (eight-room table list ∙ h) refl
+
+pub code-read : (answer : Answer) {count : ℕ} → answer ≡ Read count → readCode answer ≡ count
+unfolding readCode
+code-read answer h = rw h
+
+pub code-refused : (answer : Answer) {refusal : Refusal} → answer ≡ answers.Refused refusal → readCode answer ≡ refusalCode refusal
+unfolding readCode
+code-refused answer h = rw h

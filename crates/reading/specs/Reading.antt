@@ -6,14 +6,11 @@ use Rattle.words.specs.Refusals.{refused}
 use Rattle.words.specs.declared.Refusal.{Refusal}
 use Rattle.capture.specs.declared.Verdict.{Verdict}
 use Rattle.capture.specs.declared.Verdict.the-variants as verdicts
-use Rattle.tables.specs.declared.Table.{Table}
 use Rattle.lines.specs.declared.Map.{Map}
 use Rattle.processors.specs.Listing.{processors, count, hasRoom, filled}
 use Rattle.reading.specs.Scan.{madtBytes, emptyMap, scan}
-use Rattle.reading.specs.declared.Answer.{Answer}
 use Rattle.reading.specs.declared.Answer.the-variants.{Read, Refused}
 use Rattle.reading.specs.declared.Reading.{Reading}
-use Rattle.reading.specs.declared.Scan.{Scan}
 
 -- "A refusal returns its number and place, no map"
 unfoldable pub withoutMap : Refusal → Reading
@@ -25,17 +22,21 @@ answered table map list =
     if (hasRoom (processors table) list) (record { answer = Read (count table); map = map }) (withoutMap (refused 60 0))
 
 -- the answer after the scan
-unfoldable pub afterScan : List ℕ → Scan → Verdict → List ℕ → Reading
-afterScan capture s (verdicts.Refused refusal) list = withoutMap refusal
-afterScan capture s verdicts.Sound list = answered (madtBytes capture (s .madt)) (s .map) list
+unfoldable pub afterScan : Verdict → List ℕ → Map → List ℕ → Reading
+afterScan (verdicts.Refused refusal) table map list = withoutMap refusal
+afterScan verdicts.Sound table map list = answered table map list
+
+-- the MADT's bytes where the scan found one
+unfoldable pub tableOf : List ℕ → List ℕ
+tableOf capture = madtBytes capture (scan capture .madt)
 
 unfoldable pub readingOf : List ℕ → List ℕ → Reading
-readingOf capture list = afterScan capture (scan capture) (scan capture .verdict) list
+readingOf capture list = afterScan (scan capture .verdict) (tableOf capture) (scan capture .map) list
 
--- the list afterwards: filled by an answer, untouched by a refusal
-unfoldable pub listFrom : List ℕ → Scan → Verdict → List ℕ → List ℕ
-listFrom capture s (verdicts.Refused refusal) list = list
-listFrom capture s verdicts.Sound list = filled (processors (madtBytes capture (s .madt))) list
+-- the list afterwards: filled with entries by an answer, untouched by a refusal
+unfoldable pub listFrom : Verdict → List ℕ → List ℕ → List ℕ
+listFrom (verdicts.Refused refusal) entries list = list
+listFrom verdicts.Sound entries list = filled entries list
 
 unfoldable pub listAfter : List ℕ → List ℕ → List ℕ
-listAfter capture list = listFrom capture (scan capture) (scan capture .verdict) list
+listAfter capture list = listFrom (scan capture .verdict) (processors (tableOf capture)) list

@@ -1,8 +1,47 @@
 // The C entries: plain numbers and byte slices in, one number of 64 bits out. include/yasmirand.h declares them.
+use crate::Answer;
 use capture::Verdict;
 use lines::codes;
 ghost use mathlib.Core.Path.{_≡_};
-ghost use Rattle.reading.specs.Entries.{routeResult, traceResult};
+ghost use Rattle.processors.specs.Image.{image};
+ghost use Rattle.processors.specs.Listing.{processors, filled};
+ghost use Rattle.reading.specs.Entries.{answerIn, readCode, readResult, bytesAfter, routeResult, traceResult};
+
+// The list of bytes filled and its count, or refusal 60.
+fn answer_bytes(table: &[u8], list: &mut [u8]) -> Answer
+    ensures { λ r. ⌜ r ≡ answerIn (now (table .entry)) (now (list .entry)) ⌝ }
+    ensures { λ r. ⌜ now (list .exit) ≡ filled (image (processors (now (table .entry)))) (now (list .entry)) ⌝ }
+{
+    if processors::bytes::fill(table, list) {
+        return Answer::Read(processors::list::count(table));
+    }
+    Answer::Refused(words::refuse(60, 0))
+}
+
+fn read_code(answer: Answer) -> u64
+    ensures { λ r. ⌜ r ≡ readCode answer ⌝ }
+{
+    match answer {
+        Answer::Read(count) => count as u64,
+        Answer::Refused(refusal) => codes::refusal_code(refusal),
+    }
+}
+
+// The reading: UID and physical ID of each enabled processor are written to the front of the list, in table order, each as
+// four little-endian bytes. The result is their count, or refusal number × 2^48 + place; a refusal leaves the list as it was.
+#[no_mangle]
+pub extern "C" fn yasmirand_read(capture: &[u8], list: &mut [u8]) -> u64
+    ensures { λ r. ⌜ r ≡ readResult (now (capture .entry)) (now (list .entry)) ⌝ }
+    ensures { λ r. ⌜ now (list .exit) ≡ bytesAfter (now (capture .entry)) (now (list .entry)) ⌝ }
+{
+    let s = crate::scan_capture(capture);
+    let verdict = s.verdict;
+    let madt = s.madt;
+    match verdict {
+        Verdict::Refused(refusal) => codes::refusal_code(refusal),
+        Verdict::Sound => read_code(answer_bytes(crate::madt_bytes(capture, madt), list)),
+    }
+}
 
 // Where a global number arrives: kind × 2^40 + vector × 2^32 + number, or refusal number × 2^48 + place.
 #[no_mangle]

@@ -40,7 +40,7 @@ pub struct Reading {
     pub map: Map,
 }
 
-fn madt_bytes(capture: &[u8], madt: Table) -> &[u8]
+pub(crate) fn madt_bytes(capture: &[u8], madt: Table) -> &[u8]
     ensures { λ r. ⌜ now r ≡ madtBytes (now (capture .entry)) madt ⌝ }
 {
     words::part(capture, madt.place as usize, madt.length as usize)

@@ -3,7 +3,7 @@ use mathlib.Core.List.{List}
 use Prim.Native.Nat.{ℕ}
 use Rattle.processors.specs.Listing.{processors, filled}
 use Rattle.reading.specs.Scan.{madtBytes}
-use Rattle.reading.specs.Reading.{answered}
+use Rattle.reading.specs.Reading.{answered, tableOf, listAfter}
 use Rattle.reading.specs.declared.Scan.{Scan}
 use mathlib.Core.Path.{ap, sym, _∙_}
 use Rattle.reading.proofs.Laws.{reading-refused, list-refused, reading-sound, list-sound}
@@ -30,16 +30,18 @@ answer-list-requires : tie.Need-answer-list-requires
 answer-list-requires c κs = search needs
 
 returns : tie.Need-returns
+unfolding listAfter
 returns c =
     let s = c .before .before .before .before .before .before in
     let a = s .before .before .before .args in
     let refused = ap (λ (x : Scan). x .verdict) (sym (s .scan-capture .ensures)) ∙ c .before .before .verdict .given .1 in
-    (c .without-map .ensures ∙ sym (reading-refused (a .capture .now) (a .list .now) refused), sym (list-refused (a .capture .now) (a .list .now) refused))
+    (c .without-map .ensures ∙ sym (reading-refused (a .capture .now) (a .list .now) refused), sym (list-refused (a .capture .now) (a .list .now) _ refused))
 
 same-length : tie.Need-same-length
 same-length c = search needs
 
 returns-2 : tie.Need-returns-2
+unfolding listAfter tableOf
 returns-2 c =
     let l = c .before .before in
     let b = l .before .before in
@@ -56,7 +58,7 @@ returns-2 c =
       l .answer-list .ensures .1
           ∙ ap (λ (x : List ℕ). filled (processors x) list) (b .madt-bytes .ensures)
           ∙ ap (λ (x : Scan). filled (processors (madtBytes capture (x .madt))) list) (s .scan-capture .ensures)
-          ∙ sym (list-sound capture list sound),
+          ∙ sym (list-sound capture list _ sound),
     )
 
 pub read-spec : {M : Type 1} → statement M

@@ -1,0 +1,82 @@
+-- `reading::entries::yasmirand_read` scans, and fills the list of bytes only where it answers.
+use mathlib.Core.Path.{ap, sym, _∙_}
+use mathlib.Core.List.{List}
+use Prim.Native.Nat.{ℕ}
+use Rattle.processors.specs.Image.{image}
+use Rattle.processors.specs.Listing.{processors, filled}
+use Rattle.reading.specs.Scan.{madtBytes}
+use Rattle.reading.specs.Reading.{tableOf}
+use Rattle.reading.specs.Entries.{answerIn, readCode, readResult, bytesAfter}
+use Rattle.reading.specs.declared.Scan.{Scan}
+use Rattle.reading.proofs.Laws.{asked-refused, asked-sound, list-refused, list-sound}
+use borrow.Author.Needs.{needs}
+use Rattle.reading.proofs.entries.yasmirand_read.Statement.{statement}
+use Rattle.reading.proofs.entries.yasmirand_read.Tie as tie
+
+scan-capture-requires : tie.Need-scan-capture-requires
+scan-capture-requires c κs = search needs
+
+enum-known-verdict : tie.Need-enum-known-verdict
+enum-known-verdict c = search needs
+
+refusal-code-requires : tie.Need-refusal-code-requires
+refusal-code-requires c κs = search needs
+
+enum-told : tie.Need-enum-told
+enum-told c = search needs
+
+madt-bytes-requires : tie.Need-madt-bytes-requires
+madt-bytes-requires c κs = search needs
+
+answer-bytes-requires : tie.Need-answer-bytes-requires
+answer-bytes-requires c κs = search needs
+
+read-code-requires : tie.Need-read-code-requires
+read-code-requires c κs = search needs
+
+returns : tie.Need-returns
+unfolding readResult bytesAfter
+returns c =
+    let s = c .before .before .before .before .before in
+    let a = s .before .before .before .args in
+    let refused = ap (λ (x : Scan). x .verdict) (sym (s .scan-capture .ensures)) ∙ c .before .before .verdict .given .1 in
+    (c .refusal-code .ensures ∙ sym (asked-refused _ _ refused), sym (list-refused (a .capture .now) (a .list .now) _ refused))
+
+same-length : tie.Need-same-length
+same-length c = search needs
+
+returns-2 : tie.Need-returns-2
+unfolding readResult bytesAfter tableOf
+returns-2 c =
+    let f = c .before .before .before in
+    let m = f .before .before in
+    let s = m .before .before .before .before in
+    let a = s .before .before .before .args in
+    let capture = a .capture .now in
+    let list = a .list .now in
+    let sound = ap (λ (x : Scan). x .verdict) (sym (s .scan-capture .ensures)) ∙ m .before .enum-told .given .1 in (
+      c .read-code .ensures
+          ∙ ap readCode (f .answer-bytes .ensures .0)
+          ∙ ap (λ (x : List ℕ). readCode (answerIn x list)) (m .madt-bytes .ensures)
+          ∙ ap (λ (x : Scan). readCode (answerIn (madtBytes capture (x .madt)) list)) (s .scan-capture .ensures)
+          ∙ sym (asked-sound _ _ sound),
+      f .answer-bytes .ensures .1
+          ∙ ap (λ (x : List ℕ). filled (image (processors x)) list) (m .madt-bytes .ensures)
+          ∙ ap (λ (x : Scan). filled (image (processors (madtBytes capture (x .madt)))) list) (s .scan-capture .ensures)
+          ∙ sym (list-sound capture list _ sound),
+    )
+
+pub yasmirand-read-spec : {M : Type 1} → statement M
+yasmirand-read-spec =
+    tie.close
+    (tie.spec
+    scan-capture-requires
+    enum-known-verdict
+    refusal-code-requires
+    enum-told
+    madt-bytes-requires
+    answer-bytes-requires
+    read-code-requires
+    returns
+    same-length
+    returns-2)
