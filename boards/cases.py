@@ -11,7 +11,8 @@ import sys
 from board import A, BASE, STRUCTURES_OF_A, bio, board, capture, core, eio, fadt, ht, image, lay, le, lio, lpc, madt, msi, rsdp
 from board import structure, summed, table
 
-CHECK, RSDP, LOCATE, SURVEY, READ, ROUTE, TRACE = range(7)  # the kinds of question that crates/vectors/src/main.rt knows
+# The kinds of question that crates/vectors/src/main.rt knows.
+CHECK, RSDP, LOCATE, SURVEY, READ, ROUTE, TRACE, READ_BYTES = range(8)
 TOP = 1 << 64
 cases = []
 
@@ -258,6 +259,11 @@ def read(label, data, answer, room=512):
     ask(READ, label, data, answer, room)
 
 
+def read_bytes(label, data, answer, room):
+    """The same by the C entry: a list of `room` bytes."""
+    ask(READ_BYTES, label, data, answer, room)
+
+
 def route(label, data, number, answer):
     ask(ROUTE, label, data, answer, number)
 
@@ -401,6 +407,20 @@ read("60: no list", A, refused(60, 0), 0)
 read("60: a list of 5", A, TWO, 5)
 read("60 after 54", board(sci=45), refused(54, 294), 0)
 
+# The list as bytes, four little-endian ones a number.
+BYTES_OF_TWO = "read 2" + " 0" * 8 + " 1 0 0 0" * 2
+for room in (16, 17, 18, 19, 20, 2048):
+    read_bytes(f"C: a list of {room} bytes", A, BYTES_OF_TWO, room)
+for room in (0, 1, 8, 15):
+    read_bytes(f"C: a list of {room} bytes", A, refused(60, 0), room)
+read_bytes("C: byte order", put(0, core(0x04030201, 0xFFFEFDFC)), "read 2 1 2 3 4 252 253 254 255 1 0 0 0 1 0 0 0", 16)
+read_bytes("C: 256 processors", made(*[core(k, 255 - k) for k in range(256)], L, eio(3, 0)),
+           "read 256" + "".join(f" {k} 0 0 0 {255 - k} 0 0 0" for k in range(256)).replace(" 165", ""), 2048)
+read_bytes("C: 256 processors, one byte short", made(*[core(k, k) for k in range(256)], L, eio(3, 0)), refused(60, 0), 2047)
+read_bytes("C: a refusal leaves the list", put(MSI, msi(63, 193)), refused(52, 262), 16)
+read_bytes("C: 54 before 60", board(sci=45), refused(54, 294), 0)
+read_bytes("C: no bytes", b"", refused(1, 0), 16)
+
 # Routes and traces by the C entries: kind, vector or node, number.
 for number, answer in ((72, "kind 0 3 8"), (26, "kind 0 2 10"), (3, "kind 0 3 19"), (45, "kind 1 0 0"), (50, "kind 2 0 0"),
                        (128, "kind 2 0 0"), (127, "kind 0 3 63"), (83, "kind 0 3 19"), (0xFFFFFFFF, "kind 2 0 0")):
@@ -429,7 +449,12 @@ for name, answer in [
     ("p14-twobridge", refused(52, 16646)),
     ("p15-twobridge-onemsi", "read 8" + "".join(f" {k} {k}" for k in range(8))),
 ]:
-    read("real: " + name, (REAL / (name + ".cap")).read_bytes(), answer)
+    real = (REAL / (name + ".cap")).read_bytes()
+    read("real: " + name, real, answer)
+    verdict, *numbers = answer.split()
+    if verdict == "read":
+        answer = "read " + numbers[0] + "".join(f" {number} 0 0 0" for number in numbers[1:])
+    read_bytes("real, for C: " + name, real, answer, 2048)
 
 
 ROOT = pathlib.Path(__file__).resolve().parent.parent

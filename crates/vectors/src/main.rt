@@ -44,7 +44,11 @@ const ROUTE: u32 = 5;
 
 const TRACE: u32 = 6;
 
+const READ_BYTES: u32 = 7;
+
 const MOST_NUMBERS: usize = 520;
+
+const MOST_LIST_BYTES: usize = 2080;
 
 // What stands above the place of a refusal in a C result, above both values of an answer, and above its second value.
 const REFUSALS: u64 = 281474976710656;
@@ -55,6 +59,8 @@ const HIGH: u64 = 4294967296;
 
 // What a lent list holds before the call.
 const UNTOUCHED: u32 = 0xA5A5A5A5;
+
+const UNTOUCHED_BYTE: u8 = 0xA5;
 
 fn say(text: &[u8]) {
     io::write_all(STDOUT_FILENO, text);
@@ -149,6 +155,45 @@ fn answer_read(bytes: &[u8], room: usize) {
     read_into(bytes, &mut list, room);
 }
 
+fn wide_byte(byte: u8) -> u64 {
+    byte as u64
+}
+
+// Every byte of a list that is not as it was.
+fn say_bytes(list: &[u8]) {
+    let mut i = 0;
+    while i < list.len() {
+        if list[i] != UNTOUCHED_BYTE {
+            say_number(b" ", wide_byte(list[i]));
+        }
+        i += 1;
+    }
+}
+
+// The result of the reading for C: a refusal, or the count.
+fn say_count(result: u64) {
+    if REFUSALS <= result {
+        say_result(result);
+        return;
+    }
+    say_number(b"read ", result);
+}
+
+// The reading for C with the first bytes of a list lent, and the whole list afterwards.
+fn read_bytes_into(bytes: &[u8], list: &mut [u8], room: usize) {
+    if list.len() < room {
+        return;
+    }
+    let result = reading::entries::yasmirand_read(bytes, &mut list[..room]);
+    say_count(result);
+    say_bytes(list);
+}
+
+fn answer_read_bytes(bytes: &[u8], room: usize) {
+    let mut list = [UNTOUCHED_BYTE; MOST_LIST_BYTES];
+    read_bytes_into(bytes, &mut list, room);
+}
+
 // A C result: a refusal, or kind, high value and low value.
 fn say_result(result: u64) {
     if REFUSALS <= result {
@@ -187,6 +232,7 @@ fn answer(head: &[u8], bytes: &[u8]) {
             words::u32_at(head, FIRST),
             words::u32_at(head, SECOND),
         ),
+        READ_BYTES => answer_read_bytes(bytes, words::u32_at(head, FIRST) as usize),
         _ => say(b"no such question"),
     }
 }
