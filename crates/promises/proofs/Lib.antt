@@ -20,3 +20,9 @@ pub mod SearchNames
 pub mod BoardA
 pub mod RefusedExactly
 pub mod CodesApart
+pub mod Shelves
+pub mod Books
+pub mod InOrder
+pub mod Unused
+pub mod Takings
+pub mod WalkKeepsBooks
