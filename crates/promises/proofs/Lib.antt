@@ -26,3 +26,5 @@ pub mod InOrder
 pub mod Unused
 pub mod Takings
 pub mod WalkKeepsBooks
+pub mod Scanned
+pub mod AcceptedIsTrustworthy

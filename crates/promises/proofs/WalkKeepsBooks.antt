@@ -31,7 +31,7 @@ use Rattle.promises.proofs.Unused.{lio-unused, lpc-unused}
 use Rattle.promises.proofs.Takings.{is-zero, takes-keep}
 
 -- ---- the walk
-not-sound : {refusal : Refusal} {X : Type 0} → _≡_ {A = Verdict} (Refused refusal) Sound → X
+pub not-sound : {refusal : Refusal} {X : Type 0} → _≡_ {A = Verdict} (Refused refusal) Sound → X
 not-sound e = absurd (let o : _≡_ {A = ℕ} 0 1 = cc in omega arith)
 
 module _ (base until sci : ℕ) where

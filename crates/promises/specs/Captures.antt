@@ -4,16 +4,26 @@ use mathlib.Core.Bool.{true, false}
 use mathlib.Core.List.{List}
 use mathlib.Core.Path.{_≡_}
 use lib.ListN.{length, getD}
+use Rattle.words.specs.declared.Refusal.{Refusal}
 use Rattle.capture.specs.declared.Verdict.the-variants.{Sound}
+use Rattle.tables.specs.declared.Tables.{Tables}
 use Rattle.kinds.specs.Ranges.{bitInBoth}
 use Rattle.kinds.specs.Used.{noHalf}
 use Rattle.lines.specs.Says.{says}
-use Rattle.lines.specs.Rules.{tooMany, rangesKept}
+use Rattle.lines.specs.Rules.{tooMany, rangesKept, keepsRules}
+use Rattle.lines.specs.Answers.{routeOf, traceOf}
 use Rattle.lines.specs.declared.Map.{Map}
 use Rattle.lines.specs.declared.Places.{Places}
+use Rattle.lines.specs.declared.Route.the-variants.{Arrives, Refused as NoRoute}
+use Rattle.lines.specs.declared.Trace.the-variants.{Refused as NoTrace}
 use Rattle.madt.specs.Walk.{walked}
+use Rattle.madt.specs.declared.Walked.{Walked}
+use Rattle.reading.specs.Scan.{madtBytes, scan}
+use Rattle.reading.specs.Reading.{readingOf}
+use Rattle.reading.specs.declared.Answer.the-variants.{Read}
 use Rattle.promises.specs.Sources.{noEio, noBio, noMsi}
 use Rattle.promises.specs.Structures.{Placed}
+use Rattle.promises.specs.Statements.{NoTwoAlike, TracingNames, NothingExactly, LpcLinesShare, ThereAndBack}
 
 -- ---- the walk keeps its books
 -- "its unused places, an unused half's byte among them, hold 0": of the four places for EIO, BIO and MSI those past the count;
@@ -44,3 +54,39 @@ WalkKeepsBooks table base sci =
     walked table base sci .verdict ≡ Sound
     → WellKept (walked table base sci .found .map) (walked table base sci .found .places)
     × (walked table base sci .found .map .sci ≡ sci)
+
+-- ---- demand 3: "Take any accepted capture"
+-- no rule from 1 to 54 is broken
+abbrev pub Accepted : List ℕ → Type 0
+Accepted capture = scan capture .verdict ≡ Sound
+
+-- what a person at the bench may rely on in a map
+pub record Trustworthy (map : Map) : Type 0 where
+  -- it keeps 36 to 38 and 40 to 54, and its unused places hold 0
+  pub keeps : keepsRules map ≡ true
+  pub normal : Normal map
+  -- 61 is never given: every question about it is answered
+  pub routes : (number : ℕ) (r : Refusal) → routeOf map number ≡ NoRoute r → ⊥
+  pub traces : (vector number : ℕ) (r : Refusal) → traceOf map vector number ≡ NoTrace r → ⊥
+  -- the SCI arrives somewhere
+  pub sci : (vector : ℕ) × (number : ℕ) × (routeOf map (map .sci) ≡ Arrives vector number)
+  -- "Two different sources never arrive at the same core vector with the same number"
+  pub alike : NoTwoAlike (says map)
+  -- "tracing any vector and number back names the one source that arrives there, and says that none does exactly when none does"
+  pub tracing : TracingNames map
+  pub nothing : NothingExactly map
+  -- "The sixteen LPC lines count as the one pin that they share"; and tracing is the way back
+  pub lpc : LpcLinesShare map
+  pub back : ThereAndBack map
+
+-- the map of an accepted capture is that
+abbrev pub AcceptedIsTrustworthy : List ℕ → Type 0
+AcceptedIsTrustworthy capture = Accepted capture → Trustworthy (scan capture .map)
+
+-- and so is the map that the reading hands back with a count
+abbrev pub ReadIsTrustworthy : List ℕ → List ℕ → Type 0
+ReadIsTrustworthy capture list = (count : ℕ) → readingOf capture list .answer ≡ Read count → Trustworthy (readingOf capture list .map)
+
+-- the walk of the MADT of the tables that a capture has
+abbrev pub walkOf : List ℕ → Tables → Walked
+walkOf capture t = walked (madtBytes capture (t .madt)) (t .madt .place) (t .sci)
