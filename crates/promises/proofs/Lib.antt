@@ -28,3 +28,4 @@ pub mod Takings
 pub mod WalkKeepsBooks
 pub mod Scanned
 pub mod AcceptedIsTrustworthy
+pub mod RefusedExactlyForSharing

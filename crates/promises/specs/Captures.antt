@@ -4,25 +4,33 @@ use mathlib.Core.Bool.{true, false}
 use mathlib.Core.List.{List}
 use mathlib.Core.Path.{_≡_}
 use lib.ListN.{length, getD}
+use Rattle.words.specs.Refusals.{refused}
 use Rattle.words.specs.declared.Refusal.{Refusal}
-use Rattle.capture.specs.declared.Verdict.the-variants.{Sound}
+use Rattle.capture.specs.declared.Verdict.the-variants.{Sound, Refused}
+use Rattle.tables.specs.Survey.{survey}
 use Rattle.tables.specs.declared.Tables.{Tables}
+use Rattle.tables.specs.declared.Survey.the-variants.{Found}
 use Rattle.kinds.specs.Ranges.{bitInBoth}
 use Rattle.kinds.specs.Used.{noHalf}
 use Rattle.lines.specs.Says.{says}
-use Rattle.lines.specs.Rules.{tooMany, rangesKept, keepsRules}
+use Rattle.lines.specs.Claims.{claims}
+use Rattle.lines.specs.Rules.{tooMany, rangesKept, rule40, rule41, rule42, rule43, keepsRules}
 use Rattle.lines.specs.Answers.{routeOf, traceOf}
 use Rattle.lines.specs.declared.Map.{Map}
 use Rattle.lines.specs.declared.Places.{Places}
 use Rattle.lines.specs.declared.Route.the-variants.{Arrives, Refused as NoRoute}
 use Rattle.lines.specs.declared.Trace.the-variants.{Refused as NoTrace}
+use Rattle.lines.specs.declared.Verdict.the-variants.{Kept}
 use Rattle.madt.specs.Walk.{walked}
 use Rattle.madt.specs.declared.Walked.{Walked}
+use Rattle.processors.specs.Listing.{count}
+use Rattle.processors.specs.Repeats.{firstRepeat}
+use Rattle.processors.specs.declared.Repeat.the-variants.{Nowhere}
 use Rattle.reading.specs.Scan.{madtBytes, scan}
 use Rattle.reading.specs.Reading.{readingOf}
 use Rattle.reading.specs.declared.Answer.the-variants.{Read}
 use Rattle.promises.specs.Sources.{noEio, noBio, noMsi}
-use Rattle.promises.specs.Structures.{Placed}
+use Rattle.promises.specs.Structures.{Placed, Shared}
 use Rattle.promises.specs.Statements.{NoTwoAlike, TracingNames, NothingExactly, LpcLinesShare, ThereAndBack}
 
 -- ---- the walk keeps its books
@@ -87,6 +95,34 @@ AcceptedIsTrustworthy capture = Accepted capture → Trustworthy (scan capture .
 abbrev pub ReadIsTrustworthy : List ℕ → List ℕ → Type 0
 ReadIsTrustworthy capture list = (count : ℕ) → readingOf capture list .answer ≡ Read count → Trustworthy (readingOf capture list .map)
 
--- the walk of the MADT of the tables that a capture has
+-- ---- demand 3, its last sentence
+-- the walk of the MADT of the tables that were found in a capture
 abbrev pub walkOf : List ℕ → Tables → Walked
 walkOf capture t = walked (madtBytes capture (t .madt)) (t .madt .place) (t .sci)
+
+-- "A capture that breaks no earlier rule": none from 1 to 43
+pub record NothingBefore51 (capture : List ℕ) (t : Tables) : Type 0 where
+  -- 1 to 30; the tables are t
+  pub tables : survey capture ≡ Found t
+  -- 31 to 38, structure by structure
+  pub structures : walkOf capture t .verdict ≡ Sound
+  -- no CORE repeats an ID, and one is enabled
+  pub r39 : firstRepeat (madtBytes capture (t .madt)) ≡ Nowhere
+  pub r40core : count (madtBytes capture (t .madt)) ≡ 0 → ⊥
+  -- the rest of 40, and 41 to 43, of the map that the walk found
+  pub r40 : rule40 (says (walkOf capture t .found .map)) (t .madt .place) ≡ Kept
+  pub r41 : rule41 (claims (says (walkOf capture t .found .map)) (walkOf capture t .found .places)) ≡ Kept
+  pub r42 : rule42 (claims (says (walkOf capture t .found .map)) (walkOf capture t .found .places)) ≡ Kept
+  pub r43 : rule43 (says (walkOf capture t .found .map)) (walkOf capture t .found .places .lpc) ≡ Kept
+
+-- "refused for a clash": with 51, 52 or 53
+abbrev pub RefusedAsClash : List ℕ → Type 0
+RefusedAsClash capture = (n : ℕ) × (place : ℕ) × (51 ≤ n) × (n ≤ 53) × (scan capture .verdict ≡ Refused (refused n place))
+
+-- "exactly when two sources share a global number or an extended vector of one EIO, or two controllers enter by one core
+-- vector", in the map that the walk found
+abbrev pub RefusedExactlyForSharing : List ℕ → Tables → Type 0
+RefusedExactlyForSharing capture t =
+    NothingBefore51 capture t
+    → (RefusedAsClash capture → Shared (says (walkOf capture t .found .map)))
+    × (Shared (says (walkOf capture t .found .map)) → RefusedAsClash capture)
