@@ -29,3 +29,9 @@ pub mod WalkKeepsBooks
 pub mod Scanned
 pub mod AcceptedIsTrustworthy
 pub mod RefusedExactlyForSharing
+pub mod Told
+pub mod CaptureRefusals
+pub mod TableRefusals
+pub mod WalkRefusals
+pub mod MapRefusals
+pub mod EveryRefusal

@@ -8,7 +8,6 @@ use borrow.Author.Tests.{ne-eqb}
 use Rattle.words.specs.Refusals.{refused}
 use Rattle.words.specs.declared.Refusal.{Refusal}
 use Rattle.words.proofs.Choices.{no-if}
-use Rattle.capture.specs.declared.Verdict.{Verdict}
 use Rattle.capture.specs.declared.Verdict.the-variants.{Sound, Refused}
 use Rattle.tables.specs.declared.Tables.{Tables}
 use Rattle.lines.specs.Rules.{firstBroken}
@@ -16,23 +15,18 @@ use Rattle.lines.specs.declared.Map.{Map}
 use Rattle.lines.specs.declared.Verdict.{Verdict as Rules}
 use Rattle.lines.specs.declared.Verdict.the-variants.{Kept, Broken}
 use Rattle.processors.specs.Listing.{count}
-use Rattle.reading.specs.Scan.{madtBytes, turnedDown, processorRule, mapRule, rulesAfterWalk, judged, afterSurvey, scan}
+use Rattle.reading.specs.Scan.{madtBytes, processorRule, mapRule, rulesAfterWalk, afterSurvey, scan}
 use Rattle.reading.proofs.Laws.{repeat-none, turn-sound, walk-sound, scan-found}
 use Rattle.promises.specs.Statements.{KeepsTo43, RefusedForClash}
 use Rattle.promises.specs.Captures.{walkOf, NothingBefore51, RefusedAsClash, RefusedExactlyForSharing}
 use Rattle.promises.proofs.ClashExactly.{clash-exactly}
+use Rattle.promises.proofs.Scanned.{verdict-left}
 use Rattle.promises.proofs.WalkKeepsBooks.{walk-keeps-books}
 
 -- 40: some processor is enabled
 enabled : (base n : ℕ) → (n ≡ 0 → ⊥) → processorRule base n ≡ Sound
 unfolding processorRule
 enabled base n h = no-if _ _ _ (ne-eqb n 0 h) refl
-
--- the verdict is left as it is
-verdict-left : (t : Tables) (map : Map) (v : Verdict) → judged t map v .verdict ≡ v
-unfolding judged turnedDown
-verdict-left t map Sound = refl
-verdict-left t map (Refused r) = refl
 
 -- a broken rule is the refusal, and a refusal is of a broken rule
 of-map-rule : (v : Rules) (r : Refusal) → mapRule v ≡ Refused r → (partner : ℕ) × (v ≡ Broken r partner)

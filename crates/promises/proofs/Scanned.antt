@@ -29,6 +29,12 @@ unfolding judged turnedDown
 left t map Sound h = (refl, refl)
 left t map (Refused r) h = not-sound h
 
+-- a verdict is left as it is
+pub verdict-left : (t : Tables) (map : Map) (v : Verdict) → judged t map v .verdict ≡ v
+unfolding judged turnedDown
+verdict-left t map Sound = refl
+verdict-left t map (Refused r) = refl
+
 map-rule : (v : Rules) → mapRule v ≡ Sound → v ≡ rules.Kept
 unfolding mapRule
 map-rule rules.Kept h = refl

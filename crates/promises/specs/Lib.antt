@@ -2,3 +2,4 @@ pub mod Sources
 pub mod Structures
 pub mod Statements
 pub mod Captures
+pub mod RefusalTable

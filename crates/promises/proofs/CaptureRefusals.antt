@@ -1,0 +1,77 @@
+-- Refusals 1 to 10: of the capture itself, and of a RSDP that is not there.
+use Prim.Native.Nat.{ℕ, _+_, _<_, _≤_}
+use native.Mathlib.Omega.{arith}
+use mathlib.Core.Path.{_≡_, refl}
+use mathlib.Core.Logic.{inl, inr}
+use mathlib.Core.List.{List}
+use mathlib.Core.Bool.{false, not, _||_}
+use borrow.Author.Tests.{ltb-false}
+use lib.Dec.{eqb, ltb}
+use lib.ListN.{length}
+use Rattle.words.specs.Lists.{numbersBelow}
+use Rattle.words.specs.Refusals.{refused}
+use Rattle.words.proofs.Tests.{neither-left}
+use Rattle.capture.specs.Fields.{segmentCount, totalLength, headerSize, descriptor, descriptorsEnd, segments, lengths, rsdpAddress}
+use Rattle.capture.specs.Rules.{wrongTotal, segmentBroken, segmentRules, verdict}
+use Rattle.capture.specs.Presence.{located, rsdpSize, presentOr10, rsdpPresence, afterVerdict, rsdp}
+use Rattle.capture.specs.declared.Verdict.{Verdict}
+use Rattle.capture.specs.declared.Verdict.the-variants.{Sound, Refused}
+use Rattle.capture.specs.declared.Stretch.{Stretch}
+use Rattle.capture.specs.declared.Stretch.the-variants.{Present, Absent}
+use Rattle.capture.specs.declared.Root.{Root}
+use Rattle.capture.specs.declared.Root.the-variants as roots
+use Rattle.capture.proofs.Within.{sound-length}
+use Rattle.processors.proofs.Cases.{if-cases}
+use Rattle.promises.specs.RefusalTable.{OfTheTable}
+use Rattle.promises.proofs.Told.{Told, tell, search-told}
+
+-- where 5 is kept, the descriptors are inside the capture
+descriptors-inside : (capture : List ℕ) → wrongTotal capture ≡ false → descriptorsEnd capture ≤ length capture
+unfolding wrongTotal
+descriptors-inside capture h =
+    let past = ltb (length capture) (descriptorsEnd capture) in
+    let length-wrong = not (eqb (totalLength capture) (length capture)) in
+    ltb-false (length capture) (descriptorsEnd capture)
+    (neither-left past length-wrong
+    (neither-left (past || length-wrong) (not (eqb (descriptorsEnd capture + lengths capture (segmentCount capture)) (length capture))) h))
+
+-- 6
+segments-told : (capture : List ℕ) → wrongTotal capture ≡ false → Told capture (segmentRules capture)
+unfolding segmentRules segments numbersBelow descriptorsEnd descriptor headerSize
+segments-told capture h =
+    search-told (Told capture) (segmentBroken capture) (λ (i : ℕ). Refused (refused 6 (descriptor capture i))) Sound 0 (segmentCount capture)
+    (λ i l below. tell capture 6 (descriptor capture i) refl (inr (omega (arith, descriptors-inside capture h))))
+    (omega arith)
+
+-- 1 to 6
+pub verdict-told : (capture : List ℕ) → Told capture (verdict capture)
+unfolding verdict
+verdict-told capture =
+    if-cases (Told capture) _ _ _ (λ t. tell capture 1 0 refl (inl refl))
+    (λ t. if-cases (Told capture) _ _ _ (λ t. tell capture 2 0 refl (inl refl))
+    (λ t. if-cases (Told capture) _ _ _ (λ t. tell capture 3 0 refl (inl refl))
+    (λ t. if-cases (Told capture) _ _ _ (λ t. tell capture 4 0 refl (inl refl))
+    (λ t. if-cases (Told capture) _ _ _ (λ t. tell capture 5 0 refl (inl refl))
+    (λ t. segments-told capture t)))))
+
+-- 10
+abbrev pub RootTold : List ℕ → Root → Type 0
+RootTold capture (roots.At place) = 0 < 1
+RootTold capture (roots.Refused r) = OfTheTable capture r
+
+long-enough : (capture : List ℕ) → verdict capture ≡ Sound → 18 ≤ length capture
+unfolding descriptorsEnd descriptor headerSize
+long-enough capture sound = omega (arith, sound-length capture sound)
+
+presence-told : (capture : List ℕ) → 18 ≤ length capture → (s : Stretch) → RootTold capture (presentOr10 s)
+unfolding presentOr10
+presence-told capture l (Present place) = omega arith
+presence-told capture l Absent = tell capture 10 10 refl (inr (omega arith))
+
+pub rsdp-told : (capture : List ℕ) → RootTold capture (rsdp capture)
+unfolding rsdp afterVerdict rsdpPresence
+rsdp-told capture = go (verdict capture) refl (verdict-told capture)
+  where
+    go : (v : Verdict) → verdict capture ≡ v → Told capture v → RootTold capture (afterVerdict v (rsdpPresence capture))
+    go (Refused r) e told = told
+    go Sound e told = presence-told capture (long-enough capture e) (located capture (rsdpAddress capture) rsdpSize)

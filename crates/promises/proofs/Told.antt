@@ -1,0 +1,52 @@
+-- Verdicts whose refusals are of the table: a chain of rules, a search and a fold give one where each of their answers is one.
+use Prim.Native.Nat.{ℕ, zero, suc, _+_, _<_, _≤_}
+use native.Mathlib.Omega.{arith}
+use mathlib.Core.Path.{_≡_, refl}
+use mathlib.Core.Logic.{_⊎_}
+use mathlib.Core.List.{List, [], _∷_, List·Memᴰ, List·Memᴰ·head, List·Memᴰ·tail}
+use mathlib.Core.Bool.{Bool, true}
+use lib.ListN.{length}
+use Rattle.words.specs.Lists.{first, numbersFrom}
+use Rattle.words.specs.Refusals.{refused}
+use Rattle.capture.specs.declared.Verdict.{Verdict}
+use Rattle.capture.specs.declared.Verdict.the-variants.{Sound, Refused}
+use Rattle.clashes.specs.Folds.{fold}
+use Rattle.processors.proofs.Cases.{if-cases}
+use Rattle.reading.specs.Scan.{inTurn}
+use Rattle.promises.specs.RefusalTable.{isRefusalNumber, OfTheTable}
+
+-- a verdict that refuses nothing, or with a refusal of the table
+abbrev pub Told : List ℕ → Verdict → Type 0
+Told capture Sound = 0 < 1
+Told capture (Refused r) = OfTheTable capture r
+
+-- ---- one refusal
+abbrev pub PlaceOf : List ℕ → ℕ → Type 0
+PlaceOf capture place = (place ≡ 0) ⊎ (place < length capture)
+
+pub tell : (capture : List ℕ) (n place : ℕ) → isRefusalNumber n ≡ true → PlaceOf capture place → OfTheTable capture (refused n place)
+tell capture n place number at = record { number = number; place = at }
+
+-- ---- rules in turn
+pub turn-told : (capture : List ℕ) (v later : Verdict) → Told capture v → (v ≡ Sound → Told capture later) → Told capture (inTurn v later)
+unfolding inTurn
+turn-told capture Sound later here after = after refl
+turn-told capture (Refused r) later here after = here
+
+-- ---- a search of numbers gives an answer of one of them, or the one for none
+pub search-told : {R : Type 0} (P : R → Type 0) (test : ℕ → Bool) (found : ℕ → R) (none : R) (from k : ℕ)
+    → ((i : ℕ) → from ≤ i → i < from + k → P (found i)) → P none → P (first test found none (numbersFrom from k))
+unfolding first numbersFrom
+search-told P test found none from zero each last = last
+search-told P test found none from (suc k) each last =
+    if-cases P (test from) _ _
+    (λ t. each from (omega arith) (omega arith))
+    (λ t. search-told P test found none (from + 1) k (λ i l h. each i (omega arith) (omega arith)) last)
+
+-- ---- a fold keeps what each of its steps keeps
+pub fold-told : {A B : Type 0} (P : B → Type 0) (step : B → A → B) (l : List A)
+    → ((best : B) (x : A) → List·Memᴰ x l → P best → P (step best x)) → (best : B) → P best → P (fold step best l)
+unfolding fold
+fold-told P step [] each best p = p
+fold-told P step (x ∷ xs) each best p =
+    fold-told P step xs (λ b y m. each b y (List·Memᴰ·tail m)) (step best x) (each best x (List·Memᴰ·head refl) p)
