@@ -2,12 +2,11 @@
 -- processor list it was lent as it found it."
 use Prim.Native.Nat.{ℕ, _+_, _≤_}
 use native.Mathlib.Omega.{arith}
-use mathlib.Core.Path.{_≡_, refl, sym, _∙_, ap}
-use mathlib.Core.Logic.{_⊎_, inl, inr, ⊎-elim}
+use mathlib.Core.Path.{_≡_, refl, sym, _∙_}
+use mathlib.Core.Logic.{inl, inr, ⊎-elim}
 use mathlib.Core.List.{List}
 use mathlib.Core.Bool.{Bool, true, false}
 use lib.ListN.{length}
-use Rattle.words.specs.Refusals.{refused}
 use Rattle.words.specs.declared.Refusal.{Refusal}
 use Rattle.words.proofs.Choices.{no-if}
 use Rattle.capture.specs.declared.Verdict.{Verdict}
@@ -25,18 +24,15 @@ use Rattle.lines.specs.declared.Trace.{Trace}
 use Rattle.lines.specs.declared.Trace.the-variants as traces
 use Rattle.lines.specs.declared.Verdict.{Verdict as Rules}
 use Rattle.lines.specs.declared.Verdict.the-variants as rules
-use Rattle.processors.specs.Listing.{processors, hasRoom, filled, count}
+use Rattle.processors.specs.Listing.{filled, count}
 use Rattle.processors.specs.Repeats.{firstRepeat}
 use Rattle.processors.specs.declared.Repeat.{Repeat}
 use Rattle.processors.specs.declared.Repeat.the-variants.{At, Nowhere}
 use Rattle.processors.proofs.Cases.{if-cases}
 use Rattle.processors.proofs.Inside.{repeat-inside}
 use Rattle.reading.specs.Scan.{madtBytes, turnedDown, repeatRule, processorRule, mapRule, rulesAfterWalk, afterWalk, afterSurvey, scan}
-use Rattle.reading.specs.Reading.{withoutMap, answered, afterScan, readingOf}
 use Rattle.reading.specs.Entries.{routeResult, traceResult}
-use Rattle.reading.specs.declared.Answer.{Answer}
-use Rattle.reading.specs.declared.Answer.the-variants.{Read, Refused}
-use Rattle.reading.specs.declared.Reading.{Reading}
+use Rattle.reading.specs.declared.Answer.the-variants.{Refused}
 use Rattle.reading.proofs.Laws.{bytes-small, list-refused, list-sound, asked-refused, asked-sound}
 use Rattle.promises.specs.Captures.{walkOf}
 use Rattle.promises.specs.RefusalTable.{OfTheTable, ReadingRefusals, RefusedLeavesList, RouteRefusals, TraceRefusals, MapRefusals}
@@ -47,6 +43,7 @@ use Rattle.promises.proofs.Scanned.{verdict-left}
 use Rattle.promises.proofs.TableRefusals.{SurveyTold, survey-told}
 use Rattle.promises.proofs.Told.{Told, tell, turn-told}
 use Rattle.promises.proofs.WalkKeepsBooks.{walked-keeps}
+use Rattle.promises.proofs.WhyRefused.{why-refused}
 use Rattle.promises.proofs.WalkRefusals.{walked-told}
 
 -- ---- 39 to 54
@@ -107,31 +104,6 @@ scan-told capture = go (survey capture) refl (survey-told capture)
 
 of-scan : (capture : List ℕ) (r : Refusal) → scan capture .verdict ≡ verdicts.Refused r → OfTheTable capture r
 of-scan capture r e = rw e at (scan-told capture)
-
--- ---- the reading: a refusal of it is the scan's, or 60
-same-refusal : {q r : Refusal} → _≡_ {A = Answer} (Refused q) (Refused r) → q ≡ r
-same-refusal e = cc
-
-read-refused : {n : ℕ} {r : Refusal} {X : Type 0} → _≡_ {A = Answer} (Read n) (Refused r) → X
-read-refused e = absurd (let o : _≡_ {A = ℕ} 0 1 = cc in omega arith)
-
--- the scan refused; or it did not, and the list has no room
-abbrev Why : List ℕ → List ℕ → Refusal → Type 0
-Why capture list r =
-    (scan capture .verdict ≡ verdicts.Refused r)
-    ⊎ ((scan capture .verdict ≡ verdicts.Sound) × (refused 60 0 ≡ r)
-    × (hasRoom (processors (madtBytes capture (scan capture .madt))) list ≡ false))
-
-pub why-refused : (capture list : List ℕ) (r : Refusal) → readingOf capture list .answer ≡ Refused r → Why capture list r
-unfolding readingOf afterScan withoutMap answered
-why-refused capture list r = go (scan capture .verdict) refl
-  where
-    go : (v : Verdict) → scan capture .verdict ≡ v → afterScan capture (scan capture) v list .answer ≡ Refused r → Why capture list r
-    go (verdicts.Refused q) e = λ h. inl (e ∙ ap verdicts.Refused (same-refusal h))
-    go verdicts.Sound e =
-        if-cases (λ (x : Reading). x .answer ≡ Refused r → Why capture list r) _ _ _
-        (λ room h. read-refused h)
-        (λ room h. inr (e, same-refusal h, room))
 
 -- THE PROMISES
 pub reading-refusals : (capture list : List ℕ) → ReadingRefusals capture list

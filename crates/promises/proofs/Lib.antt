@@ -34,4 +34,6 @@ pub mod CaptureRefusals
 pub mod TableRefusals
 pub mod WalkRefusals
 pub mod MapRefusals
+pub mod WhyRefused
 pub mod EveryRefusal
+pub mod NormalMapsEqual

@@ -3,6 +3,7 @@
 use Prim.Native.Nat.{ℕ}
 use native.Mathlib.Omega.{arith}
 use mathlib.Core.Path.{_≡_, refl, sym, _∙_, ap}
+use mathlib.Core.Logic.{⊎-elim}
 use mathlib.Core.List.{List}
 use borrow.Author.Tests.{ne-eqb}
 use Rattle.words.specs.Refusals.{refused}
@@ -16,11 +17,14 @@ use Rattle.lines.specs.declared.Verdict.{Verdict as Rules}
 use Rattle.lines.specs.declared.Verdict.the-variants.{Kept, Broken}
 use Rattle.processors.specs.Listing.{count}
 use Rattle.reading.specs.Scan.{madtBytes, processorRule, mapRule, rulesAfterWalk, afterSurvey, scan}
-use Rattle.reading.proofs.Laws.{repeat-none, turn-sound, walk-sound, scan-found}
+use Rattle.reading.specs.Reading.{withoutMap}
+use Rattle.reading.specs.declared.Reading.{Reading}
+use Rattle.reading.proofs.Laws.{repeat-none, turn-sound, walk-sound, scan-found, reading-refused}
 use Rattle.promises.specs.Statements.{KeepsTo43, RefusedForClash}
-use Rattle.promises.specs.Captures.{walkOf, NothingBefore51, RefusedAsClash, RefusedExactlyForSharing}
+use Rattle.promises.specs.Captures.{walkOf, NothingBefore51, RefusedAsClash, RefusedExactlyForSharing, ReadRefusedAsClash, ReadRefusedExactlyForSharing}
 use Rattle.promises.proofs.ClashExactly.{clash-exactly}
 use Rattle.promises.proofs.Scanned.{verdict-left}
+use Rattle.promises.proofs.WhyRefused.{why-refused}
 use Rattle.promises.proofs.WalkKeepsBooks.{walk-keeps-books}
 
 -- 40: some processor is enabled
@@ -64,10 +68,27 @@ module _ (capture : List ℕ) (t : Tables) (h : NothingBefore51 capture t) where
   unfolding mapRule
   of-clash c = (c .0, c .1, c .3, c .4, of-map ∙ ap mapRule (c .5))
 
--- THE PROMISE
+-- THE PROMISES
 pub refused-exactly-for-sharing : (capture : List ℕ) (t : Tables) → RefusedExactlyForSharing capture t
 refused-exactly-for-sharing capture t h =
     let found = walkOf capture t .found in
     let b = walk-keeps-books (madtBytes capture (t .madt)) (t .madt .place) (t .sci) (h .structures) .0 in
     let c = clash-exactly (found .map) (found .places) (t .madt .place) (t .fadt .place) (b .placed) (to-43 capture t h) in
     ((λ r. c .0 (to-clash capture t h r)), λ s. of-clash capture t h (c .1 s))
+
+-- a refusal of the reading that is not 60 is the scan's
+of-read : (capture list : List ℕ) → ReadRefusedAsClash capture list → RefusedAsClash capture
+of-read capture list c =
+    ⊎-elim
+    (λ e. (c .0, c .1, c .2, c .3, e))
+    (λ w. absurd (let z : 60 ≡ c .0 = ap (λ (r : Refusal). r .number) (w .1) in omega (arith, c .3)))
+    (why-refused capture list (refused (c .0) (c .1)) (c .4))
+
+to-read : (capture list : List ℕ) → RefusedAsClash capture → ReadRefusedAsClash capture list
+unfolding withoutMap
+to-read capture list c = (c .0, c .1, c .2, c .3, ap (λ (r : Reading). r .answer) (reading-refused capture list (c .4)))
+
+pub read-refused-exactly-for-sharing : (capture list : List ℕ) (t : Tables) → ReadRefusedExactlyForSharing capture list t
+read-refused-exactly-for-sharing capture list t h =
+    let s = refused-exactly-for-sharing capture t h in
+    ((λ c. s .0 (of-read capture list c)), λ w. to-read capture list (s .1 w))

@@ -12,7 +12,7 @@ use Rattle.tables.specs.declared.Tables.{Tables}
 use Rattle.tables.specs.declared.Survey.the-variants.{Found}
 use Rattle.kinds.specs.Ranges.{bitInBoth}
 use Rattle.kinds.specs.Used.{noHalf}
-use Rattle.lines.specs.Says.{says}
+use Rattle.lines.specs.Says.{says, Same}
 use Rattle.lines.specs.Claims.{claims}
 use Rattle.lines.specs.Rules.{tooMany, rangesKept, rule40, rule41, rule42, rule43, keepsRules}
 use Rattle.lines.specs.Answers.{routeOf, traceOf}
@@ -28,7 +28,7 @@ use Rattle.processors.specs.Repeats.{firstRepeat}
 use Rattle.processors.specs.declared.Repeat.the-variants.{Nowhere}
 use Rattle.reading.specs.Scan.{madtBytes, scan}
 use Rattle.reading.specs.Reading.{readingOf}
-use Rattle.reading.specs.declared.Answer.the-variants.{Read}
+use Rattle.reading.specs.declared.Answer.the-variants.{Read, Refused as NotRead}
 use Rattle.promises.specs.Sources.{noEio, noBio, noMsi}
 use Rattle.promises.specs.Structures.{Placed, Shared}
 use Rattle.promises.specs.Statements.{NoTwoAlike, TracingNames, NothingExactly, LpcLinesShare, ThereAndBack}
@@ -47,6 +47,10 @@ pub record Normal (map : Map) : Type 0 where
   pub high : map .lio .high .mask ≡ 0 → map .lio .high .cascade ≡ 0
   pub nolio : map .lio .present ≡ false → (map .lio .low ≡ noHalf) × (map .lio .high ≡ noHalf)
   pub nolpc : map .lpc .present ≡ false → map .lpc .cascade ≡ 0
+
+-- nothing that is unused was forgotten there: normal maps that are the same map are equal
+abbrev pub NormalMapsEqual : Map → Map → Type 0
+NormalMapsEqual map other = Normal map → Normal other → Same map other → map ≡ other
 
 -- a map with the places of its structures: every structure has a place of its own, 36 to 38 are kept, unused places hold 0
 pub record WellKept (map : Map) (places : Places) : Type 0 where
@@ -126,3 +130,14 @@ RefusedExactlyForSharing capture t =
     NothingBefore51 capture t
     → (RefusedAsClash capture → Shared (says (walkOf capture t .found .map)))
     × (Shared (says (walkOf capture t .found .map)) → RefusedAsClash capture)
+
+-- and so of the reading's answer, whatever list it is lent
+abbrev pub ReadRefusedAsClash : List ℕ → List ℕ → Type 0
+ReadRefusedAsClash capture list =
+    (n : ℕ) × (place : ℕ) × (51 ≤ n) × (n ≤ 53) × (readingOf capture list .answer ≡ NotRead (refused n place))
+
+abbrev pub ReadRefusedExactlyForSharing : List ℕ → List ℕ → Tables → Type 0
+ReadRefusedExactlyForSharing capture list t =
+    NothingBefore51 capture t
+    → (ReadRefusedAsClash capture list → Shared (says (walkOf capture t .found .map)))
+    × (Shared (says (walkOf capture t .found .map)) → ReadRefusedAsClash capture list)
