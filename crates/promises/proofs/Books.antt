@@ -5,7 +5,7 @@ use native.Mathlib.Omega.{arith}
 use mathlib.Core.Path.{_≡_, refl, sym, _∙_, ap}
 use mathlib.Core.Logic.{_⊎_, inl, inr, ⊎-elim}
 use mathlib.Core.List.{List}
-use mathlib.Core.Bool.{true, false}
+use mathlib.Core.Bool.{true, false, true≢false}
 use lib.Dec.{eqb}
 use lib.ListN.{getD, set}
 use lib.Seq.{getD-set-same, getD-set-other}
@@ -35,9 +35,12 @@ Used map (eio e) = e < map .eiocount
 Used map (bio j) = j < map .biocount
 Used map (msi m) = m < map .msicount
 
--- every structure stands before `next`, and no two at one place; an absent LIO is at 0, before all others
+-- every structure stands before `next`, and no two at one place; an absent LIO is at 0, before all others, and so is an
+-- absent LPC
 pub record Standing (next : ℕ) (map : Map) (places : Places) : Type 0 where
   pub before : (s : Structure) → Used map s → placeOf places s < next
+  pub behind : (s : Structure) → Used map s → (s ≡ lio) ⊎ (0 < placeOf places s)
+  pub lpcbehind : map .lpc .present ≡ true → 0 < places .lpc
   pub lpcbefore : places .lpc < next
   pub apart : (s t : Structure) → Used map s → Used map t → placeOf places s ≡ placeOf places t → s ≡ t
 
@@ -71,7 +74,7 @@ opened sci next l =
       onelio = record { fits = refl; masks = refl; normal = refl };
       onelpc = record { fits = refl; normal = refl };
       number = refl;
-      standing = record { before = before; lpcbefore = l; apart = apart };
+      standing = record { before = before; behind = λ s u. inl (only s u); lpcbehind = λ p. absurd (true≢false (sym p)); lpcbefore = l; apart = apart };
     }
   where
     before : (s : Structure) → Used (nothing sci .map) s → placeOf (nothing sci .places) s < next
@@ -103,6 +106,8 @@ later {sci} {next} {next′} {map} {places} l b =
       number = b .number;
       standing = record {
         before = λ s u. omega (arith, st .before s u);
+        behind = st .behind;
+        lpcbehind = st .lpcbehind;
         lpcbefore = omega (arith, st .lpcbefore);
         apart = st .apart;
       };
@@ -111,13 +116,17 @@ later {sci} {next} {next′} {map} {places} l b =
 -- every structure of the new map is the one at `next`, or an old one where it was
 module _ {next : ℕ} {old new : Map} {p q : Places} (x : Structure) (st : Standing next old p)
     (adds : (s : Structure) → Used new s → (s ≡ x) ⊎ (Used old s × (placeOf q s ≡ placeOf p s)))
-    (here : placeOf q x ≡ next) (lpc : q .lpc < suc next) where
+    (here : placeOf q x ≡ next) (lpcbehind : new .lpc .present ≡ true → 0 < q .lpc) (lpc : q .lpc < suc next) where
   pub stands-more : Standing (suc next) new q
   stands-more =
       record {
         before = λ s u. ⊎-elim
             (λ e. let z : placeOf q s ≡ placeOf q x = ap (placeOf q) e in omega (arith, z, here))
             (λ w. omega (arith, w .1, st .before s (w .0))) (adds s u);
+        behind = λ s u. ⊎-elim
+            (λ e. let z : placeOf q s ≡ placeOf q x = ap (placeOf q) e in inr (omega (arith, z, here, st .before lio (omega arith))))
+            (λ w. ⊎-elim inl (λ l. inr (omega (arith, w .1))) (st .behind s (w .0))) (adds s u);
+        lpcbehind = lpcbehind;
         lpcbefore = lpc;
         apart = λ s t u v e. go s t (adds s u) (adds t v) e;
       }
@@ -136,10 +145,13 @@ module _ {next : ℕ} {old new : Map} {p q : Places} (x : Structure) (st : Stand
 
 -- the LPC claims nothing: every structure is where it was
 stands-still : {next : ℕ} {old new : Map} {p q : Places} → Standing next old p
-    → ((s : Structure) → Used new s → Used old s × (placeOf q s ≡ placeOf p s)) → q .lpc < suc next → Standing (suc next) new q
-stands-still {next} {old} {new} {p} {q} st same lpc =
+    → ((s : Structure) → Used new s → Used old s × (placeOf q s ≡ placeOf p s)) → (new .lpc .present ≡ true → 0 < q .lpc) → q .lpc < suc next
+    → Standing (suc next) new q
+stands-still {next} {old} {new} {p} {q} st same lpcbehind lpc =
     record {
       before = λ s u. omega (arith, same s u .1, st .before s (same s u .0));
+      behind = λ s u. ⊎-elim inl (λ l. inr (omega (arith, same s u .1))) (st .behind s (same s u .0));
+      lpcbehind = lpcbehind;
       lpcbefore = lpc;
       apart = λ s t u v e. st .apart s t (same s u .0) (same t v .0) (sym (same s u .1) ∙ e ∙ same t v .1);
     }
@@ -168,7 +180,7 @@ module _ {sci next : ℕ} (found : Found) (b : Books sci next (found .map) (foun
         onelio = ok;
         onelpc = b .onelpc;
         number = b .number;
-        standing = stands-more lio (b .standing) adds refl (omega (arith, b .standing .lpcbefore));
+        standing = stands-more lio (b .standing) adds refl (b .standing .lpcbehind) (omega (arith, b .standing .lpcbefore));
       }
     where
       adds : (s : Structure) → Used (withLio found x next .map) s
@@ -190,7 +202,7 @@ module _ {sci next : ℕ} (found : Found) (b : Books sci next (found .map) (foun
         onelpc = b .onelpc;
         number = b .number;
         standing = stands-more (eio n) (b .standing) adds
-            (getD-set-same (found .places .eios) n next 0 (omega (arith, b .eios .room))) (omega (arith, b .standing .lpcbefore));
+            (getD-set-same (found .places .eios) n next 0 (omega (arith, b .eios .room))) (b .standing .lpcbehind) (omega (arith, b .standing .lpcbefore));
       }
     where
       n : ℕ
@@ -215,7 +227,7 @@ module _ {sci next : ℕ} (found : Found) (b : Books sci next (found .map) (foun
         onelpc = b .onelpc;
         number = b .number;
         standing = stands-more (bio n) (b .standing) adds
-            (getD-set-same (found .places .bios) n next 0 (omega (arith, b .bios .room))) (omega (arith, b .standing .lpcbefore));
+            (getD-set-same (found .places .bios) n next 0 (omega (arith, b .bios .room))) (b .standing .lpcbehind) (omega (arith, b .standing .lpcbefore));
       }
     where
       n : ℕ
@@ -240,7 +252,7 @@ module _ {sci next : ℕ} (found : Found) (b : Books sci next (found .map) (foun
         onelpc = b .onelpc;
         number = b .number;
         standing = stands-more (msi n) (b .standing) adds
-            (getD-set-same (found .places .msis) n next 0 (omega (arith, b .msis .room))) (omega (arith, b .standing .lpcbefore));
+            (getD-set-same (found .places .msis) n next 0 (omega (arith, b .msis .room))) (b .standing .lpcbehind) (omega (arith, b .standing .lpcbefore));
       }
     where
       n : ℕ
@@ -263,7 +275,7 @@ module _ {sci next : ℕ} (found : Found) (b : Books sci next (found .map) (foun
         onelio = b .onelio;
         onelpc = ok;
         number = b .number;
-        standing = stands-still (b .standing) same (omega arith);
+        standing = stands-still (b .standing) same (λ p. omega (arith, b .standing .before lio (omega arith))) (omega arith);
       }
     where
       same : (s : Structure) → Used (withLpc found x next .map) s

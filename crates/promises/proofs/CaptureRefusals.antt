@@ -2,7 +2,6 @@
 use Prim.Native.Nat.{ℕ, _+_, _<_, _≤_}
 use native.Mathlib.Omega.{arith}
 use mathlib.Core.Path.{_≡_, refl}
-use mathlib.Core.Logic.{inl, inr}
 use mathlib.Core.List.{List}
 use mathlib.Core.Bool.{false, not, _||_}
 use borrow.Author.Tests.{ltb-false}
@@ -23,7 +22,7 @@ use Rattle.capture.specs.declared.Root.the-variants as roots
 use Rattle.capture.proofs.Within.{sound-length}
 use Rattle.processors.proofs.Cases.{if-cases}
 use Rattle.promises.specs.RefusalTable.{OfTheTable}
-use Rattle.promises.proofs.Told.{Told, tell, search-told}
+use Rattle.promises.proofs.Told.{Told, tell, tell-none, search-told}
 
 -- where 5 is kept, the descriptors are inside the capture
 descriptors-inside : (capture : List ℕ) → wrongTotal capture ≡ false → descriptorsEnd capture ≤ length capture
@@ -40,18 +39,18 @@ segments-told : (capture : List ℕ) → wrongTotal capture ≡ false → Told c
 unfolding segmentRules segments numbersBelow descriptorsEnd descriptor headerSize
 segments-told capture h =
     search-told (Told capture) (segmentBroken capture) (λ (i : ℕ). Refused (refused 6 (descriptor capture i))) Sound 0 (segmentCount capture)
-    (λ i l below. tell capture 6 (descriptor capture i) refl (inr (omega (arith, descriptors-inside capture h))))
+    (λ i l below t. tell capture 6 (descriptor capture i) (refl, refl) (omega arith, omega (arith, descriptors-inside capture h)))
     (omega arith)
 
 -- 1 to 6
 pub verdict-told : (capture : List ℕ) → Told capture (verdict capture)
 unfolding verdict
 verdict-told capture =
-    if-cases (Told capture) _ _ _ (λ t. tell capture 1 0 refl (inl refl))
-    (λ t. if-cases (Told capture) _ _ _ (λ t. tell capture 2 0 refl (inl refl))
-    (λ t. if-cases (Told capture) _ _ _ (λ t. tell capture 3 0 refl (inl refl))
-    (λ t. if-cases (Told capture) _ _ _ (λ t. tell capture 4 0 refl (inl refl))
-    (λ t. if-cases (Told capture) _ _ _ (λ t. tell capture 5 0 refl (inl refl))
+    if-cases (Told capture) _ _ _ (λ t. tell-none capture 1 refl refl)
+    (λ t. if-cases (Told capture) _ _ _ (λ t. tell-none capture 2 refl refl)
+    (λ t. if-cases (Told capture) _ _ _ (λ t. tell-none capture 3 refl refl)
+    (λ t. if-cases (Told capture) _ _ _ (λ t. tell-none capture 4 refl refl)
+    (λ t. if-cases (Told capture) _ _ _ (λ t. tell-none capture 5 refl refl)
     (λ t. segments-told capture t)))))
 
 -- 10
@@ -66,7 +65,7 @@ long-enough capture sound = omega (arith, sound-length capture sound)
 presence-told : (capture : List ℕ) → 18 ≤ length capture → (s : Stretch) → RootTold capture (presentOr10 s)
 unfolding presentOr10
 presence-told capture l (Present place) = omega arith
-presence-told capture l Absent = tell capture 10 10 refl (inr (omega arith))
+presence-told capture l Absent = tell capture 10 10 (refl, refl) (omega arith, omega arith)
 
 pub rsdp-told : (capture : List ℕ) → RootTold capture (rsdp capture)
 unfolding rsdp afterVerdict rsdpPresence

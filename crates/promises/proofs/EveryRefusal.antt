@@ -41,7 +41,7 @@ use Rattle.promises.proofs.MapRefusals.{RuleTold, broken-told}
 use Rattle.promises.proofs.RefusedExactly.{refused-exactly}
 use Rattle.promises.proofs.Scanned.{verdict-left}
 use Rattle.promises.proofs.TableRefusals.{SurveyTold, survey-told}
-use Rattle.promises.proofs.Told.{Told, tell, turn-told}
+use Rattle.promises.proofs.Told.{Told, Inside, tell, tell-none, turn-told}
 use Rattle.promises.proofs.WalkKeepsBooks.{walked-keeps}
 use Rattle.promises.proofs.WhyRefused.{why-refused}
 use Rattle.promises.proofs.WalkRefusals.{walked-told}
@@ -52,7 +52,7 @@ unfolding mapRule
 map-rule-told capture rules.Kept told = told
 map-rule-told capture (rules.Broken r partner) told = told
 
-module _ (capture : List ℕ) (t : Tables) (inside : Accepted capture t) where
+module _ (capture : List ℕ) (t : Tables) (inside : Accepted capture t) (at : Inside capture (t .madt .place) × Inside capture (t .fadt .place)) where
   abbrev table : List ℕ
   table = madtBytes capture (t .madt)
 
@@ -72,12 +72,12 @@ module _ (capture : List ℕ) (t : Tables) (inside : Accepted capture t) where
   repeat-told : (r : Repeat) → firstRepeat table ≡ r → Told capture (repeatRule base r)
   unfolding repeatRule
   repeat-told Nowhere e = omega arith
-  repeat-told (At offset) e = tell capture 39 (base + offset) refl (inr (omega (arith, repeat-inside table offset e, small, ends)))
+  repeat-told (At offset) e = tell capture 39 (base + offset) (refl, refl) (omega (arith, at .0 .0), omega (arith, repeat-inside table offset e, small, ends))
 
   -- 40, of the processors
   processors-told : Told capture (processorRule base (count table))
   unfolding processorRule
-  processors-told = if-cases (Told capture) _ _ _ (λ z. tell capture 40 base refl (inr (omega (arith, ends, first)))) (λ z. omega arith)
+  processors-told = if-cases (Told capture) _ _ _ (λ z. tell capture 40 base (refl, refl) (at .0)) (λ z. omega arith)
 
   rules-told : walkOf capture t .verdict ≡ verdicts.Sound → Told capture (rulesAfterWalk table t (walkOf capture t .found))
   unfolding rulesAfterWalk
@@ -85,8 +85,7 @@ module _ (capture : List ℕ) (t : Tables) (inside : Accepted capture t) where
       turn-told capture _ _ (repeat-told (firstRepeat table) refl)
       (λ z. turn-told capture _ _ processors-told
       (λ z. map-rule-told capture _
-      (broken-told capture (walked-keeps table base (t .sci) (t .madt .length) first small sound) ends base (t .fadt .place)
-      (inr (omega (arith, ends, first))) (inr (omega (arith, inside .fadt .inside, inside .fadt .long))))))
+      (broken-told capture (walked-keeps table base (t .sci) (t .madt .length) first small sound) ends base (t .fadt .place) (at .0) (at .1))))
 
 -- ---- 1 to 54
 scan-told : (capture : List ℕ) → Told capture (scan capture .verdict)
@@ -99,8 +98,8 @@ scan-told capture = go (survey capture) refl (survey-told capture)
         let i = tables-inside capture t e in
         rw (verdict-left t _ _)
         (turn-told capture _ _
-        (walked-told capture (t .madt .place) (t .madt .length) (ends capture t i) (madtBytes capture (t .madt)) (t .sci) (first capture t i) (small capture t i))
-        (rules-told capture t i))
+        (walked-told capture (t .madt .place) (t .madt .length) (ends capture t i told) (madtBytes capture (t .madt)) (t .sci) (first capture t i told) (small capture t i told))
+        (rules-told capture t i told))
 
 of-scan : (capture : List ℕ) (r : Refusal) → scan capture .verdict ≡ verdicts.Refused r → OfTheTable capture r
 of-scan capture r e = rw e at (scan-told capture)
@@ -108,7 +107,7 @@ of-scan capture r e = rw e at (scan-told capture)
 -- THE PROMISES
 pub reading-refusals : (capture list : List ℕ) → ReadingRefusals capture list
 reading-refusals capture list r h =
-    ⊎-elim (of-scan capture r) (λ w. rw (← w .1) (tell capture 60 0 refl (inl refl))) (why-refused capture list r h)
+    ⊎-elim (of-scan capture r) (λ w. rw (← w .1) (tell-none capture 60 refl refl)) (why-refused capture list r h)
 
 pub refused-leaves-list : (capture list : List ℕ) → RefusedLeavesList capture list
 unfolding filled

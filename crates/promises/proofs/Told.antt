@@ -2,9 +2,9 @@
 use Prim.Native.Nat.{ℕ, zero, suc, _+_, _<_, _≤_}
 use native.Mathlib.Omega.{arith}
 use mathlib.Core.Path.{_≡_, refl}
-use mathlib.Core.Logic.{_⊎_}
+use mathlib.Core.Logic.{inl, inr}
 use mathlib.Core.List.{List, [], _∷_, List·Memᴰ, List·Memᴰ·head, List·Memᴰ·tail}
-use mathlib.Core.Bool.{Bool, true}
+use mathlib.Core.Bool.{Bool, true, false}
 use lib.ListN.{length}
 use Rattle.words.specs.Lists.{first, numbersFrom}
 use Rattle.words.specs.Refusals.{refused}
@@ -13,7 +13,7 @@ use Rattle.capture.specs.declared.Verdict.the-variants.{Sound, Refused}
 use Rattle.clashes.specs.Folds.{fold}
 use Rattle.processors.proofs.Cases.{if-cases}
 use Rattle.reading.specs.Scan.{inTurn}
-use Rattle.promises.specs.RefusalTable.{isRefusalNumber, OfTheTable}
+use Rattle.promises.specs.RefusalTable.{isRefusalNumber, isPlaceless, OfTheTable}
 
 -- a verdict that refuses nothing, or with a refusal of the table
 abbrev pub Told : List ℕ → Verdict → Type 0
@@ -21,11 +21,18 @@ Told capture Sound = 0 < 1
 Told capture (Refused r) = OfTheTable capture r
 
 -- ---- one refusal
-abbrev pub PlaceOf : List ℕ → ℕ → Type 0
-PlaceOf capture place = (place ≡ 0) ⊎ (place < length capture)
+-- its number is one that has a place, and its place is inside the capture
+abbrev pub Named : ℕ → Type 0
+Named n = (isRefusalNumber n ≡ true) × (isPlaceless n ≡ false)
 
-pub tell : (capture : List ℕ) (n place : ℕ) → isRefusalNumber n ≡ true → PlaceOf capture place → OfTheTable capture (refused n place)
-tell capture n place number at = record { number = number; place = at }
+abbrev pub Inside : List ℕ → ℕ → Type 0
+Inside capture place = (0 < place) × (place < length capture)
+
+pub tell : (capture : List ℕ) (n place : ℕ) → Named n → Inside capture place → OfTheTable capture (refused n place)
+tell capture n place named at = record { number = named .0; place = inr (named .1, at .0, at .1) }
+
+pub tell-none : (capture : List ℕ) (n : ℕ) → isRefusalNumber n ≡ true → isPlaceless n ≡ true → OfTheTable capture (refused n 0)
+tell-none capture n number none = record { number = number; place = inl (none, refl) }
 
 -- ---- rules in turn
 pub turn-told : (capture : List ℕ) (v later : Verdict) → Told capture v → (v ≡ Sound → Told capture later) → Told capture (inTurn v later)
@@ -33,15 +40,15 @@ unfolding inTurn
 turn-told capture Sound later here after = after refl
 turn-told capture (Refused r) later here after = here
 
--- ---- a search of numbers gives an answer of one of them, or the one for none
+-- ---- a search of numbers gives an answer of one of them that the test takes, or the one for none
 pub search-told : {R : Type 0} (P : R → Type 0) (test : ℕ → Bool) (found : ℕ → R) (none : R) (from k : ℕ)
-    → ((i : ℕ) → from ≤ i → i < from + k → P (found i)) → P none → P (first test found none (numbersFrom from k))
+    → ((i : ℕ) → from ≤ i → i < from + k → test i ≡ true → P (found i)) → P none → P (first test found none (numbersFrom from k))
 unfolding first numbersFrom
 search-told P test found none from zero each last = last
 search-told P test found none from (suc k) each last =
     if-cases P (test from) _ _
-    (λ t. each from (omega arith) (omega arith))
-    (λ t. search-told P test found none (from + 1) k (λ i l h. each i (omega arith) (omega arith)) last)
+    (λ t. each from (omega arith) (omega arith) t)
+    (λ t. search-told P test found none (from + 1) k (λ i l h t. each i (omega arith) (omega arith) t) last)
 
 -- ---- a fold keeps what each of its steps keeps
 pub fold-told : {A B : Type 0} (P : B → Type 0) (step : B → A → B) (l : List A)

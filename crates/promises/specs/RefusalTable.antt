@@ -1,7 +1,7 @@
 -- Document 01, "Refusals in order": the numbers of its table, and the mission's first demand: each public call "either answers
 -- or refuses with a number and a place from our table".
 use Prim.Native.Nat.{ℕ, _<_}
-use mathlib.Core.Bool.{Bool, true, _&&_, _||_}
+use mathlib.Core.Bool.{Bool, true, false, _&&_, _||_}
 use mathlib.Core.List.{List}
 use mathlib.Core.Logic.{_⊎_}
 use mathlib.Core.Path.{_≡_}
@@ -30,10 +30,15 @@ abbrev pub isRefusalNumber : ℕ → Bool
 isRefusalNumber n =
     among 1 6 n || among 10 14 n || among 20 30 n || among 31 38 n || eqb n 39 || among 40 43 n || among 51 54 n || eqb n 60
 
--- "A place is an offset in the capture", and a refusal of no place has 0
+-- 1 to 5 are of the capture as a whole, and 60 is of the list: the table's place for them is 0
+abbrev pub isPlaceless : ℕ → Bool
+isPlaceless n = among 1 5 n || eqb n 60
+
+-- "A place is an offset in the capture": every other refusal names one inside it, and not 0
 pub record OfTheTable (capture : List ℕ) (refusal : Refusal) : Type 0 where
   pub number : isRefusalNumber (refusal .number) ≡ true
-  pub place : (refusal .place ≡ 0) ⊎ (refusal .place < length capture)
+  pub place : ((isPlaceless (refusal .number) ≡ true) × (refusal .place ≡ 0))
+      ⊎ ((isPlaceless (refusal .number) ≡ false) × (0 < refusal .place) × (refusal .place < length capture))
 
 -- whatever is handed in, a refusal of the reading has a number of the table and a place of the capture
 abbrev pub ReadingRefusals : List ℕ → List ℕ → Type 0
