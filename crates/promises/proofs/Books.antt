@@ -9,8 +9,8 @@ use mathlib.Core.Bool.{true, false, true≢false}
 use lib.Dec.{eqb}
 use lib.ListN.{getD, set}
 use lib.Seq.{getD-set-same, getD-set-other}
-use Rattle.kinds.specs.Ranges.{bitInBoth, lioField, eioField, bioField, msiField, lpcField}
 use Rattle.words.specs.Choice.{if}
+use Rattle.kinds.specs.Ranges.{bitInBoth, lioField, eioField, bioField, msiField, lpcField}
 use Rattle.kinds.specs.Used.{usedHalf, saidLio, saidLpc}
 use Rattle.kinds.specs.Makers.{isEnabled}
 use Rattle.kinds.specs.declared.makers.Core.{Core}
@@ -74,24 +74,20 @@ opened sci next l =
       onelio = record { fits = refl; masks = refl; normal = refl };
       onelpc = record { fits = refl; normal = refl };
       number = refl;
-      standing = record { before = before; behind = λ s u. inl (only s u); lpcbehind = λ p. absurd (true≢false (sym p)); lpcbefore = l; apart = apart };
+      standing = record {
+        before = λ s u. rw (only s u) l;
+        behind = λ s u. inl (only s u);
+        lpcbehind = λ p. absurd (true≢false (sym p));
+        lpcbefore = l;
+        apart = λ s t u v e. only s u ∙ sym (only t v);
+      };
     }
   where
-    before : (s : Structure) → Used (nothing sci .map) s → placeOf (nothing sci .places) s < next
-    before lio u = l
-    before (eio e) u = absurd (omega arith)
-    before (bio j) u = absurd (omega arith)
-    before (msi m) u = absurd (omega arith)
-
     only : (s : Structure) → Used (nothing sci .map) s → s ≡ lio
     only lio u = refl
     only (eio e) u = absurd (omega arith)
     only (bio j) u = absurd (omega arith)
     only (msi m) u = absurd (omega arith)
-
-    apart : (s t : Structure) → Used (nothing sci .map) s → Used (nothing sci .map) t
-        → placeOf (nothing sci .places) s ≡ placeOf (nothing sci .places) t → s ≡ t
-    apart s t u v e = only s u ∙ sym (only t v)
 
 -- nothing is lost further on
 pub later : {sci next next′ : ℕ} {map : Map} {places : Places} → next ≤ next′ → Books sci next map places → Books sci next′ map places

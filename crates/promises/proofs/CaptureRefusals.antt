@@ -21,8 +21,7 @@ use Rattle.capture.specs.declared.Root.{Root}
 use Rattle.capture.specs.declared.Root.the-variants as roots
 use Rattle.capture.proofs.Within.{sound-length}
 use Rattle.processors.proofs.Cases.{if-cases}
-use Rattle.promises.specs.RefusalTable.{OfTheTable}
-use Rattle.promises.proofs.Told.{Told, tell, tell-none, search-told}
+use Rattle.promises.proofs.Told.{UpTo, Told, tell, tell-none, search-told}
 
 -- where 5 is kept, the descriptors are inside the capture
 descriptors-inside : (capture : List ℕ) → wrongTotal capture ≡ false → descriptorsEnd capture ≤ length capture
@@ -35,28 +34,28 @@ descriptors-inside capture h =
     (neither-left (past || length-wrong) (not (eqb (descriptorsEnd capture + lengths capture (segmentCount capture)) (length capture))) h))
 
 -- 6
-segments-told : (capture : List ℕ) → wrongTotal capture ≡ false → Told capture (segmentRules capture)
+segments-told : (capture : List ℕ) → wrongTotal capture ≡ false → Told 30 capture (segmentRules capture)
 unfolding segmentRules segments numbersBelow descriptorsEnd descriptor headerSize
 segments-told capture h =
-    search-told (Told capture) (segmentBroken capture) (λ (i : ℕ). Refused (refused 6 (descriptor capture i))) Sound 0 (segmentCount capture)
-    (λ i l below t. tell capture 6 (descriptor capture i) (refl, refl) (omega arith, omega (arith, descriptors-inside capture h)))
+    search-told (Told 30 capture) (segmentBroken capture) (λ (i : ℕ). Refused (refused 6 (descriptor capture i))) Sound 0 (segmentCount capture)
+    (λ i l below t. tell capture 6 (descriptor capture i) (refl, refl, omega arith) (omega arith, omega (arith, descriptors-inside capture h)))
     (omega arith)
 
 -- 1 to 6
-pub verdict-told : (capture : List ℕ) → Told capture (verdict capture)
+pub verdict-told : (capture : List ℕ) → Told 30 capture (verdict capture)
 unfolding verdict
 verdict-told capture =
-    if-cases (Told capture) _ _ _ (λ t. tell-none capture 1 refl refl)
-    (λ t. if-cases (Told capture) _ _ _ (λ t. tell-none capture 2 refl refl)
-    (λ t. if-cases (Told capture) _ _ _ (λ t. tell-none capture 3 refl refl)
-    (λ t. if-cases (Told capture) _ _ _ (λ t. tell-none capture 4 refl refl)
-    (λ t. if-cases (Told capture) _ _ _ (λ t. tell-none capture 5 refl refl)
+    if-cases (Told 30 capture) _ _ _ (λ t. (tell-none capture 1 refl refl, omega arith))
+    (λ t. if-cases (Told 30 capture) _ _ _ (λ t. (tell-none capture 2 refl refl, omega arith))
+    (λ t. if-cases (Told 30 capture) _ _ _ (λ t. (tell-none capture 3 refl refl, omega arith))
+    (λ t. if-cases (Told 30 capture) _ _ _ (λ t. (tell-none capture 4 refl refl, omega arith))
+    (λ t. if-cases (Told 30 capture) _ _ _ (λ t. (tell-none capture 5 refl refl, omega arith))
     (λ t. segments-told capture t)))))
 
 -- 10
 abbrev pub RootTold : List ℕ → Root → Type 0
 RootTold capture (roots.At place) = 0 < 1
-RootTold capture (roots.Refused r) = OfTheTable capture r
+RootTold capture (roots.Refused r) = UpTo 30 capture r
 
 long-enough : (capture : List ℕ) → verdict capture ≡ Sound → 18 ≤ length capture
 unfolding descriptorsEnd descriptor headerSize
@@ -65,12 +64,12 @@ long-enough capture sound = omega (arith, sound-length capture sound)
 presence-told : (capture : List ℕ) → 18 ≤ length capture → (s : Stretch) → RootTold capture (presentOr10 s)
 unfolding presentOr10
 presence-told capture l (Present place) = omega arith
-presence-told capture l Absent = tell capture 10 10 (refl, refl) (omega arith, omega arith)
+presence-told capture l Absent = tell capture 10 10 (refl, refl, omega arith) (omega arith, omega arith)
 
 pub rsdp-told : (capture : List ℕ) → RootTold capture (rsdp capture)
 unfolding rsdp afterVerdict rsdpPresence
 rsdp-told capture = go (verdict capture) refl (verdict-told capture)
   where
-    go : (v : Verdict) → verdict capture ≡ v → Told capture v → RootTold capture (afterVerdict v (rsdpPresence capture))
+    go : (v : Verdict) → verdict capture ≡ v → Told 30 capture v → RootTold capture (afterVerdict v (rsdpPresence capture))
     go (Refused r) e told = told
     go Sound e told = presence-told capture (long-enough capture e) (located capture (rsdpAddress capture) rsdpSize)

@@ -15,7 +15,7 @@ use Rattle.tables.specs.Survey.{survey}
 use Rattle.tables.specs.declared.Tables.{Tables}
 use Rattle.tables.specs.declared.Survey.{Survey}
 use Rattle.tables.specs.declared.Survey.the-variants as surveys
-use Rattle.tables.proofs.Inside.{Accepted, tables-inside}
+use Rattle.tables.proofs.Inside.{Accepted as TablesInside, tables-inside}
 use Rattle.lines.specs.Rules.{keepsRules}
 use Rattle.lines.specs.declared.Map.{Map}
 use Rattle.lines.specs.declared.Route.{Route}
@@ -41,18 +41,18 @@ use Rattle.promises.proofs.MapRefusals.{RuleTold, broken-told}
 use Rattle.promises.proofs.RefusedExactly.{refused-exactly}
 use Rattle.promises.proofs.Scanned.{verdict-left}
 use Rattle.promises.proofs.TableRefusals.{SurveyTold, survey-told}
-use Rattle.promises.proofs.Told.{Told, Inside, tell, tell-none, turn-told}
+use Rattle.promises.proofs.Told.{Told, widen, Inside, tell, tell-none, turn-told}
 use Rattle.promises.proofs.WalkKeepsBooks.{walked-keeps}
 use Rattle.promises.proofs.WhyRefused.{why-refused}
 use Rattle.promises.proofs.WalkRefusals.{walked-told}
 
--- ---- 39 to 54
-map-rule-told : (capture : List ℕ) (v : Rules) → RuleTold capture v → Told capture (mapRule v)
+-- ---- 31 to 54
+map-rule-told : (capture : List ℕ) (v : Rules) → RuleTold capture v → Told 54 capture (mapRule v)
 unfolding mapRule
 map-rule-told capture rules.Kept told = told
 map-rule-told capture (rules.Broken r partner) told = told
 
-module _ (capture : List ℕ) (t : Tables) (inside : Accepted capture t) (at : Inside capture (t .madt .place) × Inside capture (t .fadt .place)) where
+module _ (capture : List ℕ) (t : Tables) (inside : TablesInside capture t) where
   abbrev table : List ℕ
   table = madtBytes capture (t .madt)
 
@@ -62,47 +62,51 @@ module _ (capture : List ℕ) (t : Tables) (inside : Accepted capture t) (at : I
   small : length table ≤ t .madt .length
   small = bytes-small capture (t .madt)
 
-  ends : base + t .madt .length ≤ length capture
-  ends = inside .madt .inside
+  -- 31 to 38
+  pub walk-of-told : Told 38 capture (walkOf capture t .verdict)
+  walk-of-told = walked-told capture base (t .madt .length) (inside .madt .inside) table (t .sci) (inside .madt .long) small
 
-  first : 44 ≤ t .madt .length
-  first = inside .madt .long
-
+module _ (capture : List ℕ) (t : Tables) (inside : TablesInside capture t) (at : Inside capture (t .madt .place) × Inside capture (t .fadt .place)) where
   -- 39
-  repeat-told : (r : Repeat) → firstRepeat table ≡ r → Told capture (repeatRule base r)
+  repeat-told : (r : Repeat) → firstRepeat (madtBytes capture (t .madt)) ≡ r → Told 54 capture (repeatRule (t .madt .place) r)
   unfolding repeatRule
   repeat-told Nowhere e = omega arith
-  repeat-told (At offset) e = tell capture 39 (base + offset) (refl, refl) (omega (arith, at .0 .0), omega (arith, repeat-inside table offset e, small, ends))
+  repeat-told (At offset) e =
+      let there = repeat-inside (madtBytes capture (t .madt)) offset e in
+      tell capture 39 (t .madt .place + offset) (refl, refl, omega arith)
+      (omega (arith, at .0 .0), omega (arith, there, small capture t inside, inside .madt .inside))
 
   -- 40, of the processors
-  processors-told : Told capture (processorRule base (count table))
+  processors-told : Told 54 capture (processorRule (t .madt .place) (count (madtBytes capture (t .madt))))
   unfolding processorRule
-  processors-told = if-cases (Told capture) _ _ _ (λ z. tell capture 40 base (refl, refl) (at .0)) (λ z. omega arith)
+  processors-told = if-cases (Told 54 capture) _ _ _ (λ z. tell capture 40 (t .madt .place) (refl, refl, omega arith) (at .0)) (λ z. omega arith)
 
-  rules-told : walkOf capture t .verdict ≡ verdicts.Sound → Told capture (rulesAfterWalk table t (walkOf capture t .found))
+  rules-told : walkOf capture t .verdict ≡ verdicts.Sound → Told 54 capture (rulesAfterWalk (madtBytes capture (t .madt)) t (walkOf capture t .found))
   unfolding rulesAfterWalk
   rules-told sound =
-      turn-told capture _ _ (repeat-told (firstRepeat table) refl)
-      (λ z. turn-told capture _ _ processors-told
+      turn-told 54 capture _ _ (repeat-told (firstRepeat (madtBytes capture (t .madt))) refl)
+      (λ z. turn-told 54 capture _ _ processors-told
       (λ z. map-rule-told capture _
-      (broken-told capture (walked-keeps table base (t .sci) (t .madt .length) first small sound) ends base (t .fadt .place) (at .0) (at .1))))
+      (broken-told capture
+      (walked-keeps (madtBytes capture (t .madt)) (t .madt .place) (t .sci) (t .madt .length) (inside .madt .long) (small capture t inside) sound)
+      (inside .madt .inside) (t .madt .place) (t .fadt .place) (at .0) (at .1))))
 
 -- ---- 1 to 54
-scan-told : (capture : List ℕ) → Told capture (scan capture .verdict)
+scan-told : (capture : List ℕ) → Told 54 capture (scan capture .verdict)
 unfolding scan afterSurvey afterWalk turnedDown
 scan-told capture = go (survey capture) refl (survey-told capture)
   where
-    go : (s : Survey) → survey capture ≡ s → SurveyTold capture s → Told capture (afterSurvey capture s .verdict)
-    go (surveys.Refused r) e told = told
+    go : (s : Survey) → survey capture ≡ s → SurveyTold capture s → Told 54 capture (afterSurvey capture s .verdict)
+    go (surveys.Refused r) e told = widen 30 54 capture (verdicts.Refused r) (omega arith) told
     go (surveys.Found t) e told =
         let i = tables-inside capture t e in
         rw (verdict-left t _ _)
-        (turn-told capture _ _
-        (walked-told capture (t .madt .place) (t .madt .length) (ends capture t i told) (madtBytes capture (t .madt)) (t .sci) (first capture t i told) (small capture t i told))
+        (turn-told 54 capture _ _
+        (widen 38 54 capture (walkOf capture t .verdict) (omega arith) (walk-of-told capture t i))
         (rules-told capture t i told))
 
 of-scan : (capture : List ℕ) (r : Refusal) → scan capture .verdict ≡ verdicts.Refused r → OfTheTable capture r
-of-scan capture r e = rw e at (scan-told capture)
+of-scan capture r e = (rw e at (scan-told capture)) .0
 
 -- THE PROMISES
 pub reading-refusals : (capture list : List ℕ) → ReadingRefusals capture list

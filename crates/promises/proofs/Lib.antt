@@ -37,3 +37,4 @@ pub mod MapRefusals
 pub mod WhyRefused
 pub mod EveryRefusal
 pub mod NormalMapsEqual
+pub mod RulesInOrder

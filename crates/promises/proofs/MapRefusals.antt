@@ -26,21 +26,20 @@ use Rattle.lines.specs.declared.Bridge.the-variants.{Is, None as NoBio}
 use Rattle.lines.specs.declared.Verdict.{Verdict}
 use Rattle.lines.specs.declared.Verdict.the-variants.{Kept, Broken}
 use Rattle.processors.proofs.Cases.{if-cases}
-use Rattle.promises.specs.RefusalTable.{OfTheTable}
 use Rattle.promises.specs.Structures.{Structure, lio, eio, bio, msi, placeOf, claimOf}
 use Rattle.promises.proofs.Meetings.{of-member}
 use Rattle.promises.proofs.SearchNames.{search-names}
 use Rattle.promises.proofs.Books.{Books}
 use Rattle.promises.proofs.WalkKeepsBooks.{counted}
-use Rattle.promises.proofs.Told.{Named, Inside, tell, fold-told}
+use Rattle.promises.proofs.Told.{UpTo, Named, Inside, tell, fold-told}
 
 -- a rule that is kept, or broken with a refusal of the table
 abbrev pub RuleTold : List ℕ → Verdict → Type 0
 RuleTold capture Kept = 0 < 1
-RuleTold capture (Broken r partner) = OfTheTable capture r
+RuleTold capture (Broken r partner) = UpTo 54 capture r
 
 module _ (capture : List ℕ) where
-  check-told : (n : ℕ) (bad : Bool) (place : ℕ) → Named n → (bad ≡ true → Inside capture place) → RuleTold capture (check n bad place)
+  check-told : (n : ℕ) (bad : Bool) (place : ℕ) → Named 54 n → (bad ≡ true → Inside capture place) → RuleTold capture (check n bad place)
   unfolding check
   check-told n bad place named at = if-cases (RuleTold capture) bad _ _ (λ t. tell capture n place named (at t)) (λ t. omega arith)
 
@@ -53,17 +52,17 @@ module _ (capture : List ℕ) where
   PairTold None = 0 < 1
   PairTold (Two p q) = Inside capture p
 
-  alone-told : (n : ℕ) (c : Pair) → Named n → PairTold c → RuleTold capture (alone n c)
+  alone-told : (n : ℕ) (c : Pair) → Named 54 n → PairTold c → RuleTold capture (alone n c)
   unfolding alone
   alone-told n None named at = at
   alone-told n (Two p q) named at = tell capture n p named at
 
-  both-told : (n : ℕ) (c : Pair) → Named n → PairTold c → RuleTold capture (both n c)
+  both-told : (n : ℕ) (c : Pair) → Named 54 n → PairTold c → RuleTold capture (both n c)
   unfolding both
   both-told n None named at = at
   both-told n (Two p q) named at = tell capture n p named at
 
-  spotted-told : (n : ℕ) (s : Spot) → Named n → SpotTold s → RuleTold capture (spotted n s)
+  spotted-told : (n : ℕ) (s : Spot) → Named 54 n → SpotTold s → RuleTold capture (spotted n s)
   unfolding spotted
   spotted-told n Nowhere named at = at
   spotted-told n (At p) named at = tell capture n p named at
@@ -141,13 +140,13 @@ module _ (capture : List ℕ) {sci next : ℕ} {map : Map} {places : Places} (b 
   broken-told madt fadt m f =
       let all = claims (says map) places in
       let clash = clash-told capture all claims-before in
-      else-told capture _ _ (check-told capture 38 _ madt (refl, refl) (λ t. m))
-      (else-told capture _ _ (check-told capture 40 _ madt (refl, refl) (λ t. m))
-      (else-told capture _ _ (alone-told capture 41 (firstClash 41 all) (refl, refl) (clash 41))
-      (else-told capture _ _ (spotted-told capture 42 (firstLone all) (refl, refl) (lone-told capture all (lone-inside all)))
-      (else-told capture _ _ (check-told capture 43 _ (places .lpc) (refl, refl) lpc-inside)
-      (else-told capture _ _ (both-told capture 51 (firstClash 51 all) (refl, refl) (clash 51))
-      (else-told capture _ _ (both-told capture 52 (firstClash 52 all) (refl, refl) (clash 52))
-      (else-told capture _ _ (both-told capture 53 (firstClash 53 all) (refl, refl) (clash 53))
-      (else-told capture _ _ (check-told capture 54 _ fadt (refl, refl) (λ t. f))
+      else-told capture _ _ (check-told capture 38 _ madt (refl, refl, omega arith) (λ t. m))
+      (else-told capture _ _ (check-told capture 40 _ madt (refl, refl, omega arith) (λ t. m))
+      (else-told capture _ _ (alone-told capture 41 (firstClash 41 all) (refl, refl, omega arith) (clash 41))
+      (else-told capture _ _ (spotted-told capture 42 (firstLone all) (refl, refl, omega arith) (lone-told capture all (lone-inside all)))
+      (else-told capture _ _ (check-told capture 43 _ (places .lpc) (refl, refl, omega arith) lpc-inside)
+      (else-told capture _ _ (both-told capture 51 (firstClash 51 all) (refl, refl, omega arith) (clash 51))
+      (else-told capture _ _ (both-told capture 52 (firstClash 52 all) (refl, refl, omega arith) (clash 52))
+      (else-told capture _ _ (both-told capture 53 (firstClash 53 all) (refl, refl, omega arith) (clash 53))
+      (else-told capture _ _ (check-told capture 54 _ fadt (refl, refl, omega arith) (λ t. f))
       (omega arith)))))))))

@@ -28,7 +28,7 @@ use Rattle.promises.proofs.WhyRefused.{why-refused}
 use Rattle.promises.proofs.WalkKeepsBooks.{walk-keeps-books}
 
 -- 40: some processor is enabled
-enabled : (base n : ℕ) → (n ≡ 0 → ⊥) → processorRule base n ≡ Sound
+pub enabled : (base n : ℕ) → (n ≡ 0 → ⊥) → processorRule base n ≡ Sound
 unfolding processorRule
 enabled base n h = no-if _ _ _ (ne-eqb n 0 h) refl
 
@@ -46,7 +46,7 @@ module _ (capture : List ℕ) (t : Tables) (h : NothingBefore51 capture t) where
   first = firstBroken map (walkOf capture t .found .places) (t .madt .place) (t .fadt .place)
 
   -- the verdict is what the map breaks first
-  of-map : scan capture .verdict ≡ mapRule first
+  pub of-map : scan capture .verdict ≡ mapRule first
   unfolding afterSurvey rulesAfterWalk
   of-map =
       ap (λ s. s .verdict) (scan-found capture (h .tables) ∙ walk-sound (madtBytes capture (t .madt)) t (walkOf capture t) (h .structures))

@@ -33,24 +33,23 @@ use Rattle.tables.specs.declared.Survey.{Survey}
 use Rattle.tables.specs.declared.Survey.the-variants.{Found, Refused}
 use Rattle.tables.proofs.Laws.{names-absent}
 use Rattle.processors.proofs.Cases.{if-cases}
-use Rattle.promises.specs.RefusalTable.{OfTheTable}
-use Rattle.promises.proofs.Told.{Told, Inside, tell, search-told}
+use Rattle.promises.proofs.Told.{UpTo, Told, Inside, tell, search-told}
 use Rattle.promises.proofs.CaptureRefusals.{RootTold, rsdp-told}
 
 -- ---- 11 to 14
-rsdp-rules-told : (capture : List ℕ) (place : ℕ) → Inside capture place → Told capture (rsdpRules capture place)
+rsdp-rules-told : (capture : List ℕ) (place : ℕ) → Inside capture place → Told 30 capture (rsdpRules capture place)
 unfolding rsdpRules
 rsdp-rules-told capture place l =
-    if-cases (Told capture) _ _ _ (λ t. tell capture 11 place (refl, refl) l)
-    (λ t. if-cases (Told capture) _ _ _ (λ t. tell capture 12 place (refl, refl) l)
-    (λ t. if-cases (Told capture) _ _ _ (λ t. tell capture 13 place (refl, refl) l)
-    (λ t. if-cases (Told capture) _ _ _ (λ t. tell capture 14 place (refl, refl) l)
+    if-cases (Told 30 capture) _ _ _ (λ t. tell capture 11 place (refl, refl, omega arith) l)
+    (λ t. if-cases (Told 30 capture) _ _ _ (λ t. tell capture 12 place (refl, refl, omega arith) l)
+    (λ t. if-cases (Told 30 capture) _ _ _ (λ t. tell capture 13 place (refl, refl, omega arith) l)
+    (λ t. if-cases (Told 30 capture) _ _ _ (λ t. tell capture 14 place (refl, refl, omega arith) l)
     (λ t. omega arith))))
 
 -- ---- 20 to 22
 -- a table that was not refused lies inside the capture
 abbrev CheckedTold : List ℕ → Checked → Type 0
-CheckedTold capture (checked.Refused r) = OfTheTable capture r
+CheckedTold capture (checked.Refused r) = UpTo 30 capture r
 CheckedTold capture (checked.Is table) = (0 < table .place) × (36 ≤ table .length) × (table .place + table .length ≤ length capture)
 
 present-at : (s : Stretch) → isPresent s ≡ true → (place : ℕ) × (s ≡ Present place)
@@ -75,15 +74,15 @@ unfolding tableAt tableFound
 table-told capture field sound l = go (located capture (addressAt capture field) headerSize) refl
   where
     go : (s : Stretch) → located capture (addressAt capture field) headerSize ≡ s → CheckedTold capture (tableFound capture field s)
-    go Absent e = tell capture 20 field (refl, refl) l
+    go Absent e = tell capture 20 field (refl, refl, omega arith) l
     go (Present place) e =
         let ends = within capture (addressAt capture field) headerSize place sound e in
         let low = behind capture (addressAt capture field) headerSize place e in
-        if-cases (CheckedTold capture) _ _ _ (λ t. tell capture 21 place (refl, refl) (omega arith, omega arith))
-        (λ whole. if-cases (CheckedTold capture) _ _ _ (λ t. tell capture 22 place (refl, refl) (omega arith, omega arith))
+        if-cases (CheckedTold capture) _ _ _ (λ t. tell capture 21 place (refl, refl, omega arith) (omega arith, omega arith))
+        (λ whole. if-cases (CheckedTold capture) _ _ _ (λ t. tell capture 22 place (refl, refl, omega arith) (omega arith, omega arith))
         (λ t. whole-inside capture (addressAt capture field) place sound e whole))
 
-refusal-told : (capture : List ℕ) (c : Checked) → CheckedTold capture c → Told capture (refusalOf c)
+refusal-told : (capture : List ℕ) (c : Checked) → CheckedTold capture c → Told 30 capture (refusalOf c)
 unfolding refusalOf
 refusal-told capture (checked.Is table) told = omega arith
 refusal-told capture (checked.Refused r) told = told
@@ -99,19 +98,19 @@ module _ (capture : List ℕ) (sound : Sound capture) (xsdt : Table) (low : 0 < 
   field-at entry h = (omega arith, omega arith)
 
   -- 23 to 25
-  xsdt-rules-told : Told capture (xsdtRules capture xsdt)
+  xsdt-rules-told : Told 30 capture (xsdtRules capture xsdt)
   unfolding xsdtRules
   xsdt-rules-told =
-      if-cases (Told capture) _ _ _ (λ t. tell capture 23 (xsdt .place) (refl, refl) xsdt-at)
-      (λ t. if-cases (Told capture) _ _ _ (λ t. tell capture 24 (xsdt .place) (refl, refl) xsdt-at)
-      (λ t. if-cases (Told capture) _ _ _ (λ t. tell capture 25 (xsdt .place) (refl, refl) xsdt-at)
+      if-cases (Told 30 capture) _ _ _ (λ t. tell capture 23 (xsdt .place) (refl, refl, omega arith) xsdt-at)
+      (λ t. if-cases (Told 30 capture) _ _ _ (λ t. tell capture 24 (xsdt .place) (refl, refl, omega arith) xsdt-at)
+      (λ t. if-cases (Told 30 capture) _ _ _ (λ t. tell capture 25 (xsdt .place) (refl, refl, omega arith) xsdt-at)
       (λ t. omega arith)))
 
   -- 20 to 22 of each entry
-  entries-told : Told capture (entryRules capture xsdt)
+  entries-told : Told 30 capture (entryRules capture xsdt)
   unfolding entryRules entries numbersBelow
   entries-told =
-      search-told (Told capture) (λ (k : ℕ). isRefused (tableAt capture (entryField xsdt k))) (λ (k : ℕ). refusalOf (tableAt capture (entryField xsdt k)))
+      search-told (Told 30 capture) (λ (k : ℕ). isRefused (tableAt capture (entryField xsdt k))) (λ (k : ℕ). refusalOf (tableAt capture (entryField xsdt k)))
       verdicts.Sound
       0
       (entryCount xsdt)
@@ -143,16 +142,16 @@ module _ (capture : List ℕ) (sound : Sound capture) (xsdt : Table) (low : 0 < 
   earlier-counted (At entry) (At other) p q = if-cases Counted (leb entry other) _ _ (λ t. p) (λ t. q)
 
   -- 27
-  second-told : (e : Entry) → Counted e → Told capture (secondRule xsdt e)
+  second-told : (e : Entry) → Counted e → Told 30 capture (secondRule xsdt e)
   unfolding secondRule
   second-told Nowhere p = omega arith
-  second-told (At entry) p = tell capture 27 (entryField xsdt entry) (refl, refl) (field-at entry p)
+  second-told (At entry) p = tell capture 27 (entryField xsdt entry) (refl, refl, omega arith) (field-at entry p)
 
   -- 26 and 27
-  names-told : Told capture (nameRules capture xsdt)
+  names-told : Told 30 capture (nameRules capture xsdt)
   unfolding nameRules
   names-told =
-      if-cases (Told capture) _ _ _ (λ t. tell capture 26 (xsdt .place) (refl, refl) xsdt-at)
+      if-cases (Told 30 capture) _ _ _ (λ t. tell capture 26 (xsdt .place) (refl, refl, omega arith) xsdt-at)
       (λ t. second-told _
       (earlier-counted (secondNamed capture xsdt apic) (secondNamed capture xsdt facp) (second-counted apic) (second-counted facp)))
 
@@ -188,21 +187,21 @@ module _ (capture : List ℕ) (sound : Sound capture) (xsdt : Table) (low : 0 < 
 
 -- 28 to 30
 bodies-told : (capture : List ℕ) (madt fadt : Table) → Inside capture (madt .place) → Inside capture (fadt .place)
-    → Told capture (bodyRules capture madt fadt)
+    → Told 30 capture (bodyRules capture madt fadt)
 unfolding bodyRules
 bodies-told capture madt fadt m f =
-    if-cases (Told capture) _ _ _ (λ t. tell capture 28 (madt .place) (refl, refl) m)
-    (λ t. if-cases (Told capture) _ _ _ (λ t. tell capture 28 (fadt .place) (refl, refl) f)
-    (λ t. if-cases (Told capture) _ _ _ (λ t. tell capture 29 (madt .place) (refl, refl) m)
-    (λ t. if-cases (Told capture) _ _ _ (λ t. tell capture 30 (madt .place) (refl, refl) m)
+    if-cases (Told 30 capture) _ _ _ (λ t. tell capture 28 (madt .place) (refl, refl, omega arith) m)
+    (λ t. if-cases (Told 30 capture) _ _ _ (λ t. tell capture 28 (fadt .place) (refl, refl, omega arith) f)
+    (λ t. if-cases (Told 30 capture) _ _ _ (λ t. tell capture 29 (madt .place) (refl, refl, omega arith) m)
+    (λ t. if-cases (Told 30 capture) _ _ _ (λ t. tell capture 30 (madt .place) (refl, refl, omega arith) m)
     (λ t. omega arith))))
 
 -- ---- all of them in turn
 abbrev pub SurveyTold : List ℕ → Survey → Type 0
 SurveyTold capture (Found t) = Inside capture (t .madt .place) × Inside capture (t .fadt .place)
-SurveyTold capture (Refused r) = OfTheTable capture r
+SurveyTold capture (Refused r) = UpTo 30 capture r
 
-after-told : (capture : List ℕ) (v : Verdict) (later : Survey) → Told capture v → (v ≡ verdicts.Sound → SurveyTold capture later)
+after-told : (capture : List ℕ) (v : Verdict) (later : Survey) → Told 30 capture v → (v ≡ verdicts.Sound → SurveyTold capture later)
     → SurveyTold capture (after v later)
 unfolding after
 after-told capture verdicts.Sound later here rest = rest refl

@@ -8,6 +8,7 @@ use mathlib.Core.Bool.{Bool, true, false}
 use lib.ListN.{length}
 use Rattle.words.specs.Lists.{first, numbersFrom}
 use Rattle.words.specs.Refusals.{refused}
+use Rattle.words.specs.declared.Refusal.{Refusal}
 use Rattle.capture.specs.declared.Verdict.{Verdict}
 use Rattle.capture.specs.declared.Verdict.the-variants.{Sound, Refused}
 use Rattle.clashes.specs.Folds.{fold}
@@ -15,30 +16,39 @@ use Rattle.processors.proofs.Cases.{if-cases}
 use Rattle.reading.specs.Scan.{inTurn}
 use Rattle.promises.specs.RefusalTable.{isRefusalNumber, isPlaceless, OfTheTable}
 
--- a verdict that refuses nothing, or with a refusal of the table
-abbrev pub Told : List ℕ → Verdict → Type 0
-Told capture Sound = 0 < 1
-Told capture (Refused r) = OfTheTable capture r
+-- a refusal of the table with a number up to `most`
+abbrev pub UpTo : ℕ → List ℕ → Refusal → Type 0
+UpTo most capture r = OfTheTable capture r × (r .number ≤ most)
+
+-- a verdict that refuses nothing, or with such a refusal
+abbrev pub Told : ℕ → List ℕ → Verdict → Type 0
+Told most capture Sound = 0 < 1
+Told most capture (Refused r) = UpTo most capture r
+
+pub widen : (most more : ℕ) (capture : List ℕ) (v : Verdict) → most ≤ more → Told most capture v → Told more capture v
+widen most more capture Sound l told = told
+widen most more capture (Refused r) l told = (told .0, omega (arith, told .1))
 
 -- ---- one refusal
 -- its number is one that has a place, and its place is inside the capture
-abbrev pub Named : ℕ → Type 0
-Named n = (isRefusalNumber n ≡ true) × (isPlaceless n ≡ false)
+abbrev pub Named : ℕ → ℕ → Type 0
+Named most n = (isRefusalNumber n ≡ true) × (isPlaceless n ≡ false) × (n ≤ most)
 
 abbrev pub Inside : List ℕ → ℕ → Type 0
 Inside capture place = (0 < place) × (place < length capture)
 
-pub tell : (capture : List ℕ) (n place : ℕ) → Named n → Inside capture place → OfTheTable capture (refused n place)
-tell capture n place named at = record { number = named .0; place = inr (named .1, at .0, at .1) }
+pub tell : (capture : List ℕ) {most : ℕ} (n place : ℕ) → Named most n → Inside capture place → UpTo most capture (refused n place)
+tell capture n place named at = (record { number = named .0; place = inr (named .1, at .0, at .1) }, named .2)
 
 pub tell-none : (capture : List ℕ) (n : ℕ) → isRefusalNumber n ≡ true → isPlaceless n ≡ true → OfTheTable capture (refused n 0)
 tell-none capture n number none = record { number = number; place = inl (none, refl) }
 
 -- ---- rules in turn
-pub turn-told : (capture : List ℕ) (v later : Verdict) → Told capture v → (v ≡ Sound → Told capture later) → Told capture (inTurn v later)
+pub turn-told : (most : ℕ) (capture : List ℕ) (v later : Verdict) → Told most capture v → (v ≡ Sound → Told most capture later)
+    → Told most capture (inTurn v later)
 unfolding inTurn
-turn-told capture Sound later here after = after refl
-turn-told capture (Refused r) later here after = here
+turn-told most capture Sound later here after = after refl
+turn-told most capture (Refused r) later here after = here
 
 -- ---- a search of numbers gives an answer of one of them that the test takes, or the one for none
 pub search-told : {R : Type 0} (P : R → Type 0) (test : ℕ → Bool) (found : ℕ → R) (none : R) (from k : ℕ)

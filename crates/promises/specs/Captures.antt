@@ -119,6 +119,16 @@ pub record NothingBefore51 (capture : List ℕ) (t : Tables) : Type 0 where
   pub r42 : rule42 (claims (says (walkOf capture t .found .map)) (walkOf capture t .found .places)) ≡ Kept
   pub r43 : rule43 (says (walkOf capture t .found .map)) (walkOf capture t .found .places .lpc) ≡ Kept
 
+-- the same by the answer alone: no number below 51 is given
+abbrev pub NotRefusedBefore51 : List ℕ → Type 0
+NotRefusedBefore51 capture = (r : Refusal) → scan capture .verdict ≡ Refused r → 51 ≤ r .number
+
+-- it is the same: the rules are asked in their order
+abbrev pub RulesInOrder : List ℕ → Type 0
+RulesInOrder capture =
+    (NotRefusedBefore51 capture → (t : Tables) × NothingBefore51 capture t)
+    × ((t : Tables) → NothingBefore51 capture t → NotRefusedBefore51 capture)
+
 -- "refused for a clash": with 51, 52 or 53
 abbrev pub RefusedAsClash : List ℕ → Type 0
 RefusedAsClash capture = (n : ℕ) × (place : ℕ) × (51 ≤ n) × (n ≤ 53) × (scan capture .verdict ≡ Refused (refused n place))
