@@ -113,7 +113,7 @@ later {sci} {next} {next′} {map} {places} l b =
 module _ {next : ℕ} {old new : Map} {p q : Places} (x : Structure) (st : Standing next old p)
     (adds : (s : Structure) → Used new s → (s ≡ x) ⊎ (Used old s × (placeOf q s ≡ placeOf p s)))
     (here : placeOf q x ≡ next) (lpcbehind : new .lpc .present ≡ true → 0 < q .lpc) (lpc : q .lpc < suc next) where
-  pub stands-more : Standing (suc next) new q
+  stands-more : Standing (suc next) new q
   stands-more =
       record {
         before = λ s u. ⊎-elim

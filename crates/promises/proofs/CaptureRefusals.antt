@@ -42,7 +42,7 @@ segments-told capture h =
     (omega arith)
 
 -- 1 to 6
-pub verdict-told : (capture : List ℕ) → Told 30 capture (verdict capture)
+verdict-told : (capture : List ℕ) → Told 30 capture (verdict capture)
 unfolding verdict
 verdict-told capture =
     if-cases (Told 30 capture) _ _ _ (λ t. (tell-none capture 1 refl refl, omega arith))

@@ -102,7 +102,7 @@ module _ {sci next : ℕ} {map : Map} {places : Places} (b : Books sci next map 
         nolpc = lpc-unused (map .lpc) (b .onelpc .normal);
       }
 
-  pub well-kept : WellKept map places
+  well-kept : WellKept map places
   well-kept =
       record { placed = placed; r36 = ranges; r37 = rw (b .onelio .normal) (b .onelio .masks); r38 = few; normal = normal }
 
