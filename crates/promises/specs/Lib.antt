@@ -1,3 +1,5 @@
 pub mod Sources
 pub mod Structures
 pub mod Statements
+pub mod Captures
+pub mod RefusalTable

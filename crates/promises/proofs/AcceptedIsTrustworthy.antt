@@ -1,0 +1,97 @@
+-- The map of every accepted capture keeps the rules, so that it is never refused, no two of its lines look alike, and tracing
+-- names the one source that arrives. "Take any accepted capture, and as sources its wired processor lines, bridge pins and
+-- message slots."
+use Prim.Native.Nat.{ℕ}
+use native.Mathlib.Omega.{arith}
+use mathlib.Core.Path.{_≡_, refl, _∙_}
+use mathlib.Core.List.{List}
+use mathlib.Core.Bool.{true, false, not, _&&_, true≢false}
+use Rattle.words.specs.declared.Refusal.{Refusal}
+use Rattle.words.proofs.Choices.{yes-if}
+use Rattle.capture.specs.declared.Verdict.{Verdict}
+use Rattle.capture.specs.declared.Verdict.the-variants as verdicts
+use Rattle.kinds.specs.Ranges.{bitInBoth}
+use Rattle.clashes.proofs.Logic.{and-right}
+use Rattle.lines.specs.Says.{says}
+use Rattle.lines.specs.Routes.{arrival}
+use Rattle.lines.specs.Rules.{rangesKept, tooMany, check, lost, lowest, verdictsFrom40, firstBroken, isKept, keepsRules, slotPlaces}
+use Rattle.lines.specs.Answers.{routeOf}
+use Rattle.lines.specs.declared.Route.{Route}
+use Rattle.lines.specs.declared.Route.the-variants.{Arrives, Unwired, NoOwner, Refused as NoRoute}
+use Rattle.lines.specs.declared.Map.{Map}
+use Rattle.processors.proofs.Cases.{if-cases}
+use Rattle.reading.specs.Scan.{madtBytes, scan}
+use Rattle.reading.specs.Reading.{withoutMap, answered, afterScan, readingOf}
+use Rattle.reading.specs.declared.Answer.{Answer}
+use Rattle.reading.specs.declared.Answer.the-variants.{Read, Refused}
+use Rattle.reading.specs.declared.Reading.{Reading}
+use Rattle.promises.specs.Captures.{Normal, Trustworthy, AcceptedIsTrustworthy, ReadIsTrustworthy, walkOf}
+use Rattle.promises.proofs.NoTwoAlike.{no-two-alike}
+use Rattle.promises.proofs.Places.{places-do-not-matter}
+use Rattle.promises.proofs.RefusedExactly.{refused-exactly}
+use Rattle.promises.proofs.Tracing.{tracing-names, nothing-exactly}
+use Rattle.promises.proofs.ThereAndBack.{lpc-lines-share, there-and-back}
+use Rattle.promises.proofs.Verdicts.{check-kept, both-of-kept, each-kept, kept-yes}
+use Rattle.promises.proofs.Scanned.{scanned, rules-kept}
+use Rattle.promises.proofs.WalkKeepsBooks.{walk-keeps-books}
+
+-- 54: an answer that is not lost is an arrival
+not-lost : (route : Route) → lost route ≡ false → (vector : ℕ) × (number : ℕ) × (route ≡ Arrives vector number)
+unfolding lost
+not-lost (Arrives vector number) h = (vector, number, refl)
+not-lost Unwired h = absurd (true≢false h)
+not-lost NoOwner h = absurd (true≢false h)
+not-lost (NoRoute r) h = absurd (true≢false h)
+
+sci-arrives : (map : Map) → keepsRules map ≡ true → (vector : ℕ) × (number : ℕ) × (routeOf map (map .sci) ≡ Arrives vector number)
+unfolding keepsRules firstBroken verdictsFrom40 routeOf
+sci-arrives map k =
+    let said = says map in
+    let lower = rangesKept said && not (bitInBoth (said .lio)) in
+    let first = kept-yes (firstBroken map slotPlaces 0 0) (and-right lower (isKept (firstBroken map slotPlaces 0 0)) k) in
+    let rules = verdictsFrom40 said slotPlaces 0 0 in
+    let r54 = each-kept rules (both-of-kept (check 38 (tooMany map) 0) (lowest rules) first .1) 7 in
+    let w = not-lost (arrival said (said .sci)) (check-kept 54 (lost (arrival said (said .sci))) 0 r54) in
+    (w .0, w .1, yes-if _ _ _ k ∙ w .2)
+
+trustworthy : (map : Map) → keepsRules map ≡ true → Normal map → Trustworthy map
+trustworthy map k n =
+    let answered = refused-exactly map .1 k in
+    record {
+      keeps = k;
+      normal = n;
+      routes = answered .0;
+      traces = answered .1;
+      sci = sci-arrives map k;
+      alike = no-two-alike map k;
+      tracing = tracing-names map k;
+      nothing = nothing-exactly map k;
+      lpc = lpc-lines-share map k;
+      back = there-and-back map k;
+    }
+
+-- THE PROMISES
+pub accepted-is-trustworthy : (capture : List ℕ) → AcceptedIsTrustworthy capture
+accepted-is-trustworthy capture h =
+    let s = scanned capture h in
+    let t = s .t in
+    let found = walkOf capture t .found in
+    let b = walk-keeps-books (madtBytes capture (t .madt)) (t .madt .place) (t .sci) (s .walk) .0 in
+    let kept = places-do-not-matter (found .map) (found .places) (t .madt .place) (t .fadt .place) (b .placed) .0 (b .r36) (b .r37)
+    (rules-kept (madtBytes capture (t .madt)) t found (s .rules)) in
+    rw (s .map) (trustworthy (found .map) kept (b .normal))
+
+refused-read : {refusal : Refusal} {count : ℕ} {X : Type 0} → _≡_ {A = Answer} (Refused refusal) (Read count) → X
+refused-read e = absurd (let o : _≡_ {A = ℕ} 0 1 = cc in omega arith)
+
+pub read-is-trustworthy : (capture list : List ℕ) → ReadIsTrustworthy capture list
+unfolding readingOf afterScan withoutMap answered
+read-is-trustworthy capture list count = go (scan capture .verdict) refl
+  where
+    go : (v : Verdict) → scan capture .verdict ≡ v → afterScan capture (scan capture) v list .answer ≡ Read count
+        → Trustworthy (afterScan capture (scan capture) v list .map)
+    go (verdicts.Refused r) e = λ h. refused-read h
+    go verdicts.Sound e =
+        if-cases (λ (r : Reading). r .answer ≡ Read count → Trustworthy (r .map)) _ _ _
+        (λ room h. accepted-is-trustworthy capture e)
+        (λ room h. refused-read h)

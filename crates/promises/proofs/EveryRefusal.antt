@@ -1,0 +1,152 @@
+-- "Each public call ends and either answers or refuses with a number and a place from our table. A refused call leaves the
+-- processor list it was lent as it found it."
+use Prim.Native.Nat.{ℕ, _+_, _≤_}
+use native.Mathlib.Omega.{arith}
+use mathlib.Core.Path.{_≡_, refl, sym, _∙_}
+use mathlib.Core.Logic.{inl, inr, ⊎-elim}
+use mathlib.Core.List.{List}
+use mathlib.Core.Bool.{Bool, true, false}
+use lib.ListN.{length}
+use Rattle.words.specs.declared.Refusal.{Refusal}
+use Rattle.words.proofs.Choices.{no-if}
+use Rattle.capture.specs.declared.Verdict.{Verdict}
+use Rattle.capture.specs.declared.Verdict.the-variants as verdicts
+use Rattle.tables.specs.Survey.{survey}
+use Rattle.tables.specs.declared.Tables.{Tables}
+use Rattle.tables.specs.declared.Survey.{Survey}
+use Rattle.tables.specs.declared.Survey.the-variants as surveys
+use Rattle.tables.proofs.Inside.{Accepted as TablesInside, tables-inside}
+use Rattle.lines.specs.Rules.{keepsRules}
+use Rattle.lines.specs.declared.Map.{Map}
+use Rattle.lines.specs.declared.Route.{Route}
+use Rattle.lines.specs.declared.Route.the-variants as routes
+use Rattle.lines.specs.declared.Trace.{Trace}
+use Rattle.lines.specs.declared.Trace.the-variants as traces
+use Rattle.lines.specs.declared.Verdict.{Verdict as Rules}
+use Rattle.lines.specs.declared.Verdict.the-variants as rules
+use Rattle.processors.specs.Listing.{filled, count}
+use Rattle.processors.specs.Repeats.{firstRepeat}
+use Rattle.processors.specs.declared.Repeat.{Repeat}
+use Rattle.processors.specs.declared.Repeat.the-variants.{At, Nowhere}
+use Rattle.processors.proofs.Cases.{if-cases}
+use Rattle.processors.proofs.Inside.{repeat-inside}
+use Rattle.reading.specs.Scan.{madtBytes, turnedDown, repeatRule, processorRule, mapRule, rulesAfterWalk, afterWalk, afterSurvey, scan}
+use Rattle.reading.specs.Entries.{routeResult, traceResult}
+use Rattle.reading.specs.declared.Answer.the-variants.{Refused}
+use Rattle.reading.proofs.Laws.{bytes-small, list-refused, list-sound, asked-refused, asked-sound}
+use Rattle.promises.specs.Captures.{walkOf}
+use Rattle.promises.specs.RefusalTable.{OfTheTable, ReadingRefusals, RefusedLeavesList, RouteRefusals, TraceRefusals, MapRefusals}
+use Rattle.promises.proofs.AcceptedIsTrustworthy.{accepted-is-trustworthy}
+use Rattle.promises.proofs.MapRefusals.{RuleTold, broken-told}
+use Rattle.promises.proofs.RefusedExactly.{refused-exactly}
+use Rattle.promises.proofs.Scanned.{verdict-left}
+use Rattle.promises.proofs.TableRefusals.{SurveyTold, survey-told}
+use Rattle.promises.proofs.Told.{Told, widen, Inside, tell, tell-none, turn-told}
+use Rattle.promises.proofs.WalkKeepsBooks.{walked-keeps}
+use Rattle.promises.proofs.WhyRefused.{why-refused}
+use Rattle.promises.proofs.WalkRefusals.{walked-told}
+
+-- ---- 31 to 54
+map-rule-told : (capture : List ℕ) (v : Rules) → RuleTold capture v → Told 54 capture (mapRule v)
+unfolding mapRule
+map-rule-told capture rules.Kept told = told
+map-rule-told capture (rules.Broken r partner) told = told
+
+module _ (capture : List ℕ) (t : Tables) (inside : TablesInside capture t) where
+  abbrev table : List ℕ
+  table = madtBytes capture (t .madt)
+
+  abbrev base : ℕ
+  base = t .madt .place
+
+  small : length table ≤ t .madt .length
+  small = bytes-small capture (t .madt)
+
+  -- 31 to 38
+  pub walk-of-told : Told 38 capture (walkOf capture t .verdict)
+  walk-of-told = walked-told capture base (t .madt .length) (inside .madt .inside) table (t .sci) (inside .madt .long) small
+
+module _ (capture : List ℕ) (t : Tables) (inside : TablesInside capture t) (at : Inside capture (t .madt .place) × Inside capture (t .fadt .place)) where
+  -- 39
+  repeat-told : (r : Repeat) → firstRepeat (madtBytes capture (t .madt)) ≡ r → Told 54 capture (repeatRule (t .madt .place) r)
+  unfolding repeatRule
+  repeat-told Nowhere e = omega arith
+  repeat-told (At offset) e =
+      let there = repeat-inside (madtBytes capture (t .madt)) offset e in
+      tell capture 39 (t .madt .place + offset) (refl, refl, omega arith)
+      (omega (arith, at .0 .0), omega (arith, there, small capture t inside, inside .madt .inside))
+
+  -- 40, of the processors
+  processors-told : Told 54 capture (processorRule (t .madt .place) (count (madtBytes capture (t .madt))))
+  unfolding processorRule
+  processors-told = if-cases (Told 54 capture) _ _ _ (λ z. tell capture 40 (t .madt .place) (refl, refl, omega arith) (at .0)) (λ z. omega arith)
+
+  rules-told : walkOf capture t .verdict ≡ verdicts.Sound → Told 54 capture (rulesAfterWalk (madtBytes capture (t .madt)) t (walkOf capture t .found))
+  unfolding rulesAfterWalk
+  rules-told sound =
+      turn-told 54 capture _ _ (repeat-told (firstRepeat (madtBytes capture (t .madt))) refl)
+      (λ z. turn-told 54 capture _ _ processors-told
+      (λ z. map-rule-told capture _
+      (broken-told capture
+      (walked-keeps (madtBytes capture (t .madt)) (t .madt .place) (t .sci) (t .madt .length) (inside .madt .long) (small capture t inside) sound)
+      (inside .madt .inside) (t .madt .place) (t .fadt .place) (at .0) (at .1))))
+
+-- ---- 1 to 54
+scan-told : (capture : List ℕ) → Told 54 capture (scan capture .verdict)
+unfolding scan afterSurvey afterWalk turnedDown
+scan-told capture = go (survey capture) refl (survey-told capture)
+  where
+    go : (s : Survey) → survey capture ≡ s → SurveyTold capture s → Told 54 capture (afterSurvey capture s .verdict)
+    go (surveys.Refused r) e told = widen 30 54 capture (verdicts.Refused r) (omega arith) told
+    go (surveys.Found t) e told =
+        let i = tables-inside capture t e in
+        rw (verdict-left t _ _)
+        (turn-told 54 capture _ _
+        (widen 38 54 capture (walkOf capture t .verdict) (omega arith) (walk-of-told capture t i))
+        (rules-told capture t i told))
+
+of-scan : (capture : List ℕ) (r : Refusal) → scan capture .verdict ≡ verdicts.Refused r → OfTheTable capture r
+of-scan capture r e = (rw e at (scan-told capture)) .0
+
+-- THE PROMISES
+pub reading-refusals : (capture list : List ℕ) → ReadingRefusals capture list
+reading-refusals capture list r h =
+    ⊎-elim (of-scan capture r) (λ w. rw (← w .1) (tell-none capture 60 refl refl)) (why-refused capture list r h)
+
+pub refused-leaves-list : (capture list : List ℕ) → RefusedLeavesList capture list
+unfolding filled
+refused-leaves-list capture list r h =
+    ⊎-elim (list-refused capture list) (λ w. list-sound capture list (w .0) ∙ no-if _ _ _ (w .2) refl) (why-refused capture list r h)
+
+pub route-refusals : (capture : List ℕ) (number : ℕ) → RouteRefusals capture number
+unfolding routeResult
+route-refusals capture number = go (scan capture .verdict) refl
+  where
+    go : (v : Verdict) → scan capture .verdict ≡ v → RouteRefusals capture number
+    go (verdicts.Refused r) e = inl (r, e, asked-refused _ _ e, of-scan capture r e)
+    go verdicts.Sound e = inr (e, asked-sound _ _ e, accepted-is-trustworthy capture e .routes number)
+
+pub trace-refusals : (capture : List ℕ) (vector number : ℕ) → TraceRefusals capture vector number
+unfolding traceResult
+trace-refusals capture vector number = go (scan capture .verdict) refl
+  where
+    go : (v : Verdict) → scan capture .verdict ≡ v → TraceRefusals capture vector number
+    go (verdicts.Refused r) e = inl (r, e, asked-refused _ _ e, of-scan capture r e)
+    go verdicts.Sound e = inr (e, asked-sound _ _ e, accepted-is-trustworthy capture e .traces vector number)
+
+same-route : {q r : Refusal} → _≡_ {A = Route} (routes.Refused q) (routes.Refused r) → r ≡ q
+same-route e = cc
+
+same-trace : {q r : Refusal} → _≡_ {A = Trace} (traces.Refused q) (traces.Refused r) → r ≡ q
+same-trace e = cc
+
+pub map-refusals : (map : Map) → MapRefusals map
+map-refusals map = go (keepsRules map) refl
+  where
+    go : (b : Bool) → keepsRules map ≡ b → MapRefusals map
+    go true k =
+        let never = refused-exactly map .1 k in
+        ((λ n r h. absurd (never .0 n r h)), λ v n r h. absurd (never .1 v n r h))
+    go false k =
+        let always = refused-exactly map .0 k in
+        ((λ n r h. same-route (sym (always .0 n) ∙ h)), λ v n r h. same-trace (sym (always .1 v n) ∙ h))
