@@ -31,6 +31,7 @@ use Rattle.processors.specs.declared.Repeat.the-variants.{At, Nowhere}
 use Rattle.processors.proofs.Cases.{if-cases}
 use Rattle.processors.proofs.Inside.{repeat-inside}
 use Rattle.reading.specs.Scan.{madtBytes, turnedDown, repeatRule, processorRule, mapRule, rulesAfterWalk, afterWalk, afterSurvey, scan}
+use Rattle.reading.specs.Reading.{listAfter}
 use Rattle.reading.specs.Entries.{routeResult, traceResult}
 use Rattle.reading.specs.declared.Answer.the-variants.{Refused}
 use Rattle.reading.proofs.Laws.{bytes-small, list-refused, list-sound, asked-refused, asked-sound}
@@ -114,9 +115,9 @@ reading-refusals capture list r h =
     ⊎-elim (of-scan capture r) (λ w. rw (← w .1) (tell-none capture 60 refl refl)) (why-refused capture list r h)
 
 pub refused-leaves-list : (capture list : List ℕ) → RefusedLeavesList capture list
-unfolding filled
+unfolding filled listAfter
 refused-leaves-list capture list r h =
-    ⊎-elim (list-refused capture list) (λ w. list-sound capture list (w .0) ∙ no-if _ _ _ (w .2) refl) (why-refused capture list r h)
+    ⊎-elim (λ w. list-refused capture list _ w) (λ w. list-sound capture list _ (w .0) ∙ no-if _ _ _ (w .2) refl) (why-refused capture list r h)
 
 pub route-refusals : (capture : List ℕ) (number : ℕ) → RouteRefusals capture number
 unfolding routeResult
