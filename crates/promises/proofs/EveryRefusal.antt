@@ -106,7 +106,7 @@ scan-told capture = go (survey capture) refl (survey-told capture)
         (widen 38 54 capture (walkOf capture t .verdict) (omega arith) (walk-of-told capture t i))
         (rules-told capture t i told))
 
-of-scan : (capture : List ℕ) (r : Refusal) → scan capture .verdict ≡ verdicts.Refused r → OfTheTable capture r
+pub of-scan : (capture : List ℕ) (r : Refusal) → scan capture .verdict ≡ verdicts.Refused r → OfTheTable capture r
 of-scan capture r e = (rw e at (scan-told capture)) .0
 
 -- THE PROMISES

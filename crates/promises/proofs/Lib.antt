@@ -37,4 +37,7 @@ pub mod MapRefusals
 pub mod WhyRefused
 pub mod EveryRefusal
 pub mod NormalMapsEqual
+pub mod AtMost256
+pub mod Determined
+pub mod ReadForC
 pub mod RulesInOrder

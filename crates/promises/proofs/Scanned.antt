@@ -24,9 +24,10 @@ both-sound Sound later h = (refl, h)
 both-sound (Refused r) later h = not-sound h
 
 -- what a verdict left
-left : (t : Tables) (map : Map) (v : Verdict) → judged t map v .verdict ≡ Sound → (v ≡ Sound) × (judged t map v .map ≡ map)
+left : (t : Tables) (map : Map) (v : Verdict) → judged t map v .verdict ≡ Sound
+    → (v ≡ Sound) × (judged t map v .map ≡ map) × (judged t map v .madt ≡ t .madt)
 unfolding judged turnedDown
-left t map Sound h = (refl, refl)
+left t map Sound h = (refl, refl, refl)
 left t map (Refused r) h = not-sound h
 
 -- a verdict is left as it is
@@ -52,6 +53,7 @@ pub record Scanned (capture : List ℕ) : Type 0 where
   pub walk : walkOf capture t .verdict ≡ Sound
   pub rules : rulesAfterWalk (madtBytes capture (t .madt)) t (walkOf capture t .found) ≡ Sound
   pub map : scan capture .map ≡ walkOf capture t .found .map
+  pub madt : scan capture .madt ≡ t .madt
 
 pub scanned : (capture : List ℕ) → Accepted capture → Scanned capture
 unfolding scan afterSurvey afterWalk turnedDown
@@ -62,4 +64,11 @@ scanned capture h = go (survey capture) refl h
     go (surveys.Found t) e g =
         let l = left t _ _ g in
         let v = both-sound (walkOf capture t .verdict) _ (l .0) in
-        record { t = t; tables = e; walk = v .0; rules = v .1; map = ap (λ (s : Survey). afterSurvey capture s .map) e ∙ l .1 }
+        record {
+          t = t;
+          tables = e;
+          walk = v .0;
+          rules = v .1;
+          map = ap (λ (s : Survey). afterSurvey capture s .map) e ∙ l .1;
+          madt = ap (λ (s : Survey). afterSurvey capture s .madt) e ∙ l .2;
+        }

@@ -3,3 +3,4 @@ pub mod Structures
 pub mod Statements
 pub mod Captures
 pub mod RefusalTable
+pub mod Calls

@@ -1,0 +1,92 @@
+-- What is promised of the public calls over a capture: one question, one answer; and the C entry for the reading does what the
+-- reading does. Each statement stands alone; proofs/ has a theorem for it.
+use Prim.Native.Nat.{ℕ, _*_, _^_, _<_, _≤_}
+use mathlib.Core.List.{List, _++_}
+use mathlib.Core.Logic.{_⊎_}
+use mathlib.Core.Path.{_≡_}
+use lib.ListN.{length, getD, drop}
+use Rattle.words.specs.Bytes.{numberAt}
+use Rattle.words.specs.Refusals.{refused}
+use Rattle.words.specs.declared.Refusal.{Refusal}
+use Rattle.capture.specs.declared.Verdict.the-variants as verdicts
+use Rattle.lines.specs.Answers.{refusalCode}
+use Rattle.processors.specs.Image.{image}
+use Rattle.processors.specs.Listing.{processors, count}
+use Rattle.reading.specs.Scan.{scan}
+use Rattle.reading.specs.Reading.{tableOf, readingOf, listAfter}
+use Rattle.reading.specs.Entries.{readCode, readResult, bytesAfter, routeResult, traceResult}
+use Rattle.reading.specs.declared.Answer.{Answer}
+use Rattle.reading.specs.declared.Answer.the-variants.{Read, Refused}
+use Rattle.reading.specs.declared.Reading.{Reading}
+use Rattle.reading.specs.declared.Scan.{Scan}
+use Rattle.promises.specs.RefusalTable.{OfTheTable}
+
+-- ---- "For each public call, the inputs determine the result and the list's content afterwards, refused calls too": any two
+-- results that the contract allows are equal, and so are the lists
+abbrev pub ScanDetermined : List ℕ → Type 0
+ScanDetermined capture = (r s : Scan) → r ≡ scan capture → s ≡ scan capture → r ≡ s
+
+abbrev pub ReadDetermined : List ℕ → List ℕ → Type 0
+ReadDetermined capture list =
+    (r s : Reading) (l m : List ℕ)
+    → (r ≡ readingOf capture list) × (l ≡ listAfter capture list) → (s ≡ readingOf capture list) × (m ≡ listAfter capture list)
+    → (r ≡ s) × (l ≡ m)
+
+abbrev pub CReadDetermined : List ℕ → List ℕ → Type 0
+CReadDetermined capture list =
+    (r s : ℕ) (l m : List ℕ)
+    → (r ≡ readResult capture list) × (l ≡ bytesAfter capture list) → (s ≡ readResult capture list) × (m ≡ bytesAfter capture list)
+    → (r ≡ s) × (l ≡ m)
+
+abbrev pub CRouteDetermined : List ℕ → ℕ → Type 0
+CRouteDetermined capture number = (r s : ℕ) → r ≡ routeResult capture number → s ≡ routeResult capture number → r ≡ s
+
+abbrev pub CTraceDetermined : List ℕ → ℕ → ℕ → Type 0
+CTraceDetermined capture vector number =
+    (r s : ℕ) → r ≡ traceResult capture vector number → s ≡ traceResult capture vector number → r ≡ s
+
+-- ---- the reading for C
+-- lent the bytes of a list, it leaves the bytes of what the reading leaves of that list, and gives the reading's answer as a
+-- number
+abbrev pub SameReading : List ℕ → List ℕ → Type 0
+SameReading capture list =
+    (bytesAfter capture (image list) ≡ image (listAfter capture list))
+    × (readResult capture (image list) ≡ readCode (readingOf capture list .answer))
+
+-- "four little-endian ones a number": a list of 32-bit numbers is read back from its bytes, as numbers of a capture are read
+abbrev pub ReadBack : List ℕ → Type 0
+ReadBack list = ((at : ℕ) → getD list at 0 < 2 ^ 32) → (at : ℕ) → numberAt 4 (image list) (4 * at) ≡ getD list at 0
+
+-- lent any bytes, it does one of three things. It refuses what breaks a rule from 1 to 54, with the bytes as they were;
+pub record NotRead (capture list : List ℕ) : Type 0 where
+  pub refusal : Refusal
+  pub broken : scan capture .verdict ≡ verdicts.Refused refusal
+  pub ofthetable : OfTheTable capture refusal
+  pub result : readResult capture list ≡ refusalCode refusal
+  pub kept : bytesAfter capture list ≡ list
+
+-- or "60 means under 8 × count bytes", with the bytes as they were;
+pub record TooShort (capture list : List ℕ) : Type 0 where
+  pub sound : scan capture .verdict ≡ verdicts.Sound
+  pub short : length list < 8 * count (tableOf capture)
+  pub result : readResult capture list ≡ refusalCode (refused 60 0)
+  pub kept : bytesAfter capture list ≡ list
+
+-- or it answers the count, with the processors' bytes in front and the rest as it was
+pub record HasRead (capture list : List ℕ) : Type 0 where
+  pub sound : scan capture .verdict ≡ verdicts.Sound
+  pub room : 8 * count (tableOf capture) ≤ length list
+  pub result : readResult capture list ≡ count (tableOf capture)
+  pub most : count (tableOf capture) ≤ 256
+  pub bytes : bytesAfter capture list ≡ image (processors (tableOf capture)) ++ drop (8 * count (tableOf capture)) list
+
+abbrev pub CReading : List ℕ → List ℕ → Type 0
+CReading capture list = NotRead capture list ⊎ (TooShort capture list ⊎ HasRead capture list)
+
+-- no two answers have one number, so that a result is decoded in one way: a count is below 2^48, a refusal is not
+abbrev pub AnswerFits : Answer → Type 0
+AnswerFits (Read processors) = processors < 2 ^ 48
+AnswerFits (Refused r) = (0 < r .number) × (r .place < 2 ^ 32)
+
+abbrev pub ReadCodesApart : Type 0
+ReadCodesApart = (a b : Answer) → AnswerFits a → AnswerFits b → readCode a ≡ readCode b → a ≡ b
