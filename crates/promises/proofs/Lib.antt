@@ -17,7 +17,6 @@ pub mod ThereAndBack
 pub mod SameAnswers
 pub mod Places
 pub mod SearchNames
-pub mod BoardA
 pub mod RefusedExactly
 pub mod CodesApart
 pub mod Shelves
@@ -38,6 +37,7 @@ pub mod WhyRefused
 pub mod EveryRefusal
 pub mod NormalMapsEqual
 pub mod AtMost256
+pub mod Examples
 pub mod Determined
 pub mod ReadForC
 pub mod RulesInOrder

@@ -4,3 +4,5 @@ pub mod Statements
 pub mod Captures
 pub mod RefusalTable
 pub mod Calls
+pub mod BoardA
+pub mod Examples

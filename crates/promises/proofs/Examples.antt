@@ -1,0 +1,57 @@
+-- Document 01's twelve examples hold, and board A is read: computed from its bytes.
+use Prim.Native.Nat.{ℕ}
+use mathlib.Core.List.{List}
+use mathlib.Core.Path.{refl}
+use Rattle.reading.specs.declared.Scan.{Scan}
+use Rattle.words.specs.Choice.{if}
+use Rattle.words.specs.Bytes.{numberAt, spelled, total, byteSum}
+use Rattle.words.specs.Lists.{first, every, numbersFrom, numbersBelow}
+use Rattle.capture.specs.Fields.{version, segmentCount, totalLength, rsdpAddress, headerSize, descriptor, descriptorsEnd, segmentAddress, segmentLength, segments, lengths, segmentPlace}
+use Rattle.capture.specs.Presence.{holds, placeIn, located, presentOr10, rsdpPresence, afterVerdict, rsdp}
+use Rattle.capture.specs.Rules.{wrongSize, wrongMark, wrongVersion, wrongCount, wrongTotal, emptySegment, endsPastMemory, endBefore, startsEarly, segmentBroken, segmentRules, verdict}
+use Rattle.tables.specs.Finder.{isSigned, names, namedFrom, firstNamed, namedAfter, secondNamed}
+use Rattle.tables.specs.Rsdp.{rsdPtr, wrongSignature, wrongRevision, wrongLength, wrongSums, rsdpRules, xsdtField}
+use Rattle.tables.specs.Structures.{structureLength, brokenAt, stepAt}
+use Rattle.tables.specs.Survey.{apic, facp, isNowhere, earlier, secondRule, nameRules, wrongMadtRevision, wrongFlags, bodyRules, sciNumber, tableOf, tableNamed, tableOfEntry, madtOf, fadtOf, after, ofTables, ofNames, ofXsdt, ofRsdp, survey}
+use Rattle.tables.specs.Table.{addressAt, signature, tableLength, isPresent, cutShort, wrongSum, tableFound, tableAt}
+use Rattle.tables.specs.Xsdt.{xsdtSignature, revision, notXsdt, wrongXsdtRevision, entryCount, wrongBody, xsdtRules, entryField, entries, isRefused, refusalOf, entryRules}
+use Rattle.kinds.specs.Makers.{coreOf, lioOf, htOf, eioOf, msiOf, bioOf, lpcOf}
+use Rattle.kinds.specs.Ranges.{lioField, eioField, msiField, bioField, lpcField}
+use Rattle.kinds.specs.Used.{usedHalf, saidLio, saidLpc}
+use Rattle.clashes.specs.Claims.{pushed}
+use Rattle.clashes.specs.Folds.{fold}
+use Rattle.clashes.specs.Rules.{clash}
+use Rattle.clashes.specs.Search.{sooner, nearer, partner, better, firstClash, lonelier, firstLone}
+use Rattle.parts.specs.Inputs.{hasBit, lesser, hasPin}
+use Rattle.lines.specs.Answers.{routeOf, traceOf}
+use Rattle.lines.specs.Claims.{placed, claims}
+use Rattle.lines.specs.Routes.{lioArrival, through, bridge, pinArrival, bioOwner, owner, arrivalOf, arrival}
+use Rattle.lines.specs.Rules.{check, alone, both, spotted, eiosFit, biosFit, msisFit, rangesKept, noBridge, lost, orElse, lowest, verdictsFrom40, firstBroken, isKept, keepsRules}
+use Rattle.lines.specs.Traces.{slotTold, isBridge, isLpcPin, pinTold, landed, eioTraced, traced}
+use Rattle.madt.specs.Adding.{noMap, noPlaces, nothing, withCore, withLio, withEio, withMsi, withBio, withLpc}
+use Rattle.madt.specs.Pieces.{pieceAt, piecesFrom, pieces, sizeOf, sizeAt}
+use Rattle.madt.specs.Rules.{isType, coreFault, rangeFault, lioFault, counted, judged}
+use Rattle.madt.specs.Takes.{taking, takeCore, takeLio, takeHt, takeEio, takeMsi, takeBio, takeLpc, takeOne}
+use Rattle.madt.specs.Walk.{turnedAway, afterTaking, walk, walked}
+use Rattle.processors.specs.Image.{fourBytes, image}
+use Rattle.processors.specs.Listing.{isEnabledCore, entriesOf, entriesIn, processors, countOf, countIn, count, hasRoom, written, filled}
+use Rattle.processors.specs.Repeats.{twins, earlierTwin, hasTwin, repeats, spot, firstRepeat}
+use Rattle.reading.specs.Entries.{asked, answerIn, readCode, readResult, bytesAfter}
+use Rattle.reading.specs.Reading.{withoutMap, answered, afterScan, tableOf as readingTableOf, readingOf, listFrom, listAfter}
+use Rattle.reading.specs.Scan.{madtBytes, emptyMap, turnedDown, repeatRule, processorRule, mapRule, inTurn, rulesAfterWalk, judged as scanJudged, afterWalk, afterSurvey, scan}
+use Rattle.promises.specs.BoardA.{boardA, msiFrom63, msiTo257, eioAt2}
+use Rattle.promises.specs.Examples.{told, twelve, TwelveExamples, BoardAIsRead}
+
+-- the scan, with all that it and the answers are computed by
+unfoldable computed : List ℕ → Scan
+unfolding if first every fold numberAt spelled total byteSum numbersFrom numbersBelow version segmentCount totalLength rsdpAddress headerSize descriptor descriptorsEnd segmentAddress segmentLength segments lengths segmentPlace holds placeIn located presentOr10 rsdpPresence afterVerdict rsdp wrongSize wrongMark wrongVersion wrongCount wrongTotal emptySegment endsPastMemory endBefore startsEarly segmentBroken segmentRules verdict isSigned names namedFrom firstNamed namedAfter secondNamed rsdPtr wrongSignature wrongRevision wrongLength wrongSums rsdpRules xsdtField structureLength brokenAt stepAt apic facp isNowhere earlier secondRule nameRules wrongMadtRevision wrongFlags bodyRules sciNumber tableOf tableNamed tableOfEntry madtOf fadtOf after ofTables ofNames ofXsdt ofRsdp survey addressAt signature tableLength isPresent cutShort wrongSum tableFound tableAt xsdtSignature revision notXsdt wrongXsdtRevision entryCount wrongBody xsdtRules entryField entries isRefused refusalOf entryRules coreOf lioOf htOf eioOf msiOf bioOf lpcOf lioField eioField msiField bioField lpcField usedHalf saidLio saidLpc pushed clash sooner nearer partner better firstClash lonelier firstLone hasBit lesser hasPin routeOf traceOf placed claims lioArrival through bridge pinArrival bioOwner owner arrivalOf arrival check alone both spotted eiosFit biosFit msisFit rangesKept noBridge lost orElse lowest verdictsFrom40 firstBroken isKept keepsRules slotTold isBridge isLpcPin pinTold landed eioTraced traced noMap noPlaces nothing withCore withLio withEio withMsi withBio withLpc pieceAt piecesFrom pieces sizeOf sizeAt isType coreFault rangeFault lioFault counted judged taking takeCore takeLio takeHt takeEio takeMsi takeBio takeLpc takeOne turnedAway afterTaking walk walked isEnabledCore entriesOf entriesIn processors countOf countIn count hasRoom written filled twins earlierTwin hasTwin repeats spot firstRepeat withoutMap answered afterScan readingTableOf readingOf listFrom listAfter madtBytes emptyMap turnedDown repeatRule processorRule mapRule inTurn rulesAfterWalk scanJudged afterWalk afterSurvey scan
+computed capture = scan capture
+
+-- THE PROMISES
+pub twelve-examples : TwelveExamples
+unfolding boardA msiFrom63 msiTo257 eioAt2 told twelve computed
+twelve-examples = refl
+
+pub board-a-is-read : BoardAIsRead
+unfolding boardA computed fourBytes image asked answerIn readCode readResult bytesAfter
+board-a-is-read = record { accepted = refl; reading = refl; list = refl; result = refl; bytes = refl }
