@@ -21,7 +21,7 @@ use Rattle.lines.specs.declared.Route.the-variants.{Arrives, Unwired, NoOwner, 
 use Rattle.lines.specs.declared.Map.{Map}
 use Rattle.processors.proofs.Cases.{if-cases}
 use Rattle.reading.specs.Scan.{madtBytes, scan}
-use Rattle.reading.specs.Reading.{withoutMap, answered, afterScan, readingOf, tableOf}
+use Rattle.reading.specs.Reading.{withoutMap, answered, afterScan, readingOf, madtFound}
 use Rattle.reading.specs.declared.Answer.{Answer}
 use Rattle.reading.specs.declared.Answer.the-variants.{Read, Refused}
 use Rattle.reading.specs.declared.Reading.{Reading}
@@ -88,8 +88,8 @@ pub read-is-trustworthy : (capture list : List ℕ) → ReadIsTrustworthy captur
 unfolding readingOf afterScan withoutMap answered
 read-is-trustworthy capture list count = go (scan capture .verdict) refl
   where
-    go : (v : Verdict) → scan capture .verdict ≡ v → afterScan v (tableOf capture) (scan capture .map) list .answer ≡ Read count
-        → Trustworthy (afterScan v (tableOf capture) (scan capture .map) list .map)
+    go : (v : Verdict) → scan capture .verdict ≡ v → afterScan v (madtFound capture) (scan capture .map) list .answer ≡ Read count
+        → Trustworthy (afterScan v (madtFound capture) (scan capture .map) list .map)
     go (verdicts.Refused r) e = λ h. refused-read h
     go verdicts.Sound e =
         if-cases (λ (r : Reading). r .answer ≡ Read count → Trustworthy (r .map)) _ _ _

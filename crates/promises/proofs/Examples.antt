@@ -37,14 +37,14 @@ use Rattle.processors.specs.Image.{fourBytes, image}
 use Rattle.processors.specs.Listing.{isEnabledCore, entriesOf, entriesIn, processors, countOf, countIn, count, hasRoom, written, filled}
 use Rattle.processors.specs.Repeats.{twins, earlierTwin, hasTwin, repeats, spot, firstRepeat}
 use Rattle.reading.specs.Entries.{asked, answerIn, readCode, readResult, bytesAfter}
-use Rattle.reading.specs.Reading.{withoutMap, answered, afterScan, tableOf as readingTableOf, readingOf, listFrom, listAfter}
+use Rattle.reading.specs.Reading.{withoutMap, answered, afterScan, madtFound, readingOf, listFrom, listAfter}
 use Rattle.reading.specs.Scan.{madtBytes, emptyMap, turnedDown, repeatRule, processorRule, mapRule, inTurn, rulesAfterWalk, judged as scanJudged, afterWalk, afterSurvey, scan}
 use Rattle.promises.specs.BoardA.{boardA, msiFrom63, msiTo257, eioAt2}
 use Rattle.promises.specs.Examples.{told, twelve, TwelveExamples, BoardAIsRead}
 
 -- the scan, with all that it and the answers are computed by
 unfoldable computed : List ℕ → Scan
-unfolding if first every fold numberAt spelled total byteSum numbersFrom numbersBelow version segmentCount totalLength rsdpAddress headerSize descriptor descriptorsEnd segmentAddress segmentLength segments lengths segmentPlace holds placeIn located presentOr10 rsdpPresence afterVerdict rsdp wrongSize wrongMark wrongVersion wrongCount wrongTotal emptySegment endsPastMemory endBefore startsEarly segmentBroken segmentRules verdict isSigned names namedFrom firstNamed namedAfter secondNamed rsdPtr wrongSignature wrongRevision wrongLength wrongSums rsdpRules xsdtField structureLength brokenAt stepAt apic facp isNowhere earlier secondRule nameRules wrongMadtRevision wrongFlags bodyRules sciNumber tableOf tableNamed tableOfEntry madtOf fadtOf after ofTables ofNames ofXsdt ofRsdp survey addressAt signature tableLength isPresent cutShort wrongSum tableFound tableAt xsdtSignature revision notXsdt wrongXsdtRevision entryCount wrongBody xsdtRules entryField entries isRefused refusalOf entryRules coreOf lioOf htOf eioOf msiOf bioOf lpcOf lioField eioField msiField bioField lpcField usedHalf saidLio saidLpc pushed clash sooner nearer partner better firstClash lonelier firstLone hasBit lesser hasPin routeOf traceOf placed claims lioArrival through bridge pinArrival bioOwner owner arrivalOf arrival check alone both spotted eiosFit biosFit msisFit rangesKept noBridge lost orElse lowest verdictsFrom40 firstBroken isKept keepsRules slotTold isBridge isLpcPin pinTold landed eioTraced traced noMap noPlaces nothing withCore withLio withEio withMsi withBio withLpc pieceAt piecesFrom pieces sizeOf sizeAt isType coreFault rangeFault lioFault counted judged taking takeCore takeLio takeHt takeEio takeMsi takeBio takeLpc takeOne turnedAway afterTaking walk walked isEnabledCore entriesOf entriesIn processors countOf countIn count hasRoom written filled twins earlierTwin hasTwin repeats spot firstRepeat withoutMap answered afterScan readingTableOf readingOf listFrom listAfter madtBytes emptyMap turnedDown repeatRule processorRule mapRule inTurn rulesAfterWalk scanJudged afterWalk afterSurvey scan
+unfolding if first every fold numberAt spelled total byteSum numbersFrom numbersBelow version segmentCount totalLength rsdpAddress headerSize descriptor descriptorsEnd segmentAddress segmentLength segments lengths segmentPlace holds placeIn located presentOr10 rsdpPresence afterVerdict rsdp wrongSize wrongMark wrongVersion wrongCount wrongTotal emptySegment endsPastMemory endBefore startsEarly segmentBroken segmentRules verdict isSigned names namedFrom firstNamed namedAfter secondNamed rsdPtr wrongSignature wrongRevision wrongLength wrongSums rsdpRules xsdtField structureLength brokenAt stepAt apic facp isNowhere earlier secondRule nameRules wrongMadtRevision wrongFlags bodyRules sciNumber tableOf tableNamed tableOfEntry madtOf fadtOf after ofTables ofNames ofXsdt ofRsdp survey addressAt signature tableLength isPresent cutShort wrongSum tableFound tableAt xsdtSignature revision notXsdt wrongXsdtRevision entryCount wrongBody xsdtRules entryField entries isRefused refusalOf entryRules coreOf lioOf htOf eioOf msiOf bioOf lpcOf lioField eioField msiField bioField lpcField usedHalf saidLio saidLpc pushed clash sooner nearer partner better firstClash lonelier firstLone hasBit lesser hasPin routeOf traceOf placed claims lioArrival through bridge pinArrival bioOwner owner arrivalOf arrival check alone both spotted eiosFit biosFit msisFit rangesKept noBridge lost orElse lowest verdictsFrom40 firstBroken isKept keepsRules slotTold isBridge isLpcPin pinTold landed eioTraced traced noMap noPlaces nothing withCore withLio withEio withMsi withBio withLpc pieceAt piecesFrom pieces sizeOf sizeAt isType coreFault rangeFault lioFault counted judged taking takeCore takeLio takeHt takeEio takeMsi takeBio takeLpc takeOne turnedAway afterTaking walk walked isEnabledCore entriesOf entriesIn processors countOf countIn count hasRoom written filled twins earlierTwin hasTwin repeats spot firstRepeat withoutMap answered afterScan madtFound readingOf listFrom listAfter madtBytes emptyMap turnedDown repeatRule processorRule mapRule inTurn rulesAfterWalk scanJudged afterWalk afterSurvey scan
 computed capture = scan capture
 
 -- THE PROMISES

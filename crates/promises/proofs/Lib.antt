@@ -38,6 +38,7 @@ pub mod EveryRefusal
 pub mod NormalMapsEqual
 pub mod AtMost256
 pub mod Examples
+pub mod FirstRule
 pub mod Determined
 pub mod ReadForC
 pub mod RulesInOrder

@@ -20,7 +20,7 @@ use Rattle.processors.specs.Image.{fourBytes, image}
 use Rattle.processors.specs.Listing.{processors, count, hasRoom, written, filled}
 use Rattle.processors.proofs.Image.{eight-each, room-image, filled-image}
 use Rattle.reading.specs.Scan.{madtBytes, scan}
-use Rattle.reading.specs.Reading.{withoutMap, answered, tableOf, afterScan, readingOf, listFrom, listAfter}
+use Rattle.reading.specs.Reading.{withoutMap, answered, madtFound, afterScan, readingOf, listFrom, listAfter}
 use Rattle.reading.specs.Entries.{asked, answerIn, readCode, readResult, bytesAfter}
 use Rattle.reading.specs.declared.Answer.the-variants.{Read, Refused}
 use Rattle.reading.proofs.Laws.{asked-refused, asked-sound, in-read, in-60, list-refused, list-sound}
@@ -43,8 +43,8 @@ module _ (table list : List ℕ) where
       go false h = in-60 table (image list) (same-room ∙ h) ∙ (rw h)
 
 -- no more processors than 256
-count-small : (capture : List ℕ) → scan capture .verdict ≡ verdicts.Sound → count (tableOf capture) ≤ 256
-unfolding tableOf
+count-small : (capture : List ℕ) → scan capture .verdict ≡ verdicts.Sound → count (madtFound capture) ≤ 256
+unfolding madtFound
 count-small capture sound =
     let s = scanned capture sound in
     rw (s .madt) (at-most-256 (madtBytes capture (s .t .madt)) (s .t .madt .place) (s .t .sci) (s .walk))
@@ -52,7 +52,7 @@ count-small capture sound =
 -- ---- the three ways of the C entry
 module _ (capture list : List ℕ) (sound : scan capture .verdict ≡ verdicts.Sound) where
   abbrev bytes : List ℕ
-  bytes = image (processors (tableOf capture))
+  bytes = image (processors (madtFound capture))
 
   no-room : hasRoom bytes list ≡ false → TooShort capture list
   unfolding hasRoom filled readResult readCode bytesAfter
@@ -60,8 +60,8 @@ module _ (capture list : List ℕ) (sound : scan capture .verdict ≡ verdicts.S
       let less = leb-false (length bytes) (length list) h in
       record {
         sound = sound;
-        short = omega (arith, eight-each (tableOf capture));
-        result = asked-sound _ _ sound ∙ ap readCode (in-60 (tableOf capture) list h);
+        short = omega (arith, eight-each (madtFound capture));
+        result = asked-sound _ _ sound ∙ ap readCode (in-60 (madtFound capture) list h);
         kept = list-sound capture list bytes sound ∙ no-if _ _ _ h refl;
       }
 
@@ -71,10 +71,10 @@ module _ (capture list : List ℕ) (sound : scan capture .verdict ≡ verdicts.S
       let enough = leb-true (length bytes) (length list) h in
       record {
         sound = sound;
-        room = omega (arith, eight-each (tableOf capture));
-        result = asked-sound _ _ sound ∙ ap readCode (in-read (tableOf capture) list h);
+        room = omega (arith, eight-each (madtFound capture));
+        result = asked-sound _ _ sound ∙ ap readCode (in-read (madtFound capture) list h);
         most = count-small capture sound;
-        bytes = list-sound capture list bytes sound ∙ yes-if _ _ _ h ∙ ap (λ (n : ℕ). bytes ++ drop n list) (eight-each (tableOf capture));
+        bytes = list-sound capture list bytes sound ∙ yes-if _ _ _ h ∙ ap (λ (n : ℕ). bytes ++ drop n list) (eight-each (madtFound capture));
       }
 
 -- ---- reading numbers back
@@ -103,10 +103,10 @@ unfolding bytesAfter listAfter readResult readingOf listFrom asked afterScan rea
 same-reading capture list = go (scan capture .verdict)
   where
     go : (v : Verdict)
-        → (listFrom v (image (processors (tableOf capture))) (image list) ≡ image (listFrom v (processors (tableOf capture)) list))
-        × (asked v (readCode (answerIn (tableOf capture) (image list))) ≡ readCode (afterScan v (tableOf capture) (scan capture .map) list .answer))
+        → (listFrom v (image (processors (madtFound capture))) (image list) ≡ image (listFrom v (processors (madtFound capture)) list))
+        × (asked v (readCode (answerIn (madtFound capture) (image list))) ≡ readCode (afterScan v (madtFound capture) (scan capture .map) list .answer))
     go (verdicts.Refused r) = (refl, refl)
-    go verdicts.Sound = (filled-image (processors (tableOf capture)) list, ap readCode (same-answer (tableOf capture) list (scan capture .map)))
+    go verdicts.Sound = (filled-image (processors (madtFound capture)) list, ap readCode (same-answer (madtFound capture) list (scan capture .map)))
 
 pub read-codes-apart : ReadCodesApart
 unfolding readCode
@@ -119,7 +119,7 @@ pub c-reading : (capture list : List ℕ) → CReading capture list
 unfolding readResult bytesAfter
 c-reading capture list = go (scan capture .verdict) refl
   where
-    room : (sound : scan capture .verdict ≡ verdicts.Sound) (b : Bool) → hasRoom (image (processors (tableOf capture))) list ≡ b
+    room : (sound : scan capture .verdict ≡ verdicts.Sound) (b : Bool) → hasRoom (image (processors (madtFound capture))) list ≡ b
         → CReading capture list
     room sound true h = inr (inr (with-room capture list sound h))
     room sound false h = inr (inl (no-room capture list sound h))
@@ -132,9 +132,9 @@ c-reading capture list = go (scan capture .verdict) refl
           broken = e;
           ofthetable = of-scan capture r e;
           result = asked-refused _ _ e;
-          kept = list-refused capture list (image (processors (tableOf capture))) e;
+          kept = list-refused capture list (image (processors (madtFound capture))) e;
         })
-    go verdicts.Sound e = room e (hasRoom (image (processors (tableOf capture))) list) refl
+    go verdicts.Sound e = room e (hasRoom (image (processors (madtFound capture))) list) refl
 
 pub read-back : (list : List ℕ) → ReadBack list
 unfolding image fourBytes

@@ -12,7 +12,7 @@ use Rattle.capture.specs.declared.Verdict.the-variants as verdicts
 use Rattle.processors.specs.Listing.{processors, hasRoom}
 use Rattle.processors.proofs.Cases.{if-cases}
 use Rattle.reading.specs.Scan.{scan}
-use Rattle.reading.specs.Reading.{withoutMap, answered, tableOf, afterScan, readingOf}
+use Rattle.reading.specs.Reading.{withoutMap, answered, madtFound, afterScan, readingOf}
 use Rattle.reading.specs.declared.Answer.{Answer}
 use Rattle.reading.specs.declared.Answer.the-variants.{Read, Refused}
 use Rattle.reading.specs.declared.Reading.{Reading}
@@ -28,13 +28,13 @@ abbrev pub Why : List ℕ → List ℕ → Refusal → Type 0
 Why capture list r =
     (scan capture .verdict ≡ verdicts.Refused r)
     ⊎ ((scan capture .verdict ≡ verdicts.Sound) × (refused 60 0 ≡ r)
-    × (hasRoom (processors (tableOf capture)) list ≡ false))
+    × (hasRoom (processors (madtFound capture)) list ≡ false))
 
 pub why-refused : (capture list : List ℕ) (r : Refusal) → readingOf capture list .answer ≡ Refused r → Why capture list r
 unfolding readingOf afterScan withoutMap answered
 why-refused capture list r = go (scan capture .verdict) refl
   where
-    go : (v : Verdict) → scan capture .verdict ≡ v → afterScan v (tableOf capture) (scan capture .map) list .answer ≡ Refused r → Why capture list r
+    go : (v : Verdict) → scan capture .verdict ≡ v → afterScan v (madtFound capture) (scan capture .map) list .answer ≡ Refused r → Why capture list r
     go (verdicts.Refused q) e = λ h. inl (e ∙ ap verdicts.Refused (same-refusal h))
     go verdicts.Sound e =
         if-cases (λ (x : Reading). x .answer ≡ Refused r → Why capture list r) _ _ _

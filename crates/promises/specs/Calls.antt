@@ -13,7 +13,7 @@ use Rattle.lines.specs.Answers.{refusalCode}
 use Rattle.processors.specs.Image.{image}
 use Rattle.processors.specs.Listing.{processors, count}
 use Rattle.reading.specs.Scan.{scan}
-use Rattle.reading.specs.Reading.{tableOf, readingOf, listAfter}
+use Rattle.reading.specs.Reading.{madtFound, readingOf, listAfter}
 use Rattle.reading.specs.Entries.{readCode, readResult, bytesAfter, routeResult, traceResult}
 use Rattle.reading.specs.declared.Answer.{Answer}
 use Rattle.reading.specs.declared.Answer.the-variants.{Read, Refused}
@@ -68,17 +68,17 @@ pub record NotRead (capture list : List ℕ) : Type 0 where
 -- or "60 means under 8 × count bytes", with the bytes as they were;
 pub record TooShort (capture list : List ℕ) : Type 0 where
   pub sound : scan capture .verdict ≡ verdicts.Sound
-  pub short : length list < 8 * count (tableOf capture)
+  pub short : length list < 8 * count (madtFound capture)
   pub result : readResult capture list ≡ refusalCode (refused 60 0)
   pub kept : bytesAfter capture list ≡ list
 
 -- or it answers the count, with the processors' bytes in front and the rest as it was
 pub record HasRead (capture list : List ℕ) : Type 0 where
   pub sound : scan capture .verdict ≡ verdicts.Sound
-  pub room : 8 * count (tableOf capture) ≤ length list
-  pub result : readResult capture list ≡ count (tableOf capture)
-  pub most : count (tableOf capture) ≤ 256
-  pub bytes : bytesAfter capture list ≡ image (processors (tableOf capture)) ++ drop (8 * count (tableOf capture)) list
+  pub room : 8 * count (madtFound capture) ≤ length list
+  pub result : readResult capture list ≡ count (madtFound capture)
+  pub most : count (madtFound capture) ≤ 256
+  pub bytes : bytesAfter capture list ≡ image (processors (madtFound capture)) ++ drop (8 * count (madtFound capture)) list
 
 abbrev pub CReading : List ℕ → List ℕ → Type 0
 CReading capture list = NotRead capture list ⊎ (TooShort capture list ⊎ HasRead capture list)

@@ -6,3 +6,4 @@ pub mod RefusalTable
 pub mod Calls
 pub mod BoardA
 pub mod Examples
+pub mod AllRules

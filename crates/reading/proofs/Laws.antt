@@ -27,7 +27,7 @@ use Rattle.processors.specs.declared.Repeat.the-variants.{At, Nowhere}
 use Rattle.reading.specs.Scan.{madtBytes, turnedDown, repeatRule, mapRule, inTurn, rulesAfterWalk, judged, afterWalk, afterSurvey, scan}
 use Rattle.lines.specs.Answers.{refusalCode}
 use Rattle.reading.specs.Entries.{asked, answerIn, readCode}
-use Rattle.reading.specs.Reading.{withoutMap, answered, tableOf, afterScan, readingOf, listFrom}
+use Rattle.reading.specs.Reading.{withoutMap, answered, madtFound, afterScan, readingOf, listFrom}
 use Rattle.reading.specs.declared.Answer.{Answer}
 use Rattle.reading.specs.declared.Answer.the-variants as answers
 use Rattle.reading.specs.declared.Answer.the-variants.{Read}
@@ -111,7 +111,7 @@ module _ (capture list : List ℕ) where
 
   pub reading-sound : scan capture .verdict ≡ Sound
       → readingOf capture list ≡ answered (madtBytes capture (scan capture .madt)) (scan capture .map) list
-  unfolding readingOf afterScan tableOf
+  unfolding readingOf afterScan madtFound
   reading-sound h = rw h
 
   module _ (entries : List ℕ) where

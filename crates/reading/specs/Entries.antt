@@ -11,7 +11,7 @@ use Rattle.lines.specs.Answers.{refusalCode, routeOf, traceOf, routeCode, trace
 use Rattle.processors.specs.Image.{image}
 use Rattle.processors.specs.Listing.{processors, count}
 use Rattle.reading.specs.Scan.{scan}
-use Rattle.reading.specs.Reading.{tableOf, listFrom}
+use Rattle.reading.specs.Reading.{madtFound, listFrom}
 use Rattle.reading.specs.declared.Answer.{Answer}
 use Rattle.reading.specs.declared.Answer.the-variants as answers
 
@@ -30,11 +30,11 @@ readCode (answers.Read processors) = processors
 readCode (answers.Refused refusal) = refusalCode refusal
 
 unfoldable pub readResult : List ℕ → List ℕ → ℕ
-readResult capture list = asked (scan capture .verdict) (readCode (answerIn (tableOf capture) list))
+readResult capture list = asked (scan capture .verdict) (readCode (answerIn (madtFound capture) list))
 
 -- the bytes afterwards
 unfoldable pub bytesAfter : List ℕ → List ℕ → List ℕ
-bytesAfter capture list = listFrom (scan capture .verdict) (image (processors (tableOf capture))) list
+bytesAfter capture list = listFrom (scan capture .verdict) (image (processors (madtFound capture))) list
 
 -- ---- questions to the map: where a global number arrives
 unfoldable pub routeResult : List ℕ → ℕ → ℕ

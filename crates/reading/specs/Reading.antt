@@ -27,11 +27,11 @@ afterScan (verdicts.Refused refusal) table map list = withoutMap refusal
 afterScan verdicts.Sound table map list = answered table map list
 
 -- the MADT's bytes where the scan found one
-unfoldable pub tableOf : List ℕ → List ℕ
-tableOf capture = madtBytes capture (scan capture .madt)
+unfoldable pub madtFound : List ℕ → List ℕ
+madtFound capture = madtBytes capture (scan capture .madt)
 
 unfoldable pub readingOf : List ℕ → List ℕ → Reading
-readingOf capture list = afterScan (scan capture .verdict) (tableOf capture) (scan capture .map) list
+readingOf capture list = afterScan (scan capture .verdict) (madtFound capture) (scan capture .map) list
 
 -- the list afterwards: filled with entries by an answer, untouched by a refusal
 unfoldable pub listFrom : Verdict → List ℕ → List ℕ → List ℕ
@@ -39,4 +39,4 @@ listFrom (verdicts.Refused refusal) entries list = list
 listFrom verdicts.Sound entries list = filled entries list
 
 unfoldable pub listAfter : List ℕ → List ℕ → List ℕ
-listAfter capture list = listFrom (scan capture .verdict) (processors (tableOf capture)) list
+listAfter capture list = listFrom (scan capture .verdict) (processors (madtFound capture)) list

@@ -3,7 +3,7 @@ use mathlib.Core.List.{List}
 use Prim.Native.Nat.{ℕ}
 use Rattle.processors.specs.Listing.{processors, filled}
 use Rattle.reading.specs.Scan.{madtBytes}
-use Rattle.reading.specs.Reading.{answered, tableOf, listAfter}
+use Rattle.reading.specs.Reading.{answered, madtFound, listAfter}
 use Rattle.reading.specs.declared.Scan.{Scan}
 use mathlib.Core.Path.{ap, sym, _∙_}
 use Rattle.reading.proofs.Laws.{reading-refused, list-refused, reading-sound, list-sound}
@@ -41,7 +41,7 @@ same-length : tie.Need-same-length
 same-length c = search needs
 
 returns-2 : tie.Need-returns-2
-unfolding listAfter tableOf
+unfolding listAfter madtFound
 returns-2 c =
     let l = c .before .before in
     let b = l .before .before in

@@ -5,7 +5,7 @@ use Prim.Native.Nat.{ℕ}
 use Rattle.processors.specs.Image.{image}
 use Rattle.processors.specs.Listing.{processors, filled}
 use Rattle.reading.specs.Scan.{madtBytes}
-use Rattle.reading.specs.Reading.{tableOf}
+use Rattle.reading.specs.Reading.{madtFound}
 use Rattle.reading.specs.Entries.{answerIn, readCode, readResult, bytesAfter}
 use Rattle.reading.specs.declared.Scan.{Scan}
 use Rattle.reading.proofs.Laws.{asked-refused, asked-sound, list-refused, list-sound}
@@ -46,7 +46,7 @@ same-length : tie.Need-same-length
 same-length c = search needs
 
 returns-2 : tie.Need-returns-2
-unfolding readResult bytesAfter tableOf
+unfolding readResult bytesAfter madtFound
 returns-2 c =
     let f = c .before .before .before in
     let m = f .before .before in
