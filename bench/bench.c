@@ -1,0 +1,318 @@
+/*
+ * Times Yasmirand against reference.c, both in this one program, and measures the stack that they need.
+ *
+ *     bench BOARDS
+ *
+ * A ratio is Yasmirand's time (or stack) by that of reference.c. The program ends with 0 if no row is slower than
+ * reference.c and Yasmirand needs less than 4 KiB of stack.
+ */
+#define _DEFAULT_SOURCE /* clock_gettime, ucontext */
+
+#include <stdbool.h>
+#include <stdio.h>
+#include <stdlib.h>
+#include <string.h>
+#include <time.h>
+#include <ucontext.h>
+
+#include "board.h"
+#include "damage.h"
+#include "files.h"
+#include "random.h"
+#include "readers.h"
+#include "valid.h"
+
+/* ---- Rows ---- */
+
+enum question { READ, ROUTE, TRACE };
+
+struct row {
+    const char *what;
+    enum question question;
+    const struct capture *capture;
+};
+
+enum {
+    ASKED_NUMBER = 72, /* of `route`: on board A it arrives (3, 8) */
+    ASKED_VECTOR = 3,  /* of `trace`: on board A (3, 64) is slot 64 */
+    ASKED_ARRIVAL = 64,
+};
+
+static uint64_t ask(const struct reader *reader, enum question question, const struct capture *capture)
+{
+    static uint8_t list[8 * CORES_MAX];
+
+    switch (question) {
+    case READ:
+        return reader->read(capture->bytes, capture->length, list, sizeof list);
+    case ROUTE:
+        return reader->route(capture->bytes, capture->length, ASKED_NUMBER);
+    default:
+        return reader->trace(capture->bytes, capture->length, ASKED_VECTOR, ASKED_ARRIVAL);
+    }
+}
+
+/* A board with the controllers of board A and so many processors. */
+static void start_like_board_a(struct random *random, struct board *board, uint32_t processors)
+{
+    static const uint8_t cascades[2] = {2, 0};
+    static const uint32_t masks[2] = {0x00FFFFFF, 0};
+
+    start_board(random, board);
+    for (uint32_t i = 0; i < processors; i++)
+        append_structure(board, make_core(random, i, i, 1));
+    append_structure(board, make_lio(random, cascades, masks));
+    append_structure(board, make_eio(random, 3, 0, 1));
+    append_structure(board, make_msi(random, 64, 192));
+    append_structure(board, make_bio(random, 0, 64));
+    append_structure(board, make_lpc(random, 19));
+    board->sci = 75;
+}
+
+static struct board board;
+
+static void make_large_tables(struct random *random, struct capture *capture)
+{
+    start_like_board_a(random, &board, 2);
+    for (int i = 0; i < 4; i++)
+        add_entry(&board, board.entries, add_table(&board, "SSDT", 16000));
+    board.tail = CAPTURE_MAX - capture_length(&board);
+    lay_out(&board, capture);
+}
+
+static void make_many_processors(struct random *random, struct capture *capture)
+{
+    start_like_board_a(random, &board, CORES_MAX);
+    lay_out(&board, capture);
+}
+
+static void make_one_table_named_often(struct random *random, struct capture *capture)
+{
+    start_like_board_a(random, &board, 2);
+
+    size_t large = add_table(&board, "SSDT", 64000);
+
+    while (board.entries < ENTRIES_MAX)
+        add_entry(&board, board.entries, large);
+    lay_out(&board, capture);
+}
+
+/* ---- Time ---- */
+
+enum { ROUNDS = 15 };
+
+static const double ROUND_SECONDS = 0.02;
+
+static double now(void)
+{
+    struct timespec time;
+
+    clock_gettime(CLOCK_MONOTONIC, &time);
+    return (double)time.tv_sec + (double)time.tv_nsec / 1e9;
+}
+
+/* What the answers are put in, so that none is left out. */
+static volatile uint64_t last_answer;
+
+static double time_round(const struct row *row, const struct reader *reader, unsigned long times)
+{
+    double start = now();
+
+    for (unsigned long i = 0; i < times; i++)
+        last_answer = ask(reader, row->question, row->capture);
+    return now() - start;
+}
+
+struct times {
+    double yasmirand, reference; /* seconds for one call: the best of all rounds */
+};
+
+/* The sides take turns, so that what else the machine does meets both. */
+static struct times time_row(const struct row *row)
+{
+    struct times best = {1e9, 1e9};
+    unsigned long times = 1;
+
+    while (time_round(row, &reference, times) < ROUND_SECONDS)
+        times *= 2;
+    for (int round = 0; round < ROUNDS; round++) {
+        double by_yasmirand = time_round(row, &yasmirand, times) / (double)times;
+        double by_reference = time_round(row, &reference, times) / (double)times;
+
+        best.yasmirand = by_yasmirand < best.yasmirand ? by_yasmirand : best.yasmirand;
+        best.reference = by_reference < best.reference ? by_reference : best.reference;
+    }
+    return best;
+}
+
+/* Prints all rows; gives whether no ratio is above 1. */
+static bool time_rows(const struct row *rows, size_t count)
+{
+    bool none_slower = true;
+
+    printf("%-52s %12s %14s %15s %8s\n", "", "capture", "Yasmirand", "reference.c", "ratio");
+    for (size_t i = 0; i < count; i++) {
+        struct times times = time_row(&rows[i]);
+        double ratio = times.yasmirand / times.reference;
+
+        printf("%-52s %10zu B %11.2f us %12.2f us %8.2f\n", rows[i].what, rows[i].capture->length, 1e6 * times.yasmirand,
+               1e6 * times.reference, ratio);
+        fflush(stdout);
+        none_slower = none_slower && ratio <= 1.0;
+    }
+    return none_slower;
+}
+
+/* ---- Stack ---- */
+
+enum { STACK_ROOM = 32768, STACK_LIMIT = 4096, STACK_BOARDS = 500 };
+
+static uint8_t stack[STACK_ROOM];
+static ucontext_t outside, inside;
+
+/* What the call on the other stack asks. */
+static struct {
+    const struct reader *reader;
+    enum question question;
+    const struct capture *capture;
+} call;
+
+static void call_inside(void)
+{
+    last_answer = ask(call.reader, call.question, call.capture);
+}
+
+/* How many bytes of a painted stack a call changes. */
+static size_t painted_over(uint8_t paint)
+{
+    size_t untouched = 0;
+
+    memset(stack, paint, sizeof stack);
+    getcontext(&inside);
+    inside.uc_stack.ss_sp = stack;
+    inside.uc_stack.ss_size = sizeof stack;
+    inside.uc_link = &outside;
+    makecontext(&inside, call_inside, 0);
+    swapcontext(&outside, &inside);
+    while (untouched < sizeof stack && stack[untouched] == paint)
+        untouched++;
+    return sizeof stack - untouched;
+}
+
+/* With two colours, as the deepest byte written may be of the colour of one. */
+static size_t depth(const struct reader *reader, enum question question, const struct capture *capture)
+{
+    call.reader = reader;
+    call.question = question;
+    call.capture = capture;
+
+    size_t one = painted_over(0xA5), other = painted_over(0x5A);
+
+    return one > other ? one : other;
+}
+
+static uint64_t read_nothing(const uint8_t *capture, size_t capture_len, uint8_t *list, size_t list_len)
+{
+    (void)capture, (void)capture_len, (void)list, (void)list_len;
+    return 0;
+}
+
+static uint64_t route_nothing(const uint8_t *capture, size_t capture_len, uint32_t number)
+{
+    (void)capture, (void)capture_len, (void)number;
+    return 0;
+}
+
+static uint64_t trace_nothing(const uint8_t *capture, size_t capture_len, uint32_t vector, uint32_t number)
+{
+    (void)capture, (void)capture_len, (void)vector, (void)number;
+    return 0;
+}
+
+/* A reader that uses no stack: what remains is what the measuring itself uses. */
+static const struct reader idle = {"nothing", read_nothing, route_nothing, trace_nothing};
+
+/* The stack that a reader needs below its caller's for one question, at most: for the rows' captures and for many others. */
+static size_t greatest_depth(const struct reader *reader, enum question question, const struct row *rows, size_t count)
+{
+    static struct capture capture;
+    size_t greatest = 0;
+
+    for (size_t i = 0; i < count + STACK_BOARDS; i++) {
+        struct random random = random_for_case(1, i);
+        const struct way *way = pick_way(&random);
+        bool broken = one_in(&random, 2);
+
+        make_valid_board(&random, &board);
+        lay_out_broken(&random, &board, &capture, &way, broken ? 1 : 0);
+
+        const struct capture *asked = i < count ? rows[i].capture : &capture;
+        size_t used = depth(reader, question, asked) - depth(&idle, question, asked);
+
+        greatest = used > greatest ? used : greatest;
+    }
+    return greatest;
+}
+
+/* Prints the stack that each call needs; gives whether all of Yasmirand's stay under the limit. */
+static bool measure_stacks(const struct row *rows, size_t count)
+{
+    static const char *const names[] = {[READ] = "read", [ROUTE] = "route", [TRACE] = "trace"};
+    bool under_limit = true;
+
+    for (enum question question = READ; question <= TRACE; question++) {
+        size_t by_yasmirand = greatest_depth(&yasmirand, question, rows, count);
+        size_t by_reference = greatest_depth(&reference, question, rows, count);
+
+        printf("stack of %-43s %12s %12zu B %13zu B %8.2f\n", names[question], "", by_yasmirand, by_reference,
+               (double)by_yasmirand / (double)by_reference);
+        under_limit = under_limit && by_yasmirand < STACK_LIMIT;
+    }
+    return under_limit;
+}
+
+/* ---- All of it ---- */
+
+static void load_board_a(const char *boards, struct capture *a)
+{
+    char path[4096];
+
+    snprintf(path, sizeof path, "%s/A.cap", boards);
+    a->length = load_file(path, a->bytes, CAPTURE_ROOM);
+}
+
+int main(int argc, char **argv)
+{
+    static struct capture a, large_tables, many_processors, one_table_often;
+    const struct row rows[] = {
+        {"board A", READ, &a},
+        {"large tables that are passed over", READ, &large_tables},
+        {"256 processors", READ, &many_processors},
+        {"32 XSDT entries, 30 of them naming one large table", READ, &one_table_often},
+        {"one route (board A, 72)", ROUTE, &a},
+        {"one trace (board A, vector 3, number 64)", TRACE, &a},
+    };
+    const size_t count = sizeof rows / sizeof rows[0];
+    struct random random = random_for_case(1, 0);
+
+    if (argc != 2) {
+        fprintf(stderr, "usage: bench BOARDS\n");
+        return 2;
+    }
+    load_board_a(argv[1], &a);
+    make_large_tables(&random, &large_tables);
+    make_many_processors(&random, &many_processors);
+    make_one_table_named_often(&random, &one_table_often);
+    for (size_t i = 0; i < count; i++)
+        if (refusal_number(ask(&yasmirand, rows[i].question, rows[i].capture)) != 0) {
+            printf("bench: %s: %s\n", rows[i].what, tell_read(ask(&yasmirand, READ, rows[i].capture)).words);
+            return 2;
+        }
+
+    bool none_slower = time_rows(rows, count);
+    bool under_limit = measure_stacks(rows, count);
+
+    printf("bench: %s, %s\n", none_slower ? "no row is slower than reference.c" : "a row is slower than reference.c",
+           under_limit ? "every stack is under 4 KiB" : "a stack is not under 4 KiB");
+    return none_slower && under_limit ? 0 : 1;
+}

@@ -1,0 +1,171 @@
+/*
+ * A board as it is thought up, and the capture that is made of it. Document 01's sections "The capture", "Tables" and
+ * "MADT structures" say how a capture is laid out; here this is written, where reference.c reads it.
+ *
+ * A board may be wrong in any way: what breaks a rule is set in the board, or in the capture's bytes afterwards.
+ */
+#ifndef BOARD_H
+#define BOARD_H
+
+#include <stdbool.h>
+#include <stddef.h>
+#include <stdint.h>
+
+#include "random.h"
+
+enum {
+    CAPTURE_MAX = 65536,
+    CAPTURE_ROOM = CAPTURE_MAX + 256, /* for captures that are too long */
+    HEADER_LENGTH = 18,
+    DESCRIPTOR_LENGTH = 12,
+    SEGMENTS_MAX = 16,
+    ENTRIES_MAX = 32,
+    ENTRIES_ROOM = 48,
+    TABLES_ROOM = 40,
+    STRUCTURES_ROOM = 640,
+    RSDP_LENGTH = 36,
+    TABLE_HEADER = 36,
+    MADT_HEADER = 44,
+    FADT_MIN = 48,
+};
+
+/* ---- Structures of the MADT ---- */
+
+enum kind { CORE = 17, LIO = 18, HT = 19, EIO = 20, MSI = 21, BIO = 22, LPC = 23 };
+
+enum {
+    CORES_MAX = 256,
+    EIOS_MAX = 4,
+    BIOS_MAX = 4,
+    MSIS_MAX = 4,
+    CASCADE_MIN = 2,
+    CASCADE_MAX = 9,
+    NODES = 64,
+    PINS = 64,
+    SLOTS = 256,
+    BASE_MIN = 64,
+    BASE_MAX = 65472,
+    LIO_FIRST = 16,
+    LIO_INPUTS = 32,
+};
+
+/* Where the fields stand in a structure. */
+enum {
+    CORE_UID = 3,
+    CORE_PHYSICAL_ID = 7,
+    CORE_FLAGS = 11,
+    LIO_CASCADES = 13,
+    LIO_MASKS = 15,
+    EIO_CASCADE = 3,
+    EIO_NODE = 4,
+    EIO_NODE_MAP = 5,
+    MSI_START = 11,
+    MSI_COUNT = 15,
+    BIO_HARDWARE_ID = 13,
+    BIO_BASE = 15,
+    LPC_CASCADE = 13,
+};
+
+/* The bytes of one structure; a broken one may have more or fewer than its length byte says. */
+struct structure {
+    size_t length;
+    uint8_t bytes[255];
+};
+
+uint8_t length_of_kind(enum kind kind);
+
+/* A structure of a kind with type, length and version right and every other byte random. */
+struct structure random_structure(struct random *random, enum kind kind);
+
+struct structure make_core(struct random *random, uint32_t uid, uint32_t physical_id, uint32_t flags);
+struct structure make_lio(struct random *random, const uint8_t cascades[2], const uint32_t masks[2]);
+struct structure make_eio(struct random *random, uint8_t cascade, uint8_t node, uint64_t node_map);
+struct structure make_msi(struct random *random, uint32_t start, uint32_t count);
+struct structure make_bio(struct random *random, uint16_t hardware_id, uint16_t base);
+struct structure make_lpc(struct random *random, uint16_t cascade);
+
+/* ---- The board ---- */
+
+/* The tables that every board has, by number; those that are passed over follow. */
+enum { RSDP, XSDT, MADT, FADT, OTHERS };
+
+struct table {
+    char signature[4];
+    uint8_t revision;
+    size_t length;
+    size_t gap;         /* free bytes before it in memory */
+    bool opens_segment; /* its gap begins a segment ... */
+    uint64_t distance;  /* ... this far behind the one before; 0: they touch */
+};
+
+struct board {
+    uint64_t filling; /* the seed of all bytes that mean nothing */
+    size_t tables;
+    struct table table[TABLES_ROOM];
+    size_t order[TABLES_ROOM]; /* the tables' numbers as they stand in memory */
+    size_t entries;
+    size_t entry[ENTRIES_ROOM]; /* the table that each entry of the XSDT names */
+    size_t xsdt_tail;           /* bytes behind the last entry */
+    uint32_t madt_flags;
+    size_t madt_cut; /* not 0: the MADT ends here, inside its own header */
+    uint16_t sci;
+    size_t structures;
+    struct structure structure[STRUCTURES_ROOM];
+    uint64_t base; /* the address of the first segment */
+    bool at_top;   /* the last segment ends at 2^64, whatever base says */
+    size_t tail;   /* free bytes behind the last table */
+    size_t cut_table, cut_at; /* cut_at not 0: a segment ends inside this table, and the next touches it */
+};
+
+/* An empty board: RSDP, XSDT, MADT and FADT in this order in one segment, no structures. */
+void start_board(struct random *random, struct board *board);
+
+/* Adds a table at the end of the memory, in the last segment; gives its number. */
+size_t add_table(struct board *board, const char signature[4], size_t length);
+void add_entry(struct board *board, size_t at, size_t table);
+void add_structure(struct board *board, size_t at, const struct structure *structure);
+void append_structure(struct board *board, struct structure structure);
+size_t count_kind(const struct board *board, enum kind kind);
+void remove_kind(struct board *board, enum kind kind);
+
+size_t count_segments(const struct board *board);
+
+/* The length of the capture that lay_out() will make. It sets the lengths of XSDT and MADT, which follow from what they hold. */
+size_t capture_length(struct board *board);
+
+/* Keeps the capture within its greatest length with so many bytes more: the longest table that is passed over gives way. */
+void make_room(struct board *board, size_t more);
+
+/* ---- The capture ---- */
+
+struct capture {
+    size_t length;
+    uint8_t bytes[CAPTURE_ROOM];
+    /* Where the layout put things. */
+    size_t segments;
+    size_t tables;
+    size_t place[TABLES_ROOM];
+    size_t table_length[TABLES_ROOM];
+    uint8_t sum_error[TABLES_ROOM]; /* what a table's bytes sum to; 0: its sum is good */
+};
+
+/* Makes the capture, its sums all good. */
+void lay_out(struct board *board, struct capture *capture);
+void make_sums_good(struct capture *capture); /* ... or wrong by sum_error */
+
+/* Its header. */
+uint64_t segment_address(const struct capture *capture, size_t number);
+uint32_t segment_length(const struct capture *capture, size_t number);
+void set_segment_address(struct capture *capture, size_t number, uint64_t address);
+void set_segment_length(struct capture *capture, size_t number, uint32_t length);
+void set_total(struct capture *capture, size_t total);
+
+/* Little-endian numbers in bytes. */
+void put_u16(uint8_t *bytes, uint16_t number);
+void put_u32(uint8_t *bytes, uint32_t number);
+void put_u64(uint8_t *bytes, uint64_t number);
+uint16_t get_u16(const uint8_t *bytes);
+uint32_t get_u32(const uint8_t *bytes);
+uint64_t get_u64(const uint8_t *bytes);
+
+#endif

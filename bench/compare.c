@@ -1,0 +1,499 @@
+/*
+ * Compares Yasmirand with reference.c: both are asked the same questions about the same captures.
+ *
+ *     compare BOARDS DIFFERENCES [SEED [COUNT]]
+ *
+ * First the cases of document 01 and the captures of the folder BOARDS. Then COUNT generated captures: boards that keep
+ * all rules, boards broken on purpose in one or two ways, and noise. Of each, the result of `read`, every byte of the list
+ * lent to it, and the answers of `route` and `trace` to a sample of questions are compared. A capture that the two sides
+ * tell differently is written to the folder DIFFERENCES.
+ *
+ * Captures and lists end where the memory ends that may be touched, so that a byte too far stops the program.
+ */
+#define _DEFAULT_SOURCE /* mmap and its flags */
+
+#include <inttypes.h>
+#include <signal.h>
+#include <stdbool.h>
+#include <stdio.h>
+#include <stdlib.h>
+#include <string.h>
+#include <sys/mman.h>
+#include <unistd.h>
+
+#include "board.h"
+#include "damage.h"
+#include "examples.h"
+#include "random.h"
+#include "readers.h"
+#include "valid.h"
+
+enum {
+    DEFAULT_SEED = 1,
+    DEFAULT_COUNT = 24000,
+    LEAST_HITS = 20,       /* of every refusal */
+    DIFFERENCES_TOLD = 5,  /* then it ends */
+    LIST_ROOM = 8 * CORES_MAX + 64,
+    MARGIN = 64,           /* bytes before the list that must stay */
+    SAMPLE = 6,            /* questions of each sort about an accepted capture */
+    THOROUGH = 128,        /* one accepted capture in so many is asked much more */
+};
+
+/* ---- One case: how a capture is made, and what is known of it beforehand ---- */
+
+/* Of 100 captures, added up. */
+enum {
+    VALID = 25,
+    BROKEN_ONCE = VALID + 31,
+    BROKEN_TWICE = BROKEN_ONCE + 19,
+    CHANGED = BROKEN_TWICE + 16,
+    TRUNCATED = CHANGED + 5, /* and the rest are random bytes */
+};
+
+enum { UNKNOWN = -1, ACCEPTED = 0 };
+
+struct test {
+    uint64_t number;
+    int expected; /* ACCEPTED, the refusal number that the capture was made for, or UNKNOWN */
+    const char *what[2];
+    struct board board;
+    struct capture capture;
+};
+
+static void make_broken(struct random *random, struct test *test, size_t count)
+{
+    const struct way *ways[2];
+
+    for (size_t i = 0; i < count; i++) {
+        ways[i] = i > 0 && one_in(random, 2) ? pick_way_near(random, ways[0]->refusal) : pick_way(random);
+        test->what[i] = ways[i]->what;
+    }
+    if (count == 1)
+        test->expected = (int)ways[0]->refusal;
+    lay_out_broken(random, &test->board, &test->capture, ways, count);
+}
+
+static void make_changed(struct random *random, struct test *test)
+{
+    bool sums_good = one_in(random, 2);
+
+    lay_out(&test->board, &test->capture);
+    change_some_bytes(random, &test->capture);
+    test->what[0] = "changed bytes";
+    if (sums_good) {
+        make_sums_good(&test->capture);
+        test->what[1] = "sums made good";
+    }
+}
+
+static void make_test(struct random *random, struct test *test)
+{
+    uint64_t sort = below(random, 100);
+
+    test->expected = UNKNOWN;
+    test->what[0] = test->what[1] = "";
+    make_valid_board(random, &test->board);
+    if (sort < VALID) {
+        test->expected = ACCEPTED;
+        test->what[0] = "valid board";
+        lay_out(&test->board, &test->capture);
+    } else if (sort < BROKEN_ONCE) {
+        make_broken(random, test, 1);
+    } else if (sort < BROKEN_TWICE) {
+        make_broken(random, test, 2);
+    } else if (sort < CHANGED) {
+        make_changed(random, test);
+    } else if (sort < TRUNCATED) {
+        test->what[0] = "truncated";
+        lay_out(&test->board, &test->capture);
+        truncate_capture(random, &test->capture);
+    } else {
+        test->what[0] = "random bytes";
+        make_random_bytes(random, &test->capture);
+    }
+}
+
+/* ---- Memory that ends at its last byte ---- */
+
+/* Memory of at least `room` bytes; behind the address given, nothing may be touched. */
+static uint8_t *end_of_memory(size_t room)
+{
+    size_t page = (size_t)sysconf(_SC_PAGESIZE);
+    size_t pages = (room + page - 1) / page * page;
+    uint8_t *memory = mmap(NULL, pages + page, PROT_READ | PROT_WRITE, MAP_PRIVATE | MAP_ANONYMOUS, -1, 0);
+
+    if (memory == MAP_FAILED || mprotect(memory + pages, page, PROT_NONE) != 0) {
+        perror("compare: memory");
+        exit(2);
+    }
+    return memory + pages;
+}
+
+/* What a case is asked in: the capture, and a list for each side. */
+static uint8_t *capture_end, *yasmirand_list_end, *reference_list_end;
+
+/* Who is being asked about which case, for the message when memory out of bounds is touched. */
+static const struct reader *volatile asked = &reference;
+static char asked_case[64];
+
+static void say(const char *words)
+{
+    if (write(STDOUT_FILENO, words, strlen(words)) < 0)
+        _exit(2);
+}
+
+static void touched_out_of_bounds(int signal_number)
+{
+    (void)signal_number;
+    say("compare: ");
+    say(asked->name);
+    say(asked_case);
+    _exit(1);
+}
+
+static uint64_t ask_read(const struct reader *reader, const uint8_t *capture, size_t length, uint8_t *list, size_t list_length)
+{
+    asked = reader;
+    return reader->read(capture, length, list, list_length);
+}
+
+static uint64_t ask_route(const struct reader *reader, const uint8_t *capture, size_t length, uint32_t number)
+{
+    asked = reader;
+    return reader->route(capture, length, number);
+}
+
+static uint64_t ask_trace(const struct reader *reader, const uint8_t *capture, size_t length, uint32_t vector, uint32_t number)
+{
+    asked = reader;
+    return reader->trace(capture, length, vector, number);
+}
+
+/* ---- Comparing ---- */
+
+static const char *differences_folder;
+static unsigned differences;
+
+/* Says where a difference is, keeps its capture, and ends the program when there are enough. */
+static void tell_difference(const struct test *test, const char *question, const char *yasmirand_says, const char *reference_says)
+{
+    char path[4096];
+
+    printf("compare: case %" PRIu64 " (%s%s%s), %s:\n    Yasmirand: %s\n    reference.c: %s\n", test->number, test->what[0],
+           test->what[1][0] == '\0' ? "" : ", ", test->what[1], question, yasmirand_says, reference_says);
+    snprintf(path, sizeof path, "%s/case-%" PRIu64 ".cap", differences_folder, test->number);
+
+    FILE *file = fopen(path, "wb");
+
+    if (file != NULL) {
+        fwrite(test->capture.bytes, 1, test->capture.length, file);
+        fclose(file);
+        printf("    capture: %s\n", path);
+    }
+    fflush(stdout);
+    if (++differences == DIFFERENCES_TOLD) {
+        printf("compare: %u differences, and no further look\n", differences);
+        exit(1);
+    }
+}
+
+static void compare_results(const struct test *test, const char *question, uint64_t by_yasmirand, uint64_t by_reference,
+                            struct text (*tell)(uint64_t))
+{
+    if (by_yasmirand != by_reference)
+        tell_difference(test, question, tell(by_yasmirand).words, tell(by_reference).words);
+}
+
+/* The bytes past the written part stay, and so do all if it is refused. */
+static bool rest_stayed(uint64_t result, const uint8_t *list, const uint8_t *before, size_t length)
+{
+    size_t written = refusal_number(result) != 0 ? 0 : 8 * (size_t)result;
+
+    return memcmp(list - MARGIN, before, MARGIN) == 0 &&
+           (written >= length || memcmp(list + written, before + MARGIN + written, length - written) == 0);
+}
+
+static void compare_lists(const struct test *test, const char *question, const uint8_t *yasmirand_list,
+                          const uint8_t *reference_list, size_t length)
+{
+    char yasmirand_says[64], reference_says[64];
+
+    for (size_t i = 0; i < length; i++)
+        if (yasmirand_list[i] != reference_list[i]) {
+            snprintf(yasmirand_says, sizeof yasmirand_says, "byte %zu of the list is %u", i, yasmirand_list[i]);
+            snprintf(reference_says, sizeof reference_says, "byte %zu of the list is %u", i, reference_list[i]);
+            tell_difference(test, question, yasmirand_says, reference_says);
+            return;
+        }
+}
+
+/* `read` with a list of a given length, filled beforehand; gives the result of reference.c. */
+static uint64_t compare_read(struct random *random, const struct test *test, const uint8_t *capture, size_t list_length)
+{
+    static const char *const rest[] = {"changed the list where it had nothing to write", "left the rest of the list alone"};
+    uint8_t before[MARGIN + LIST_ROOM];
+    uint8_t *yasmirand_list = yasmirand_list_end - list_length, *reference_list = reference_list_end - list_length;
+    char question[64];
+
+    for (size_t i = 0; i < MARGIN + list_length; i++)
+        before[i] = (uint8_t)any(random);
+    memcpy(yasmirand_list - MARGIN, before, MARGIN + list_length);
+    memcpy(reference_list - MARGIN, before, MARGIN + list_length);
+
+    uint64_t by_yasmirand = ask_read(&yasmirand, capture, test->capture.length, yasmirand_list, list_length);
+    uint64_t by_reference = ask_read(&reference, capture, test->capture.length, reference_list, list_length);
+    bool yasmirand_good = rest_stayed(by_yasmirand, yasmirand_list, before, list_length);
+    bool reference_good = rest_stayed(by_reference, reference_list, before, list_length);
+
+    snprintf(question, sizeof question, "read with a list of %zu bytes", list_length);
+    compare_results(test, question, by_yasmirand, by_reference, tell_read);
+    compare_lists(test, question, yasmirand_list, reference_list, list_length);
+    if (!yasmirand_good || !reference_good)
+        tell_difference(test, question, rest[yasmirand_good], rest[reference_good]);
+    return by_reference;
+}
+
+static uint64_t compare_route(const struct test *test, const uint8_t *capture, uint32_t number)
+{
+    uint64_t by_yasmirand = ask_route(&yasmirand, capture, test->capture.length, number);
+    uint64_t by_reference = ask_route(&reference, capture, test->capture.length, number);
+    char question[64];
+
+    snprintf(question, sizeof question, "route %" PRIu32, number);
+    compare_results(test, question, by_yasmirand, by_reference, tell_route);
+    return by_reference;
+}
+
+static void compare_trace(const struct test *test, const uint8_t *capture, uint32_t vector, uint32_t number)
+{
+    uint64_t by_yasmirand = ask_trace(&yasmirand, capture, test->capture.length, vector, number);
+    uint64_t by_reference = ask_trace(&reference, capture, test->capture.length, vector, number);
+    char question[64];
+
+    snprintf(question, sizeof question, "trace (%" PRIu32 ", %" PRIu32 ")", vector, number);
+    compare_results(test, question, by_yasmirand, by_reference, tell_trace);
+}
+
+/* ---- What is asked ---- */
+
+/* A number at or next to `first`, or the end of what starts there. */
+static uint32_t near_edge(struct random *random, uint32_t first, uint32_t count)
+{
+    uint32_t edge = one_in(random, 2) ? first : first + count - 1;
+
+    return edge - 1 + (uint32_t)below(random, 3);
+}
+
+/* A global number that tells readers apart. */
+static uint32_t interesting_number(struct random *random, const struct board *board)
+{
+    const uint8_t *bytes = board->structure[below(random, board->structures)].bytes;
+    uint32_t low = (uint32_t)below(random, 64); /* LPC, LIO and what lies between LIO and BIO */
+
+    switch (below(random, 8)) {
+    case 0:
+        return (uint32_t)any(random);
+    case 1:
+        return UINT32_MAX - (uint32_t)below(random, 2);
+    case 2: /* equal to an owned number in its low 8 or 16 bits */
+        return low + (one_in(random, 2) ? 256 : 65536);
+    case 3: case 4: case 5:
+        for (size_t i = 0; i < board->structures; i++)
+            if (board->structure[i].bytes[0] == BIO && (bytes[0] != BIO || one_in(random, 2)))
+                bytes = board->structure[i].bytes;
+        return bytes[0] == BIO ? near_edge(random, get_u16(bytes + BIO_BASE), PINS) : low;
+    default:
+        return low;
+    }
+}
+
+static void compare_random_trace(struct random *random, const struct test *test, const uint8_t *capture)
+{
+    static const uint32_t edges[] = {0, 31, 32, 63, 64, 255, 256};
+    uint32_t vector = (uint32_t)between(random, CASCADE_MIN - 1, CASCADE_MAX + 1);
+    uint32_t number = (uint32_t)below(random, SLOTS);
+
+    switch (below(random, 6)) {
+    case 0:
+        number = edges[below(random, sizeof edges / sizeof edges[0])];
+        break;
+    case 1: /* equal to a vector in its low byte */
+        vector += 256;
+        break;
+    case 2:
+        number += one_in(random, 2) ? 256 : 65536;
+        break;
+    case 3:
+        vector = one_in(random, 2) ? vector : (uint32_t)any(random);
+        number = one_in(random, 2) ? UINT32_MAX : (uint32_t)any(random);
+        break;
+    default:
+        break;
+    }
+    compare_trace(test, capture, vector, number);
+}
+
+/* Each number is routed, and traced back from where it arrives. */
+static void compare_way_and_back(const struct test *test, const uint8_t *capture, uint32_t number)
+{
+    uint64_t arrival = compare_route(test, capture, number);
+
+    if (refusal_number(arrival) == 0)
+        compare_trace(test, capture, (uint32_t)(arrival >> 32), (uint32_t)arrival);
+}
+
+static void compare_thoroughly(const struct test *test, const uint8_t *capture)
+{
+    for (uint32_t number = 0; number < BASE_MIN; number++)
+        compare_way_and_back(test, capture, number);
+    for (size_t i = 0; i < test->board.structures; i++) {
+        const uint8_t *bytes = test->board.structure[i].bytes;
+
+        if (bytes[0] == BIO)
+            for (uint32_t pin = 0; pin < PINS + 2; pin++)
+                compare_way_and_back(test, capture, get_u16(bytes + BIO_BASE) - 1 + pin);
+        if (bytes[0] == EIO)
+            for (uint32_t number = 0; number <= SLOTS; number++)
+                compare_trace(test, capture, bytes[EIO_CASCADE], number);
+    }
+}
+
+static size_t random_list_length(struct random *random, size_t needed)
+{
+    switch (below(random, 10)) {
+    case 0:
+        return 0;
+    case 1:
+        return below(random, needed + 1);
+    case 2:
+        return needed == 0 ? 0 : needed - 1;
+    case 3: case 4:
+        return needed;
+    case 5:
+        return needed + between(random, 1, 7);
+    case 6:
+        return needed + between(random, 8, 64);
+    default:
+        return 8 * CORES_MAX;
+    }
+}
+
+/* A capture was made to be accepted, or for a refusal; both sides must see it so. */
+static void compare_with_intent(const struct test *test, uint64_t result)
+{
+    char intent[64];
+
+    if (test->expected == UNKNOWN || refusal_number(result) == (unsigned)test->expected)
+        return;
+    if (test->expected == ACCEPTED)
+        snprintf(intent, sizeof intent, "made to be accepted");
+    else
+        snprintf(intent, sizeof intent, "made for refusal %d", test->expected);
+    tell_difference(test, intent, "as reference.c, or told above", tell_read(result).words);
+}
+
+static void compare_case(struct random *random, struct test *test, unsigned *hits)
+{
+    uint8_t *capture = capture_end - test->capture.length;
+
+    memcpy(capture, test->capture.bytes, test->capture.length);
+
+    uint64_t result = compare_read(random, test, capture, 8 * CORES_MAX); /* long enough for any board */
+    bool accepted = refusal_number(result) == 0;
+
+    compare_with_intent(test, result);
+    result = compare_read(random, test, capture, random_list_length(random, accepted ? 8 * (size_t)result : 16));
+    hits[refusal_number(result)]++;
+    for (int i = 0; i < (accepted ? SAMPLE : 1); i++) {
+        compare_way_and_back(test, capture, interesting_number(random, &test->board));
+        compare_random_trace(random, test, capture);
+    }
+    if (accepted && one_in(random, THOROUGH))
+        compare_thoroughly(test, capture);
+    if (memcmp(capture, test->capture.bytes, test->capture.length) != 0)
+        tell_difference(test, "all questions", "the capture was changed, by this side ...", "... or by this one");
+}
+
+/* ---- All of it ---- */
+
+static const unsigned refusals[] = {1,  2,  3,  4,  5,  6,  10, 11, 12, 13, 14, 20, 21, 22, 23, 24, 25, 26, 27, 28,
+                                    29, 30, 31, 32, 33, 34, 35, 36, 37, 38, 39, 40, 41, 42, 43, 51, 52, 53, 54, 60};
+enum { REFUSALS = sizeof refusals / sizeof refusals[0], NUMBERS = 1 << 16 };
+
+/* Prints how often each refusal was given; gives whether each was given often enough, and no other. */
+static bool hits_suffice(const unsigned *hits)
+{
+    bool suffice = true;
+    unsigned known = hits[0], all = 0;
+
+    printf("accepted %u\nrefused", hits[0]);
+    for (size_t i = 0; i < REFUSALS; i++) {
+        known += hits[refusals[i]];
+        printf("%s%4u: %4u", i > 0 && i % 10 == 0 ? "\n       " : "", refusals[i], hits[refusals[i]]);
+    }
+    printf("\n");
+    for (size_t i = 0; i < REFUSALS; i++)
+        if (hits[refusals[i]] < LEAST_HITS) {
+            printf("compare: refusal %u was given %u times only, and not %u\n", refusals[i], hits[refusals[i]], LEAST_HITS);
+            suffice = false;
+        }
+    for (size_t i = 0; i < NUMBERS; i++)
+        all += hits[i];
+    if (all != known) {
+        printf("compare: a refusal number that document 01 does not know was given\n");
+        suffice = false;
+    }
+    return suffice;
+}
+
+static void check_examples(const struct reader *reader, const char *boards)
+{
+    struct tally tally = ask_examples(reader, boards);
+
+    printf("%s: %u answers about board A, its neighbours and the captures of boards/, %u wrong\n", reader->name, tally.asked,
+           tally.wrong);
+    if (tally.wrong != 0)
+        exit(1);
+}
+
+int main(int argc, char **argv)
+{
+    static struct test test;
+    static unsigned hits[NUMBERS];
+
+    if (argc < 3) {
+        fprintf(stderr, "usage: compare BOARDS DIFFERENCES [SEED [COUNT]]\n");
+        return 2;
+    }
+    differences_folder = argv[2];
+
+    uint64_t seed = argc > 3 ? strtoull(argv[3], NULL, 10) : DEFAULT_SEED;
+    uint64_t count = argc > 4 ? strtoull(argv[4], NULL, 10) : DEFAULT_COUNT;
+
+    check_examples(&reference, argv[1]);
+    check_examples(&yasmirand, argv[1]);
+    printf("%" PRIu64 " generated captures, seed %" PRIu64 "\n", count, seed);
+    fflush(stdout);
+    capture_end = end_of_memory(CAPTURE_ROOM);
+    yasmirand_list_end = end_of_memory(MARGIN + LIST_ROOM);
+    reference_list_end = end_of_memory(MARGIN + LIST_ROOM);
+    signal(SIGSEGV, touched_out_of_bounds);
+    signal(SIGBUS, touched_out_of_bounds);
+    for (uint64_t number = 0; number < count; number++) {
+        struct random random = random_for_case(seed, number);
+
+        test.number = number;
+        snprintf(asked_case, sizeof asked_case, " touched memory out of bounds in case %" PRIu64 "\n", number);
+        make_test(&random, &test);
+        compare_case(&random, &test, hits);
+    }
+
+    bool suffice = hits_suffice(hits);
+
+    if (differences != 0)
+        printf("compare: %u differences\n", differences);
+    if (differences != 0 || !suffice)
+        return 1;
+    printf("compare: %" PRIu64 " captures, every refusal at least %d times, no difference\n", count, LEAST_HITS);
+    return 0;
+}

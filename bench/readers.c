@@ -1,0 +1,124 @@
+/*
+ * The two sides and the coding of their results: see readers.h and include/yasmirand.h.
+ */
+#include "readers.h"
+
+#include <inttypes.h>
+#include <stdio.h>
+
+#include "reference.h"
+#include "yasmirand.h"
+
+const struct reader yasmirand = {"Yasmirand", yasmirand_read, yasmirand_route, yasmirand_trace};
+const struct reader reference = {"reference.c", reference_read, reference_route, reference_trace};
+
+enum { REFUSAL_SHIFT = 48, KIND_SHIFT = 40, BYTE_SHIFT = 32 };
+
+enum route_kind { ARRIVES, UNWIRED, NO_OWNER };
+enum trace_kind { NOTHING, LIO_INPUT, BIO_INPUT, LPC_CASCADE, MSI_SLOT };
+
+static uint64_t answer(uint64_t kind, uint64_t byte, uint64_t value)
+{
+    return kind << KIND_SHIFT | byte << BYTE_SHIFT | value;
+}
+
+uint64_t refused(uint64_t number, uint64_t place)
+{
+    return number << REFUSAL_SHIFT | place;
+}
+
+uint64_t arrives(uint64_t vector, uint64_t number)
+{
+    return answer(ARRIVES, vector, number);
+}
+
+uint64_t unwired(void)
+{
+    return answer(UNWIRED, 0, 0);
+}
+
+uint64_t no_owner(void)
+{
+    return answer(NO_OWNER, 0, 0);
+}
+
+uint64_t nothing(void)
+{
+    return answer(NOTHING, 0, 0);
+}
+
+uint64_t lio_input(uint64_t number)
+{
+    return answer(LIO_INPUT, 0, number);
+}
+
+uint64_t bio_input(uint64_t number)
+{
+    return answer(BIO_INPUT, 0, number);
+}
+
+uint64_t lpc_cascade(uint64_t number)
+{
+    return answer(LPC_CASCADE, 0, number);
+}
+
+uint64_t msi_slot(uint64_t slot, uint64_t node)
+{
+    return answer(MSI_SLOT, node, slot);
+}
+
+unsigned refusal_number(uint64_t result)
+{
+    return (unsigned)(result >> REFUSAL_SHIFT);
+}
+
+/* "refused 36 at 243", or nothing if the result is an answer. */
+static struct text tell_refusal(uint64_t result)
+{
+    struct text text = {""};
+
+    if (refusal_number(result) != 0)
+        snprintf(text.words, sizeof text.words, "refused %u at %" PRIu64, refusal_number(result),
+                 result & ((UINT64_C(1) << REFUSAL_SHIFT) - 1));
+    return text;
+}
+
+/* One answer of three parts, told by a pattern for its kind; an answer of no known kind is told as a number. */
+static struct text tell_answer(uint64_t result, const char *const *kinds, size_t count)
+{
+    struct text text = tell_refusal(result);
+    uint64_t kind = result >> KIND_SHIFT;
+    unsigned byte = (unsigned)(result >> BYTE_SHIFT & 255);
+    uint32_t value = (uint32_t)result;
+
+    if (refusal_number(result) != 0)
+        return text;
+    if (kind < count)
+        snprintf(text.words, sizeof text.words, "%s (%u, %" PRIu32 ")", kinds[kind], byte, value);
+    else
+        snprintf(text.words, sizeof text.words, "answer %" PRIu64, result);
+    return text;
+}
+
+struct text tell_read(uint64_t result)
+{
+    struct text text = tell_refusal(result);
+
+    if (refusal_number(result) == 0)
+        snprintf(text.words, sizeof text.words, "read %" PRIu64, result);
+    return text;
+}
+
+struct text tell_route(uint64_t result)
+{
+    static const char *const kinds[] = {"arrives", "unwired", "no owner"};
+
+    return tell_answer(result, kinds, sizeof kinds / sizeof kinds[0]);
+}
+
+struct text tell_trace(uint64_t result)
+{
+    static const char *const kinds[] = {"nothing", "LIO input", "BIO input", "LPC cascade", "MSI slot (node, slot)"};
+
+    return tell_answer(result, kinds, sizeof kinds / sizeof kinds[0]);
+}

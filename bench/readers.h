@@ -1,0 +1,43 @@
+/*
+ * The two sides of every comparison, and their results in words.
+ */
+#ifndef READERS_H
+#define READERS_H
+
+#include <stddef.h>
+#include <stdint.h>
+
+/* One implementation of the three C entries of include/yasmirand.h. */
+struct reader {
+    const char *name;
+    uint64_t (*read)(const uint8_t *capture, size_t capture_len, uint8_t *list, size_t list_len);
+    uint64_t (*route)(const uint8_t *capture, size_t capture_len, uint32_t number);
+    uint64_t (*trace)(const uint8_t *capture, size_t capture_len, uint32_t vector, uint32_t number);
+};
+
+extern const struct reader yasmirand, reference;
+
+/* How results are coded. */
+uint64_t refused(uint64_t number, uint64_t place);
+uint64_t arrives(uint64_t vector, uint64_t number);
+uint64_t unwired(void);
+uint64_t no_owner(void);
+uint64_t nothing(void);
+uint64_t lio_input(uint64_t number);
+uint64_t bio_input(uint64_t number);
+uint64_t lpc_cascade(uint64_t number);
+uint64_t msi_slot(uint64_t slot, uint64_t node);
+
+/* The refusal number of a result, 0 for an answer. */
+unsigned refusal_number(uint64_t result);
+
+/* A result in words. */
+struct text {
+    char words[64];
+};
+
+struct text tell_read(uint64_t result);
+struct text tell_route(uint64_t result);
+struct text tell_trace(uint64_t result);
+
+#endif

@@ -1,0 +1,773 @@
+/*
+ * The reference: document 01 written down in plain C, from the document alone, without a look at the proved
+ * reader, so that an error would have to be made twice to go unseen.
+ *
+ * Titles in quotation marks are sections of document 01; the numbers given to refuse() are those of its table
+ * "Refusals in order".
+ */
+#include "reference.h"
+
+#include <stdbool.h>
+#include <string.h>
+
+/* A check gives 0 when the rule holds, else the refusal as it is returned: number × 2^48 + place. */
+static uint64_t refuse(uint64_t number, uint64_t place)
+{
+    return number << 48 | place;
+}
+
+/* Numbers are little-endian ("What the bench reads"). */
+static uint16_t u16(const uint8_t *bytes)
+{
+    return (uint16_t)(bytes[0] | bytes[1] << 8);
+}
+
+static uint32_t u32(const uint8_t *bytes)
+{
+    return u16(bytes) | (uint32_t)u16(bytes + 2) << 16;
+}
+
+static uint64_t u64(const uint8_t *bytes)
+{
+    return u32(bytes) | (uint64_t)u32(bytes + 4) << 32;
+}
+
+static void put_u32(uint8_t *bytes, uint32_t number)
+{
+    for (int i = 0; i < 4; i++)
+        bytes[i] = (uint8_t)(number >> 8 * i);
+}
+
+/* The sum of some bytes modulo 256. */
+static uint8_t sum(const uint8_t *bytes, size_t length)
+{
+    uint8_t total = 0;
+
+    for (size_t i = 0; i < length; i++)
+        total = (uint8_t)(total + bytes[i]);
+    return total;
+}
+
+/* ---- "The capture" ---- */
+
+enum {
+    CAPTURE_MAX = 65536,
+    HEADER_LENGTH = 18,
+    DESCRIPTOR_LENGTH = 12,
+    SEGMENTS_MAX = 16,
+    RSDP_ADDRESS = 10,
+};
+
+struct segment {
+    uint64_t address;
+    uint64_t length;
+    uint64_t place; /* of its first byte in the capture */
+};
+
+struct capture {
+    const uint8_t *bytes;
+    size_t segments;
+    struct segment segment[SEGMENTS_MAX];
+};
+
+/* Rule 6, segments in turn. An end may be 2^64, so the comparisons use the last byte of a segment. */
+static uint64_t check_segments(const struct capture *capture)
+{
+    uint64_t last_of_previous = 0;
+
+    for (size_t i = 0; i < capture->segments; i++) {
+        const struct segment *segment = &capture->segment[i];
+        uint64_t descriptor = HEADER_LENGTH + DESCRIPTOR_LENGTH * i;
+
+        if (segment->length == 0 || segment->address > UINT64_MAX - (segment->length - 1))
+            return refuse(6, descriptor);
+        if (i > 0 && segment->address <= last_of_previous)
+            return refuse(6, descriptor);
+        last_of_previous = segment->address + (segment->length - 1);
+    }
+    return 0;
+}
+
+/* Rules 1 to 6. */
+static uint64_t open_capture(struct capture *capture, const uint8_t *bytes, size_t length)
+{
+    if (length < HEADER_LENGTH || length > CAPTURE_MAX)
+        return refuse(1, 0);
+    if (memcmp(bytes, "TBC", 3) != 0)
+        return refuse(2, 0);
+    if (u16(bytes + 3) != 1)
+        return refuse(3, 0);
+
+    capture->bytes = bytes;
+    capture->segments = bytes[5];
+    if (capture->segments < 1 || capture->segments > SEGMENTS_MAX)
+        return refuse(4, 0);
+
+    uint64_t place = HEADER_LENGTH + DESCRIPTOR_LENGTH * capture->segments;
+
+    if (place > length || u32(bytes + 6) != length)
+        return refuse(5, 0);
+    for (size_t i = 0; i < capture->segments; i++) {
+        const uint8_t *descriptor = bytes + HEADER_LENGTH + DESCRIPTOR_LENGTH * i;
+        struct segment *segment = &capture->segment[i];
+
+        segment->address = u64(descriptor);
+        segment->length = u32(descriptor + 8);
+        segment->place = place;
+        place += segment->length;
+    }
+    if (place != length)
+        return refuse(5, 0);
+    return check_segments(capture);
+}
+
+/* Finds the place of a stretch of memory: it is present if it lies wholly inside one segment. */
+static bool locate(const struct capture *capture, uint64_t address, uint64_t length, uint64_t *place)
+{
+    for (size_t i = 0; i < capture->segments; i++) {
+        const struct segment *segment = &capture->segment[i];
+
+        if (address < segment->address)
+            continue;
+
+        uint64_t offset = address - segment->address;
+
+        if (offset < segment->length && length <= segment->length - offset) {
+            *place = segment->place + offset;
+            return true;
+        }
+    }
+    return false;
+}
+
+/* ---- "Tables" ---- */
+
+enum {
+    RSDP_LENGTH = 36,
+    RSDP_FIRST_PART = 20, /* has a sum of its own */
+    TABLE_HEADER = 36,
+    XSDT_ENTRIES_MAX = 32,
+    MADT_HEADER = 44,
+    FADT_MIN = 48,
+};
+
+struct table {
+    uint64_t place;
+    uint64_t length;
+};
+
+/* What the XSDT leads to. */
+struct tables {
+    struct table xsdt, madt, fadt;
+};
+
+/* Rules 10 to 14. */
+static uint64_t find_rsdp(const struct capture *capture, uint64_t *place)
+{
+    if (!locate(capture, u64(capture->bytes + RSDP_ADDRESS), RSDP_LENGTH, place))
+        return refuse(10, RSDP_ADDRESS);
+
+    const uint8_t *rsdp = capture->bytes + *place;
+
+    if (memcmp(rsdp, "RSD PTR ", 8) != 0)
+        return refuse(11, *place);
+    if (rsdp[15] != 2)
+        return refuse(12, *place);
+    if (u32(rsdp + 20) != RSDP_LENGTH)
+        return refuse(13, *place);
+    if (sum(rsdp, RSDP_FIRST_PART) != 0 || sum(rsdp, RSDP_LENGTH) != 0)
+        return refuse(14, *place);
+    return 0;
+}
+
+/* Rules 20 to 22, for the table that the address field at a place names. */
+static uint64_t find_table(const struct capture *capture, uint64_t field, struct table *table)
+{
+    uint64_t address = u64(capture->bytes + field);
+
+    if (!locate(capture, address, TABLE_HEADER, &table->place))
+        return refuse(20, field);
+    table->length = u32(capture->bytes + table->place + 4);
+    if (table->length < TABLE_HEADER || !locate(capture, address, table->length, &table->place))
+        return refuse(21, table->place);
+    if (sum(capture->bytes + table->place, table->length) != 0)
+        return refuse(22, table->place);
+    return 0;
+}
+
+/* The XSDT's own rules, 20 to 25. */
+static uint64_t find_xsdt(const struct capture *capture, uint64_t field, struct table *xsdt)
+{
+    uint64_t refusal = find_table(capture, field, xsdt);
+
+    if (refusal != 0)
+        return refusal;
+
+    const uint8_t *bytes = capture->bytes + xsdt->place;
+    uint64_t body = xsdt->length - TABLE_HEADER;
+
+    if (memcmp(bytes, "XSDT", 4) != 0)
+        return refuse(23, xsdt->place);
+    if (bytes[8] != 1)
+        return refuse(24, xsdt->place);
+    if (body % 8 != 0 || body / 8 > XSDT_ENTRIES_MAX)
+        return refuse(25, xsdt->place);
+    return 0;
+}
+
+/* The XSDT's entries in turn (20 to 22), then 26 and 27. */
+static uint64_t find_named_tables(const struct capture *capture, struct tables *tables)
+{
+    bool has_madt = false, has_fadt = false;
+    uint64_t field_of_second = 0; /* of the first entry that names a second MADT or FADT */
+    uint64_t end = tables->xsdt.place + tables->xsdt.length;
+
+    for (uint64_t field = tables->xsdt.place + TABLE_HEADER; field < end; field += 8) {
+        struct table table;
+        uint64_t refusal = find_table(capture, field, &table);
+
+        if (refusal != 0)
+            return refusal;
+
+        const uint8_t *signature = capture->bytes + table.place;
+        bool is_madt = memcmp(signature, "APIC", 4) == 0;
+        bool is_fadt = memcmp(signature, "FACP", 4) == 0;
+
+        if (((is_madt && has_madt) || (is_fadt && has_fadt)) && field_of_second == 0)
+            field_of_second = field;
+        if (is_madt && !has_madt) {
+            has_madt = true;
+            tables->madt = table;
+        }
+        if (is_fadt && !has_fadt) {
+            has_fadt = true;
+            tables->fadt = table;
+        }
+    }
+    if (!has_madt || !has_fadt)
+        return refuse(26, tables->xsdt.place);
+    if (field_of_second != 0)
+        return refuse(27, field_of_second);
+    return 0;
+}
+
+/* Rules 10 to 30. */
+static uint64_t find_tables(const struct capture *capture, struct tables *tables)
+{
+    uint64_t rsdp, refusal;
+
+    if ((refusal = find_rsdp(capture, &rsdp)) != 0)
+        return refusal;
+    if ((refusal = find_xsdt(capture, rsdp + 24, &tables->xsdt)) != 0)
+        return refusal;
+    if ((refusal = find_named_tables(capture, tables)) != 0)
+        return refusal;
+
+    const uint8_t *madt = capture->bytes + tables->madt.place;
+
+    if (tables->madt.length < MADT_HEADER)
+        return refuse(28, tables->madt.place);
+    if (tables->fadt.length < FADT_MIN)
+        return refuse(28, tables->fadt.place);
+    if (madt[8] != 1)
+        return refuse(29, tables->madt.place);
+    if (u32(madt + 40) != 0)
+        return refuse(30, tables->madt.place);
+    return 0;
+}
+
+/* ---- "MADT structures" ---- */
+
+enum kind { CORE = 17, LIO = 18, HT = 19, EIO = 20, MSI = 21, BIO = 22, LPC = 23 };
+
+enum {
+    CORES_MAX = 256,
+    EIOS_MAX = 4,
+    BIOS_MAX = 4,
+    MSIS_MAX = 4,
+    CASCADE_MIN = 2,
+    CASCADE_MAX = 9,
+    NODES = 64,
+    PINS = 64,         /* inputs of a BIO */
+    EXTENDED_VECTORS = 256,
+    BASE_MIN = 64,
+    BASE_MAX = 65472,
+};
+
+struct core {
+    uint64_t place;
+    uint32_t uid, physical_id;
+    bool enabled;
+};
+
+struct half {
+    uint8_t cascade;
+    uint32_t mask; /* 0: the half is unused and its cascade byte is free */
+};
+
+struct lio {
+    uint64_t place;
+    struct half half[2];
+};
+
+struct eio {
+    uint64_t place;
+    uint8_t cascade, node;
+};
+
+struct msi {
+    uint64_t place;
+    uint32_t start, count;
+};
+
+struct bio {
+    uint64_t place;
+    uint16_t node; /* its hardware ID */
+    uint16_t base;
+};
+
+struct lpc {
+    uint64_t place;
+    uint16_t cascade;
+};
+
+/* What the MADT and the FADT say. LIO and LPC occur at most once; their counts are 0 or 1. */
+struct board {
+    uint64_t madt, fadt; /* places */
+    uint16_t sci;
+    size_t cores, enabled, lios, eios, msis, bios, lpcs;
+    struct lio lio;
+    struct lpc lpc;
+    struct eio eio[EIOS_MAX];
+    struct msi msi[MSIS_MAX];
+    struct bio bio[BIOS_MAX];
+    struct core core[CORES_MAX];
+};
+
+static bool cascade_in_range(uint8_t cascade)
+{
+    return cascade >= CASCADE_MIN && cascade <= CASCADE_MAX;
+}
+
+static uint64_t take_core(struct board *board, const uint8_t *bytes, uint64_t place)
+{
+    uint32_t flags = u32(bytes + 11);
+
+    if ((flags & ~UINT32_C(1)) != 0)
+        return refuse(35, place);
+    if (board->cores == CORES_MAX)
+        return refuse(38, place);
+    board->core[board->cores++] = (struct core){place, u32(bytes + 3), u32(bytes + 7), flags == 1};
+    board->enabled += flags;
+    return 0;
+}
+
+static uint64_t take_lio(struct board *board, const uint8_t *bytes, uint64_t place)
+{
+    struct lio lio = {place, {{bytes[13], u32(bytes + 15)}, {bytes[14], u32(bytes + 19)}}};
+
+    for (int i = 0; i < 2; i++)
+        if (lio.half[i].mask != 0 && !cascade_in_range(lio.half[i].cascade))
+            return refuse(36, place);
+    if ((lio.half[0].mask & lio.half[1].mask) != 0)
+        return refuse(37, place);
+    if (board->lios == 1)
+        return refuse(38, place);
+    board->lios = 1;
+    board->lio = lio;
+    return 0;
+}
+
+static uint64_t take_eio(struct board *board, const uint8_t *bytes, uint64_t place)
+{
+    struct eio eio = {place, bytes[3], bytes[4]};
+    uint64_t node_map = u64(bytes + 5);
+
+    if (!cascade_in_range(eio.cascade) || eio.node >= NODES || node_map == 0)
+        return refuse(36, place);
+    if (board->eios == EIOS_MAX)
+        return refuse(38, place);
+    board->eio[board->eios++] = eio;
+    return 0;
+}
+
+static uint64_t take_msi(struct board *board, const uint8_t *bytes, uint64_t place)
+{
+    struct msi msi = {place, u32(bytes + 11), u32(bytes + 15)};
+
+    if (msi.count < 1 || (uint64_t)msi.start + msi.count > EXTENDED_VECTORS)
+        return refuse(36, place);
+    if (board->msis == MSIS_MAX)
+        return refuse(38, place);
+    board->msi[board->msis++] = msi;
+    return 0;
+}
+
+static uint64_t take_bio(struct board *board, const uint8_t *bytes, uint64_t place)
+{
+    struct bio bio = {place, u16(bytes + 13), u16(bytes + 15)};
+
+    if (bio.node >= NODES || bio.base < BASE_MIN || bio.base > BASE_MAX)
+        return refuse(36, place);
+    if (board->bios == BIOS_MAX)
+        return refuse(38, place);
+    board->bio[board->bios++] = bio;
+    return 0;
+}
+
+static uint64_t take_lpc(struct board *board, const uint8_t *bytes, uint64_t place)
+{
+    struct lpc lpc = {place, u16(bytes + 13)};
+
+    if (lpc.cascade >= PINS)
+        return refuse(36, place);
+    if (board->lpcs == 1)
+        return refuse(38, place);
+    board->lpcs = 1;
+    board->lpc = lpc;
+    return 0;
+}
+
+/* One structure through 32 to 38; types other than 17 to 23 are passed over. */
+static uint64_t take_structure(struct board *board, const uint8_t *bytes, uint64_t place)
+{
+    static const uint8_t length_of[] = {
+        [CORE - CORE] = 15, [LIO - CORE] = 23, [HT - CORE] = 21, [EIO - CORE] = 13,
+        [MSI - CORE] = 19,  [BIO - CORE] = 17, [LPC - CORE] = 15,
+    };
+    uint8_t type = bytes[0];
+
+    if (type < CORE || type > LPC)
+        return 0;
+    if (bytes[1] != length_of[type - CORE])
+        return refuse(32, place);
+    if (bytes[2] != 1)
+        return refuse(33, place);
+    switch (type) {
+    case CORE:
+        return take_core(board, bytes, place);
+    case LIO:
+        return take_lio(board, bytes, place);
+    case EIO:
+        return take_eio(board, bytes, place);
+    case MSI:
+        return take_msi(board, bytes, place);
+    case BIO:
+        return take_bio(board, bytes, place);
+    case LPC:
+        return take_lpc(board, bytes, place);
+    default: /* HT */
+        return refuse(34, place);
+    }
+}
+
+/* The structures in turn, each through 31 to 38. */
+static uint64_t walk_madt(const struct capture *capture, const struct table *madt, struct board *board)
+{
+    uint64_t end = madt->place + madt->length;
+    uint64_t place = madt->place + MADT_HEADER;
+
+    while (place < end) {
+        uint64_t left = end - place;
+        const uint8_t *bytes = capture->bytes + place;
+
+        if (left == 1 || bytes[1] < 2 || bytes[1] > left)
+            return refuse(31, place);
+
+        uint64_t refusal = take_structure(board, bytes, place);
+
+        if (refusal != 0)
+            return refusal;
+        place += bytes[1];
+    }
+    return 0;
+}
+
+/* ---- "Where a line arrives" ---- */
+
+enum {
+    LPC_INPUTS = 16,
+    LIO_FIRST = 16, /* the global number of LIO input 0 */
+    LIO_INPUTS = 32,
+};
+
+/* Answers as include/yasmirand.h codes them. */
+static const uint64_t UNWIRED = UINT64_C(1) << 40;
+static const uint64_t NO_OWNER = UINT64_C(2) << 40;
+static const uint64_t NOTHING = 0;
+
+enum source { LIO_INPUT = 1, BIO_INPUT = 2, LPC_CASCADE = 3, MSI_SLOT = 4 };
+
+static uint64_t arrives(uint8_t vector, uint32_t number)
+{
+    return (uint64_t)vector << 32 | number;
+}
+
+static bool is_arrival(uint64_t answer)
+{
+    return answer < UNWIRED;
+}
+
+static uint64_t traced(enum source source, uint8_t node, uint32_t value)
+{
+    return (uint64_t)source << 40 | (uint64_t)node << 32 | value;
+}
+
+static const struct eio *eio_of_node(const struct board *board, uint16_t node)
+{
+    for (size_t i = 0; i < board->eios; i++)
+        if (board->eio[i].node == node)
+            return &board->eio[i];
+    return NULL;
+}
+
+/* The LPC's BIO: the smallest hardware ID, the earliest of equals. */
+static const struct bio *bridge_of_lpc(const struct board *board)
+{
+    const struct bio *bridge = &board->bio[0];
+
+    for (size_t i = 1; i < board->bios; i++)
+        if (board->bio[i].node < bridge->node)
+            bridge = &board->bio[i];
+    return bridge;
+}
+
+static uint64_t route_pin(const struct board *board, const struct bio *bio, uint32_t pin)
+{
+    return arrives(eio_of_node(board, bio->node)->cascade, pin);
+}
+
+/* The half that a LIO input is wired to, if any. */
+static const struct half *half_of_input(const struct lio *lio, uint32_t input)
+{
+    for (int i = 0; i < 2; i++)
+        if (lio->half[i].mask >> input & 1)
+            return &lio->half[i];
+    return NULL;
+}
+
+static uint64_t route(const struct board *board, uint32_t number)
+{
+    if (number < LPC_INPUTS)
+        return board->lpcs == 0 ? NO_OWNER : route_pin(board, bridge_of_lpc(board), board->lpc.cascade);
+    if (number < LIO_FIRST + LIO_INPUTS) {
+        uint32_t input = number - LIO_FIRST;
+        const struct half *half = half_of_input(&board->lio, input);
+
+        return half == NULL ? UNWIRED : arrives(half->cascade, input);
+    }
+    for (size_t i = 0; i < board->bios; i++) {
+        const struct bio *bio = &board->bio[i];
+
+        if (number >= bio->base && number - bio->base < PINS)
+            return route_pin(board, bio, number - bio->base);
+    }
+    return NO_OWNER;
+}
+
+/* What arrives through one EIO with a number, its extended vector. */
+static uint64_t trace_eio(const struct board *board, const struct eio *eio, uint32_t number)
+{
+    for (size_t i = 0; i < board->bios; i++) {
+        const struct bio *bio = &board->bio[i];
+
+        if (bio->node != eio->node || number >= PINS)
+            continue;
+        if (board->lpcs == 1 && bio == bridge_of_lpc(board) && number == board->lpc.cascade)
+            return traced(LPC_CASCADE, 0, bio->base + number);
+        return traced(BIO_INPUT, 0, bio->base + number);
+    }
+    for (size_t i = 0; i < board->msis; i++)
+        if (number >= board->msi[i].start && number - board->msi[i].start < board->msi[i].count)
+            return traced(MSI_SLOT, eio->node, number);
+    return NOTHING;
+}
+
+static uint64_t trace(const struct board *board, uint32_t vector, uint32_t number)
+{
+    if (number < LIO_INPUTS) {
+        const struct half *half = half_of_input(&board->lio, number);
+
+        if (half != NULL && half->cascade == vector)
+            return traced(LIO_INPUT, 0, LIO_FIRST + number);
+    }
+    for (size_t i = 0; i < board->eios; i++)
+        if (board->eio[i].cascade == vector)
+            return trace_eio(board, &board->eio[i], number);
+    return NOTHING;
+}
+
+/* ---- "Refusals in order", 39 to 54: rules about the board as a whole ---- */
+
+static const uint64_t NO_PLACE = UINT64_MAX;
+
+/*
+ * Two structures clash: the later of them is named, unless one before it already is. After all pairs this leaves the
+ * first structure in table order that clashes with an earlier one.
+ */
+static void name_later(uint64_t *named, uint64_t place, uint64_t other)
+{
+    uint64_t later = place > other ? place : other;
+
+    if (later < *named)
+        *named = later;
+}
+
+static uint64_t check_ids(const struct board *board)
+{
+    for (size_t i = 0; i < board->cores; i++)
+        for (size_t j = 0; j < i; j++)
+            if (board->core[i].uid == board->core[j].uid || board->core[i].physical_id == board->core[j].physical_id)
+                return refuse(39, board->core[i].place);
+    return 0;
+}
+
+/* Rules 40 to 43. */
+static uint64_t check_parts(const struct board *board)
+{
+    if (board->enabled == 0 || board->lios == 0 || board->eios == 0)
+        return refuse(40, board->madt);
+    for (size_t i = 0; i < board->eios; i++)
+        for (size_t j = 0; j < i; j++)
+            if (board->eio[i].node == board->eio[j].node)
+                return refuse(41, board->eio[i].place);
+    for (size_t i = 0; i < board->bios; i++)
+        if (eio_of_node(board, board->bio[i].node) == NULL)
+            return refuse(42, board->bio[i].place);
+    if (board->lpcs == 1 && board->bios == 0)
+        return refuse(43, board->lpc.place);
+    return 0;
+}
+
+/* Global numbers of different sources can meet between BIOs only: LIO has 16 to 47, bases are 64 and up. */
+static uint64_t check_global_numbers(const struct board *board)
+{
+    for (size_t i = 0; i < board->bios; i++)
+        for (size_t j = 0; j < i; j++) {
+            int distance = board->bio[i].base - board->bio[j].base;
+
+            if (distance > -PINS && distance < PINS)
+                return refuse(51, board->bio[i].place);
+        }
+    return 0;
+}
+
+static bool slots_meet(const struct msi *a, const struct msi *b)
+{
+    return a->start < b->start + b->count && b->start < a->start + a->count;
+}
+
+/* A BIO's pins are the vectors 0 to 63 of its EIO; a slot is on every EIO, so it meets every BIO with a pin of its number. */
+static uint64_t check_extended_vectors(const struct board *board)
+{
+    uint64_t named = NO_PLACE;
+
+    for (size_t i = 0; i < board->bios; i++) {
+        for (size_t j = 0; j < i; j++)
+            if (board->bio[i].node == board->bio[j].node)
+                name_later(&named, board->bio[i].place, board->bio[j].place);
+        for (size_t j = 0; j < board->msis; j++)
+            if (board->msi[j].start < PINS)
+                name_later(&named, board->bio[i].place, board->msi[j].place);
+    }
+    for (size_t i = 0; i < board->msis; i++)
+        for (size_t j = 0; j < i; j++)
+            if (slots_meet(&board->msi[i], &board->msi[j]))
+                name_later(&named, board->msi[i].place, board->msi[j].place);
+    return named == NO_PLACE ? 0 : refuse(52, named);
+}
+
+/* Both halves of the LIO may use one vector; an unused half enters nowhere. */
+static uint64_t check_core_vectors(const struct board *board)
+{
+    uint64_t named = NO_PLACE;
+
+    for (size_t i = 0; i < board->eios; i++) {
+        for (size_t j = 0; j < i; j++)
+            if (board->eio[i].cascade == board->eio[j].cascade)
+                name_later(&named, board->eio[i].place, board->eio[j].place);
+        for (int half = 0; half < 2; half++)
+            if (board->lio.half[half].mask != 0 && board->lio.half[half].cascade == board->eio[i].cascade)
+                name_later(&named, board->eio[i].place, board->lio.place);
+    }
+    return named == NO_PLACE ? 0 : refuse(53, named);
+}
+
+/* Rules 39 to 54. */
+static uint64_t check_board(const struct board *board)
+{
+    uint64_t refusal;
+
+    if ((refusal = check_ids(board)) != 0)
+        return refusal;
+    if ((refusal = check_parts(board)) != 0)
+        return refusal;
+    if ((refusal = check_global_numbers(board)) != 0)
+        return refusal;
+    if ((refusal = check_extended_vectors(board)) != 0)
+        return refusal;
+    if ((refusal = check_core_vectors(board)) != 0)
+        return refusal;
+    if (!is_arrival(route(board, board->sci)))
+        return refuse(54, board->fadt);
+    return 0;
+}
+
+/* Rules 1 to 54. */
+static uint64_t read_board(const uint8_t *bytes, size_t length, struct board *board)
+{
+    struct capture capture;
+    struct tables tables;
+    uint64_t refusal;
+
+    if ((refusal = open_capture(&capture, bytes, length)) != 0)
+        return refusal;
+    if ((refusal = find_tables(&capture, &tables)) != 0)
+        return refusal;
+
+    board->madt = tables.madt.place;
+    board->fadt = tables.fadt.place;
+    board->sci = u16(bytes + tables.fadt.place + 46);
+    board->cores = board->enabled = 0;
+    board->lios = board->eios = board->msis = board->bios = board->lpcs = 0;
+    if ((refusal = walk_madt(&capture, &tables.madt, board)) != 0)
+        return refusal;
+    return check_board(board);
+}
+
+/* ---- The three calls ---- */
+
+uint64_t reference_read(const uint8_t *capture, size_t capture_len, uint8_t *list, size_t list_len)
+{
+    struct board board;
+    uint64_t refusal = read_board(capture, capture_len, &board);
+
+    if (refusal != 0)
+        return refusal;
+    if (list_len < 8 * board.enabled)
+        return refuse(60, 0);
+    for (size_t i = 0; i < board.cores; i++) {
+        if (!board.core[i].enabled)
+            continue;
+        put_u32(list, board.core[i].uid);
+        put_u32(list + 4, board.core[i].physical_id);
+        list += 8;
+    }
+    return board.enabled;
+}
+
+uint64_t reference_route(const uint8_t *capture, size_t capture_len, uint32_t number)
+{
+    struct board board;
+    uint64_t refusal = read_board(capture, capture_len, &board);
+
+    return refusal != 0 ? refusal : route(&board, number);
+}
+
+uint64_t reference_trace(const uint8_t *capture, size_t capture_len, uint32_t vector, uint32_t number)
+{
+    struct board board;
+    uint64_t refusal = read_board(capture, capture_len, &board);
+
+    return refusal != 0 ? refusal : trace(&board, vector, number);
+}

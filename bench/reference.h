@@ -1,0 +1,22 @@
+/*
+ * The reference: a second implementation of document 01, in plain C, to compare Yasmirand with.
+ *
+ * The three functions take and give what the entries of include/yasmirand.h do: a result of 2^48 or more is refusal
+ * number × 2^48 + place, any other is an answer.
+ */
+#ifndef REFERENCE_H
+#define REFERENCE_H
+
+#include <stddef.h>
+#include <stdint.h>
+
+/* Reads a capture. Writes UID and physical ID of each enabled CORE to the list, four bytes a number; gives their count. */
+uint64_t reference_read(const uint8_t *capture, size_t capture_len, uint8_t *list, size_t list_len);
+
+/* Where a global number arrives. */
+uint64_t reference_route(const uint8_t *capture, size_t capture_len, uint32_t number);
+
+/* What arrives at a core vector with a number. */
+uint64_t reference_trace(const uint8_t *capture, size_t capture_len, uint32_t vector, uint32_t number);
+
+#endif

@@ -1,0 +1,312 @@
+/*
+ * Random boards that keep every rule of document 01: see valid.h. They are varied on purpose in what the rules do not
+ * fix: the order of structures and tables, the segments, the free bytes.
+ */
+#include "valid.h"
+
+#include <string.h>
+
+/* ---- Structures ---- */
+
+static size_t random_core_count(struct random *random)
+{
+    switch (below(random, 64)) {
+    case 0:
+        return CORES_MAX;
+    case 1:
+        return between(random, 41, CORES_MAX);
+    case 2: case 3: case 4: case 5:
+        return between(random, 9, 40);
+    default:
+        return between(random, 1, 8);
+    }
+}
+
+/* IDs in steps of an odd number are all different. */
+static void add_cores(struct random *random, struct board *board)
+{
+    bool plain = one_in(random, 2);
+    uint32_t uid = plain ? 0 : (uint32_t)any(random), uid_step = plain ? 1 : (uint32_t)any(random) | 1;
+    uint32_t id = plain ? 0 : (uint32_t)any(random), id_step = plain ? 1 : (uint32_t)any(random) | 1;
+    size_t count = random_core_count(random);
+    size_t surely_enabled = below(random, count);
+
+    for (size_t i = 0; i < count; i++) {
+        uint32_t enabled = i == surely_enabled || !one_in(random, 4);
+
+        append_structure(board, make_core(random, uid, id, enabled));
+        uid += uid_step;
+        id += id_step;
+    }
+}
+
+/* The core's hardware lines in random order: taking them one by one, no two controllers enter one core vector. */
+struct lines {
+    uint8_t line[CASCADE_MAX - CASCADE_MIN + 1];
+    size_t taken;
+};
+
+static struct lines shuffled_lines(struct random *random)
+{
+    struct lines lines = {.taken = 0};
+    size_t count = sizeof lines.line;
+
+    for (size_t i = 0; i < count; i++) {
+        size_t other = below(random, i + 1);
+
+        lines.line[i] = lines.line[other];
+        lines.line[other] = (uint8_t)(CASCADE_MIN + i);
+    }
+    return lines;
+}
+
+static void random_masks(struct random *random, uint32_t masks[2])
+{
+    uint32_t wired = one_in(random, 4) ? UINT32_MAX : (uint32_t)any(random);
+    uint32_t low = (uint32_t)any(random);
+
+    switch (below(random, 6)) {
+    case 0: /* both halves unused */
+        wired = 0;
+        break;
+    case 1:
+        low = UINT32_MAX;
+        break;
+    case 2:
+        low = 0;
+        break;
+    default:
+        break;
+    }
+    masks[0] = wired & low;
+    masks[1] = wired & ~low;
+}
+
+/* An unused half's byte is free: any byte, often one that an EIO uses. */
+static void add_lio(struct random *random, struct board *board, struct lines *lines, const uint32_t masks[2])
+{
+    uint8_t cascades[2];
+    uint8_t line = lines->line[lines->taken++];
+
+    for (int half = 0; half < 2; half++) {
+        if (half == 1 && !one_in(random, 4))
+            line = lines->line[lines->taken++];
+        cascades[half] = line;
+        if (masks[half] == 0)
+            cascades[half] = (uint8_t)(one_in(random, 2) ? any(random) : between(random, CASCADE_MIN, CASCADE_MAX));
+    }
+    append_structure(board, make_lio(random, cascades, masks));
+}
+
+bool base_is_taken(const struct board *board, uint16_t base)
+{
+    for (size_t i = 0; i < board->structures; i++) {
+        const uint8_t *bytes = board->structure[i].bytes;
+        int distance = get_u16(bytes + BIO_BASE) - base;
+
+        if (bytes[0] == BIO && distance > -PINS && distance < PINS)
+            return true;
+    }
+    return false;
+}
+
+uint16_t free_base(struct random *random, const struct board *board)
+{
+    uint16_t base;
+
+    do {
+        switch (below(random, 4)) {
+        case 0: /* close together */
+            base = (uint16_t)(BASE_MIN + PINS * below(random, 8));
+            break;
+        case 1:
+            base = BASE_MAX;
+            break;
+        default:
+            base = (uint16_t)between(random, BASE_MIN, BASE_MAX);
+            break;
+        }
+    } while (base_is_taken(board, base));
+    return base;
+}
+
+uint64_t node_map(struct random *random)
+{
+    return one_in(random, 2) ? any(random) | 1 : UINT64_C(1) << below(random, 64);
+}
+
+/* EIOs of different nodes, and a BIO on some of them; gives the number of BIOs. */
+static size_t add_hubs(struct random *random, struct board *board, struct lines *lines)
+{
+    size_t eios = between(random, 1, EIOS_MAX);
+    size_t first_bio = below(random, eios + 1);
+    uint8_t node = (uint8_t)below(random, NODES), step = (uint8_t)(any(random) | 1);
+    size_t bios = 0;
+
+    for (size_t i = 0; i < eios; i++) {
+        append_structure(board, make_eio(random, lines->line[lines->taken++], node, node_map(random)));
+        if (i >= first_bio && (i == first_bio || !one_in(random, 4))) {
+            append_structure(board, make_bio(random, node, free_base(random, board)));
+            bios++;
+        }
+        node = (uint8_t)((node + step) % NODES);
+    }
+    return bios;
+}
+
+/* MSIs with slots of their own: behind the pins if there is a BIO, from 0 if not. */
+static void add_msis(struct random *random, struct board *board, uint32_t first)
+{
+    size_t count = below(random, MSIS_MAX + 1);
+
+    for (size_t i = 0; i < count; i++) {
+        uint32_t share = (uint32_t)((SLOTS - first) / count);
+        uint32_t start = first + share * (uint32_t)i;
+        uint32_t left_out = one_in(random, 2) ? 0 : (uint32_t)below(random, share);
+
+        append_structure(board, make_msi(random, start + left_out, (uint32_t)between(random, 1, share - left_out)));
+    }
+    if (count == 1 && one_in(random, 2)) /* all slots that there are */
+        put_u32(board->structure[board->structures - 1].bytes + MSI_COUNT,
+                SLOTS - get_u32(board->structure[board->structures - 1].bytes + MSI_START));
+}
+
+struct structure passed_over_structure(struct random *random)
+{
+    uint64_t type = below(random, 256 - (LPC - CORE + 1));
+    struct structure structure;
+
+    structure.length = one_in(random, 16) ? 255 : between(random, 2, 24);
+    for (size_t i = 0; i < structure.length; i++)
+        structure.bytes[i] = (uint8_t)any(random);
+    structure.bytes[0] = (uint8_t)(type < CORE ? type : type + (LPC - CORE + 1));
+    structure.bytes[1] = (uint8_t)structure.length;
+    return structure;
+}
+
+static void shuffle_structures(struct random *random, struct board *board)
+{
+    for (size_t i = 1; i < board->structures; i++) {
+        size_t other = below(random, i + 1);
+        struct structure moved = board->structure[i];
+
+        board->structure[i] = board->structure[other];
+        board->structure[other] = moved;
+    }
+}
+
+/* A global number that arrives: there is a wired LIO input, or a BIO. */
+static uint16_t arriving_number(struct random *random, const struct board *board, const uint32_t masks[2])
+{
+    uint32_t wired = masks[0] | masks[1];
+    const struct structure *bio = NULL;
+
+    for (size_t i = 0; i < board->structures; i++)
+        if (board->structure[i].bytes[0] == BIO && (bio == NULL || one_in(random, 2)))
+            bio = &board->structure[i];
+    if (count_kind(board, LPC) == 1 && one_in(random, 3))
+        return (uint16_t)below(random, 16);
+    if (bio != NULL && (wired == 0 || one_in(random, 2)))
+        return (uint16_t)(get_u16(bio->bytes + BIO_BASE) + below(random, PINS));
+
+    uint32_t input = (uint32_t)below(random, LIO_INPUTS);
+
+    while ((wired >> input & 1) == 0)
+        input = (input + 1) % LIO_INPUTS;
+    return (uint16_t)(LIO_FIRST + input);
+}
+
+static void add_structures(struct random *random, struct board *board)
+{
+    struct lines lines = shuffled_lines(random);
+    uint32_t masks[2];
+
+    random_masks(random, masks);
+    add_cores(random, board);
+
+    size_t bios = add_hubs(random, board, &lines);
+
+    if (bios == 0 && (masks[0] | masks[1]) == 0) /* the SCI has to arrive somewhere */
+        masks[any(random) & 1] = 1;
+    add_lio(random, board, &lines, masks);
+    add_msis(random, board, bios == 0 ? 0 : PINS);
+    if (bios != 0 && !one_in(random, 3))
+        append_structure(board, make_lpc(random, (uint16_t)below(random, PINS)));
+    for (size_t more = below(random, 4); more > 0; more--)
+        append_structure(board, passed_over_structure(random));
+    if (!one_in(random, 3))
+        shuffle_structures(random, board);
+    board->sci = arriving_number(random, board, masks);
+}
+
+/* ---- Tables and memory ---- */
+
+static void add_other_tables(struct random *random, struct board *board)
+{
+    static const char signatures[][4] = {"SSDT", "DSDT", "MCFG", "SRAT", "PPTT", "FADT", "MADT", "apic"};
+    size_t count = one_in(random, 16) ? between(random, 5, 20) : below(random, 4);
+
+    for (size_t i = 0; i < count; i++) {
+        const char *signature = signatures[below(random, sizeof signatures / sizeof signatures[0])];
+        size_t number = add_table(board, signature, TABLE_HEADER + below(random, 80));
+
+        if (!one_in(random, 4))
+            add_entry(board, below(random, board->entries + 1), number);
+    }
+    if (one_in(random, 8)) /* nothing forbids it */
+        add_entry(board, below(random, board->entries + 1), XSDT);
+    if (board->tables > OTHERS && one_in(random, 16)) /* one table named again and again */
+        while (board->entries < ENTRIES_MAX)
+            add_entry(board, board->entries, OTHERS);
+}
+
+static void shuffle_tables(struct random *random, struct board *board)
+{
+    for (size_t i = 1; i < board->tables; i++) {
+        size_t other = below(random, i + 1);
+        size_t moved = board->order[i];
+
+        board->order[i] = board->order[other];
+        board->order[other] = moved;
+    }
+}
+
+static void scatter_over_memory(struct random *random, struct board *board)
+{
+    uint64_t rarity = between(random, 1, 8);
+
+    for (size_t i = 0; i < board->tables; i++) {
+        struct table *table = &board->table[board->order[i]];
+
+        table->revision = board->order[i] >= FADT ? (uint8_t)any(random) : table->revision;
+        table->gap = one_in(random, 3) ? below(random, 9) : 0;
+        table->opens_segment = one_in(random, rarity) && count_segments(board) < SEGMENTS_MAX;
+        table->distance = one_in(random, 3) ? 0 : below(random, one_in(random, 2) ? 64 : UINT64_C(1) << 40);
+    }
+    board->tail = one_in(random, 3) ? below(random, 9) : 0;
+    board->at_top = one_in(random, 8);
+    if (one_in(random, 2))
+        board->base = one_in(random, 4) ? 0 : any(random) >> 2;
+}
+
+/* A table that fills the capture up to its greatest length, or half of the way. */
+static void add_large_table(struct random *random, struct board *board)
+{
+    size_t room = CAPTURE_MAX - capture_length(board) - 8; /* its entry takes eight bytes */
+    size_t length = one_in(random, 4) ? room : between(random, room / 2, room);
+
+    add_entry(board, below(random, board->entries + 1), add_table(board, "SSDT", length));
+}
+
+void make_valid_board(struct random *random, struct board *board)
+{
+    start_board(random, board);
+    board->table[FADT].length = one_in(random, 4) ? FADT_MIN : between(random, FADT_MIN, 280);
+    add_structures(random, board);
+    add_other_tables(random, board);
+    if (!one_in(random, 3))
+        shuffle_tables(random, board);
+    scatter_over_memory(random, board);
+    if (board->entries < ENTRIES_MAX && one_in(random, 100))
+        add_large_table(random, board);
+}

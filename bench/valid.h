@@ -1,0 +1,24 @@
+/*
+ * Random boards that keep every rule of document 01.
+ */
+#ifndef VALID_H
+#define VALID_H
+
+#include "board.h"
+#include "random.h"
+
+void make_valid_board(struct random *random, struct board *board);
+
+/* A node map: not 0, with many nodes or one. */
+uint64_t node_map(struct random *random);
+
+/* Whether a BIO with this base would own a global number that a BIO of the board owns already. */
+bool base_is_taken(const struct board *board, uint16_t base);
+
+/* A base that is free on a board with few bridges. */
+uint16_t free_base(struct random *random, const struct board *board);
+
+/* A structure of a type that is passed over, of any length that fits. */
+struct structure passed_over_structure(struct random *random);
+
+#endif

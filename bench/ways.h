@@ -1,0 +1,17 @@
+/*
+ * The ways to break a board, in two lists: by what they break.
+ */
+#ifndef WAYS_H
+#define WAYS_H
+
+#include <stddef.h>
+
+#include "damage.h"
+
+extern const struct way capture_ways[]; /* refusals 1 to 30 */
+extern const size_t capture_way_count;
+
+extern const struct way madt_ways[]; /* refusals 31 to 54 */
+extern const size_t madt_way_count;
+
+#endif

@@ -1,0 +1,468 @@
+/*
+ * Ways to break rules 1 to 30 of a board: the capture and its tables. They stand in the order of document 01's table
+ * "Refusals in order". A way works on any board, also on one that another way has broken already; on a board that keeps
+ * all rules it breaks its own rule and none before it.
+ */
+#include "ways.h"
+
+#include <string.h>
+
+/* ---- 1 to 6: the capture ---- */
+
+static void too_short(struct random *random, struct capture *capture)
+{
+    capture->length = below(random, HEADER_LENGTH);
+}
+
+/* All else stays right: the last segment grows. */
+static void too_long(struct random *random, struct capture *capture)
+{
+    size_t length = between(random, CAPTURE_MAX + 1, CAPTURE_ROOM);
+    size_t last = capture->segments - 1;
+
+    if (length <= capture->length)
+        return;
+    memset(capture->bytes + capture->length, 0, length - capture->length);
+    set_segment_length(capture, last, segment_length(capture, last) + (uint32_t)(length - capture->length));
+    set_total(capture, length);
+    capture->length = length;
+}
+
+static void wrong_mark(struct random *random, struct capture *capture)
+{
+    spoil(random, capture->bytes + below(random, 3));
+}
+
+static void wrong_version(struct random *random, struct capture *capture)
+{
+    spoil(random, capture->bytes + between(random, 3, 4));
+}
+
+static void wrong_segment_count(struct random *random, struct capture *capture)
+{
+    capture->bytes[5] = (uint8_t)(one_in(random, 3) ? 0 : between(random, SEGMENTS_MAX + 1, 255));
+}
+
+static void descriptors_past_end(struct random *random, struct capture *capture)
+{
+    capture->length = HEADER_LENGTH + below(random, DESCRIPTOR_LENGTH * capture->segments);
+    if (one_in(random, 2))
+        set_total(capture, capture->length);
+}
+
+static void wrong_total(struct random *random, struct capture *capture)
+{
+    uint32_t error = (uint32_t)(one_in(random, 2) ? between(random, 1, UINT32_MAX) : UINT32_C(1) << below(random, 32));
+
+    put_u32(capture->bytes + 6, get_u32(capture->bytes + 6) + error);
+}
+
+static void bytes_behind_the_end(struct random *random, struct capture *capture)
+{
+    size_t more = between(random, 1, 8);
+
+    if (capture->length + more > CAPTURE_MAX) {
+        wrong_total(random, capture);
+        return;
+    }
+    memset(capture->bytes + capture->length, 0, more);
+    capture->length += more;
+    if (one_in(random, 2))
+        set_total(capture, capture->length);
+}
+
+static void bytes_missing(struct random *random, struct capture *capture)
+{
+    size_t descriptors_end = HEADER_LENGTH + DESCRIPTOR_LENGTH * capture->segments;
+
+    if (capture->length > descriptors_end)
+        capture->length -= between(random, 1, capture->length - descriptors_end);
+    if (one_in(random, 2))
+        set_total(capture, capture->length);
+}
+
+static void wrong_segment_length(struct random *random, struct capture *capture)
+{
+    size_t number = below(random, capture->segments);
+
+    set_segment_length(capture, number, segment_length(capture, number) ^ (uint32_t)between(random, 1, UINT32_MAX));
+}
+
+/* With two segments or more the lengths sum right, but only modulo 2^32. */
+static void lengths_right_modulo_2_32(struct random *random, struct capture *capture)
+{
+    size_t first = below(random, capture->segments), second = below(random, capture->segments);
+
+    set_segment_length(capture, first, segment_length(capture, first) + (UINT32_C(1) << 31));
+    if (second != first)
+        set_segment_length(capture, second, segment_length(capture, second) + (UINT32_C(1) << 31));
+}
+
+static void segment_past_2_64(struct random *random, struct capture *capture)
+{
+    size_t number = below(random, capture->segments);
+
+    for (size_t i = 0; i < capture->segments && segment_length(capture, number) < 2; i++)
+        number = (number + 1) % capture->segments;
+
+    uint64_t length = segment_length(capture, number);
+
+    if (length >= 2)
+        set_segment_address(capture, number, 0 - length + 1 + below(random, length - 1));
+}
+
+/* Its bytes go to a neighbour, so that the total stays right. */
+static void empty_segment(struct random *random, struct capture *capture)
+{
+    if (capture->segments < 2) {
+        segment_past_2_64(random, capture);
+        return;
+    }
+
+    size_t empty = below(random, capture->segments);
+    size_t neighbour = empty == 0 ? 1 : empty - 1;
+
+    set_segment_length(capture, neighbour, segment_length(capture, neighbour) + segment_length(capture, empty));
+    set_segment_length(capture, empty, 0);
+}
+
+static void segments_overlap(struct random *random, struct capture *capture)
+{
+    if (capture->segments < 2) {
+        segment_past_2_64(random, capture);
+        return;
+    }
+
+    size_t number = between(random, 1, capture->segments - 1);
+    uint64_t length_before = segment_length(capture, number - 1);
+    uint64_t into = length_before == 0 || one_in(random, 2) ? 1 : between(random, 1, length_before);
+
+    set_segment_address(capture, number, segment_address(capture, number - 1) + length_before - into);
+}
+
+static void segments_out_of_order(struct random *random, struct capture *capture)
+{
+    if (capture->segments < 2) {
+        segment_past_2_64(random, capture);
+        return;
+    }
+
+    size_t number = between(random, 1, capture->segments - 1);
+    size_t other = below(random, number);
+    uint64_t address = segment_address(capture, number);
+
+    set_segment_address(capture, number, segment_address(capture, other));
+    set_segment_address(capture, other, address);
+}
+
+/* ---- 10 to 14: the RSDP ---- */
+
+/* An address at which no 36 bytes are present. */
+static uint64_t absent_address(struct random *random, struct capture *capture)
+{
+    uint64_t first = segment_address(capture, 0);
+    size_t last = capture->segments - 1;
+    size_t number = below(random, capture->segments);
+    uint64_t length = segment_length(capture, number);
+
+    switch (below(random, 6)) {
+    case 0: /* before all segments */
+        if (first > 0)
+            return below(random, first);
+        break;
+    case 1: /* behind all segments, perhaps round the end of memory */
+        return segment_address(capture, last) + segment_length(capture, last) + below(random, 64);
+    case 2: /* 36 bytes from here reach over the end of memory */
+        return 0 - between(random, 1, 35);
+    default:
+        break;
+    }
+    return segment_address(capture, number) + length - between(random, 1, length < 35 ? length : 35);
+}
+
+static void rsdp_absent(struct random *random, const struct board *board, struct capture *capture)
+{
+    (void)board;
+    put_u64(capture->bytes + 10, absent_address(random, capture));
+}
+
+/* A segment ends inside a table and the next one touches it. Touching segments do not join. */
+static void cut(struct board *board, size_t table, size_t at)
+{
+    board->cut_at = 0;
+    for (size_t i = 1; i < board->tables && count_segments(board) == SEGMENTS_MAX; i++)
+        board->table[board->order[i]].opens_segment = false;
+    board->cut_table = table;
+    board->cut_at = at;
+}
+
+static void rsdp_cut(struct random *random, struct board *board)
+{
+    cut(board, RSDP, between(random, 1, RSDP_LENGTH - 1));
+}
+
+static void rsdp_signature(struct random *random, const struct board *board, struct capture *capture)
+{
+    (void)board;
+    if (one_in(random, 3)) /* the source's print drops the blank */
+        capture->bytes[capture->place[RSDP] + 7] = 0;
+    else
+        spoil(random, capture->bytes + capture->place[RSDP] + below(random, 8));
+}
+
+static void rsdp_revision(struct random *random, const struct board *board, struct capture *capture)
+{
+    (void)board;
+    spoil(random, capture->bytes + capture->place[RSDP] + 15);
+}
+
+static void rsdp_length(struct random *random, const struct board *board, struct capture *capture)
+{
+    (void)board;
+    spoil(random, capture->bytes + capture->place[RSDP] + 20 + below(random, 4));
+}
+
+/* The first 20 bytes' sum, that of all 36, or both. */
+static void rsdp_sums(struct random *random, struct capture *capture)
+{
+    uint8_t *rsdp = capture->bytes + capture->place[RSDP];
+    uint8_t error = (uint8_t)between(random, 1, 255);
+
+    switch (below(random, 3)) {
+    case 0:
+        rsdp[8] = (uint8_t)(rsdp[8] + error);
+        rsdp[32] = (uint8_t)(rsdp[32] - error);
+        break;
+    case 1:
+        rsdp[32] = (uint8_t)(rsdp[32] + error);
+        break;
+    default:
+        rsdp[8] = (uint8_t)(rsdp[8] + error);
+        break;
+    }
+}
+
+/* ---- 20 to 30: the other tables ---- */
+
+/* The XSDT, or a table that it names. */
+static size_t named_table(struct random *random, const struct board *board)
+{
+    size_t entry = below(random, board->entries + 1);
+
+    return entry == board->entries ? XSDT : board->entry[entry];
+}
+
+static void table_absent(struct random *random, const struct board *board, struct capture *capture)
+{
+    size_t entry = below(random, board->entries + 1);
+    size_t field = entry == board->entries ? capture->place[RSDP] + 24 : capture->place[XSDT] + TABLE_HEADER + 8 * entry;
+
+    put_u64(capture->bytes + field, absent_address(random, capture));
+}
+
+static void header_cut(struct random *random, struct board *board)
+{
+    size_t table = named_table(random, board);
+
+    cut(board, table, between(random, 1, TABLE_HEADER - 1));
+}
+
+static void set_table_length(struct capture *capture, size_t table, uint64_t length)
+{
+    put_u32(capture->bytes + capture->place[table] + 4, (uint32_t)length);
+}
+
+static void table_under_36(struct random *random, const struct board *board, struct capture *capture)
+{
+    size_t table = named_table(random, board);
+
+    set_table_length(capture, table, below(random, TABLE_HEADER));
+}
+
+static void table_past_segment(struct random *random, const struct board *board, struct capture *capture)
+{
+    size_t table = named_table(random, board);
+    uint64_t end = HEADER_LENGTH + DESCRIPTOR_LENGTH * capture->segments;
+
+    for (size_t i = 0; end <= capture->place[table]; i++)
+        end += segment_length(capture, i);
+
+    uint64_t left = end - capture->place[table];
+
+    set_table_length(capture, table, between(random, left + 1, one_in(random, 2) ? left + 8 : UINT32_MAX));
+}
+
+static void body_cut(struct random *random, struct board *board)
+{
+    size_t table = named_table(random, board);
+
+    make_room(board, DESCRIPTOR_LENGTH);
+    if (board->table[table].length == TABLE_HEADER) /* it has no body, the FADT of a sound board does */
+        table = FADT;
+
+    size_t body = board->table[table].length - TABLE_HEADER;
+
+    cut(board, table, body == 0 ? 1 : TABLE_HEADER + below(random, body));
+}
+
+static void table_sum(struct random *random, const struct board *board, struct capture *capture)
+{
+    spoil(random, &capture->sum_error[named_table(random, board)]);
+}
+
+static void spoil_signature(struct random *random, struct table *table)
+{
+    char *letter = &table->signature[below(random, 4)];
+
+    *letter = (char)(*letter ^ (char)between(random, 1, 127));
+}
+
+static void xsdt_signature(struct random *random, struct board *board)
+{
+    spoil_signature(random, &board->table[XSDT]);
+}
+
+static void xsdt_revision(struct random *random, struct board *board)
+{
+    spoil(random, &board->table[XSDT].revision);
+}
+
+static void xsdt_odd_body(struct random *random, struct board *board)
+{
+    board->xsdt_tail = between(random, 1, 7);
+}
+
+static void xsdt_too_many_entries(struct random *random, struct board *board)
+{
+    size_t count = between(random, ENTRIES_MAX + 1, ENTRIES_MAX + 4);
+
+    while (board->entries < count) {
+        size_t table = named_table(random, board);
+
+        add_entry(board, below(random, board->entries + 1), table);
+    }
+}
+
+static void madt_or_fadt_not_named(struct random *random, struct board *board)
+{
+    size_t missing = one_in(random, 2) ? MADT : FADT;
+    size_t kept = 0;
+
+    for (size_t i = 0; i < board->entries; i++)
+        if (board->entry[i] != missing)
+            board->entry[kept++] = board->entry[i];
+    board->entries = kept;
+}
+
+/* One is missing and the other is there twice: 26 comes before 27. */
+static void madt_or_fadt_for_the_other(struct random *random, struct board *board)
+{
+    size_t missing = one_in(random, 2) ? MADT : FADT;
+
+    for (size_t i = 0; i < board->entries; i++)
+        if (board->entry[i] == missing)
+            board->entry[i] = missing == MADT ? FADT : MADT;
+}
+
+static void madt_or_fadt_signature(struct random *random, struct board *board)
+{
+    spoil_signature(random, &board->table[one_in(random, 2) ? MADT : FADT]);
+}
+
+/* An entry that may be lost; on a full XSDT of a board with one MADT and one FADT there is one. */
+static size_t spare_entry(const struct board *board)
+{
+    size_t entry = 0;
+
+    while (entry + 1 < board->entries && (board->entry[entry] == MADT || board->entry[entry] == FADT))
+        entry++;
+    return entry;
+}
+
+static void table_named_twice(struct random *random, struct board *board)
+{
+    size_t table = one_in(random, 2) ? MADT : FADT;
+
+    if (board->entries == ENTRIES_MAX)
+        board->entry[spare_entry(board)] = table;
+    else
+        add_entry(board, below(random, board->entries + 1), table);
+}
+
+/* A table that was passed over becomes a second MADT or FADT. */
+static void second_table(struct random *random, struct board *board)
+{
+    for (size_t i = 0; i < board->entries; i++)
+        if (board->entry[i] >= OTHERS) {
+            memcpy(board->table[board->entry[i]].signature, one_in(random, 2) ? "APIC" : "FACP", 4);
+            return;
+        }
+    table_named_twice(random, board);
+}
+
+static void madt_too_short(struct random *random, struct board *board)
+{
+    board->madt_cut = between(random, TABLE_HEADER, MADT_HEADER - 1);
+}
+
+static void fadt_too_short(struct random *random, struct board *board)
+{
+    board->table[FADT].length = between(random, TABLE_HEADER, FADT_MIN - 1);
+}
+
+static void madt_revision(struct random *random, struct board *board)
+{
+    spoil(random, &board->table[MADT].revision);
+}
+
+static void madt_flags(struct random *random, struct board *board)
+{
+    board->madt_flags = one_in(random, 2) ? UINT32_C(1) << below(random, 32) : (uint32_t)any(random) | 1;
+}
+
+/* ---- All of them ---- */
+
+const struct way capture_ways[] = {
+    {1, "under 18 bytes", .in_capture = too_short},
+    {1, "over 65,536 bytes", .in_capture = too_long},
+    {2, "mark", .in_capture = wrong_mark},
+    {3, "version", .in_capture = wrong_version},
+    {4, "segment count", .in_capture = wrong_segment_count},
+    {5, "descriptors past the end", .in_capture = descriptors_past_end},
+    {5, "total", .in_capture = wrong_total},
+    {5, "bytes behind the end", .in_capture = bytes_behind_the_end},
+    {5, "bytes missing", .in_capture = bytes_missing},
+    {5, "a segment's length", .in_capture = wrong_segment_length},
+    {5, "lengths that sum right modulo 2^32", .in_capture = lengths_right_modulo_2_32},
+    {6, "empty segment", .in_capture = empty_segment},
+    {6, "segment past 2^64", .in_capture = segment_past_2_64},
+    {6, "overlapping segments", .in_capture = segments_overlap},
+    {6, "segments out of order", .in_capture = segments_out_of_order},
+    {10, "RSDP absent", .in_tables = rsdp_absent},
+    {10, "RSDP cut", .in_board = rsdp_cut},
+    {11, "RSDP signature", .in_tables = rsdp_signature},
+    {12, "RSDP revision", .in_tables = rsdp_revision},
+    {13, "RSDP length", .in_tables = rsdp_length},
+    {14, "RSDP sums", .in_capture = rsdp_sums},
+    {20, "table absent", .in_tables = table_absent},
+    {20, "table header cut", .in_board = header_cut},
+    {21, "table under 36 bytes", .in_tables = table_under_36},
+    {21, "table past its segment", .in_tables = table_past_segment},
+    {21, "table body cut", .in_board = body_cut},
+    {22, "table sum", .in_tables = table_sum},
+    {23, "XSDT signature", .in_board = xsdt_signature},
+    {24, "XSDT revision", .in_board = xsdt_revision},
+    {25, "XSDT body no multiple of 8", .in_board = xsdt_odd_body},
+    {25, "XSDT with over 32 entries", .in_board = xsdt_too_many_entries},
+    {26, "MADT or FADT not named", .in_board = madt_or_fadt_not_named},
+    {26, "MADT or FADT in place of the other", .in_board = madt_or_fadt_for_the_other},
+    {26, "MADT or FADT signature", .in_board = madt_or_fadt_signature},
+    {27, "MADT or FADT named twice", .in_board = table_named_twice},
+    {27, "second MADT or FADT", .in_board = second_table},
+    {28, "MADT under 44 bytes", .in_board = madt_too_short},
+    {28, "FADT under 48 bytes", .in_board = fadt_too_short},
+    {29, "MADT revision", .in_board = madt_revision},
+    {30, "MADT flags", .in_board = madt_flags},
+};
+
+const size_t capture_way_count = sizeof capture_ways / sizeof capture_ways[0];

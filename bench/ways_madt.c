@@ -1,0 +1,617 @@
+/*
+ * Ways to break rules 31 to 54 of a board: the MADT's structures one by one, then all together. What ways_capture.c says
+ * of its ways goes for these.
+ */
+#include "ways.h"
+
+#include <string.h>
+
+#include "valid.h"
+
+/* ---- Structures in range, to break one of or to have one too many of ---- */
+
+static bool has_value(const struct board *board, enum kind kind, size_t field, uint32_t value)
+{
+    for (size_t i = 0; i < board->structures; i++) {
+        const uint8_t *bytes = board->structure[i].bytes;
+
+        if (bytes[0] == kind && (kind == EIO ? bytes[field] : get_u32(bytes + field)) == value)
+            return true;
+    }
+    return false;
+}
+
+static uint32_t unused_id(struct random *random, const struct board *board, size_t field)
+{
+    uint32_t id;
+
+    do
+        id = (uint32_t)any(random);
+    while (has_value(board, CORE, field, id));
+    return id;
+}
+
+static uint8_t unused_node(struct random *random, const struct board *board)
+{
+    uint8_t node;
+
+    do
+        node = (uint8_t)below(random, NODES);
+    while (has_value(board, EIO, EIO_NODE, node));
+    return node;
+}
+
+static uint8_t cascade_in_range(struct random *random)
+{
+    return (uint8_t)between(random, CASCADE_MIN, CASCADE_MAX);
+}
+
+static uint8_t cascade_out_of_range(struct random *random)
+{
+    switch (below(random, 4)) {
+    case 0:
+        return (uint8_t)(CASCADE_MIN - 1);
+    case 1:
+        return (uint8_t)(CASCADE_MAX + 1);
+    case 2:
+        return 0;
+    default:
+        return (uint8_t)between(random, CASCADE_MAX + 1, 255);
+    }
+}
+
+static struct structure fresh_lio(struct random *random)
+{
+    uint32_t low = (uint32_t)any(random);
+    uint32_t masks[2] = {low, ~low};
+    uint8_t cascades[2];
+
+    for (int half = 0; half < 2; half++)
+        cascades[half] = cascade_in_range(random);
+    return make_lio(random, cascades, masks);
+}
+
+static struct structure fresh_core(struct random *random, const struct board *board)
+{
+    uint32_t uid = unused_id(random, board, CORE_UID);
+    uint32_t physical_id = unused_id(random, board, CORE_PHYSICAL_ID);
+
+    return make_core(random, uid, physical_id, (uint32_t)below(random, 2));
+}
+
+static struct structure fresh_eio(struct random *random, const struct board *board)
+{
+    uint8_t cascade = cascade_in_range(random), node = unused_node(random, board);
+
+    return make_eio(random, cascade, node, node_map(random));
+}
+
+/* On the node of an EIO, if there is one. */
+static struct structure fresh_bio(struct random *random, const struct board *board)
+{
+    uint8_t node = (uint8_t)below(random, NODES);
+
+    for (size_t i = 0; i < board->structures; i++)
+        if (board->structure[i].bytes[0] == EIO)
+            node = board->structure[i].bytes[EIO_NODE] % NODES;
+    return make_bio(random, node, free_base(random, board));
+}
+
+static struct structure fresh(struct random *random, const struct board *board, enum kind kind)
+{
+    switch (kind) {
+    case CORE:
+        return fresh_core(random, board);
+    case LIO:
+        return fresh_lio(random);
+    case EIO:
+        return fresh_eio(random, board);
+    case MSI:
+        return make_msi(random, (uint32_t)between(random, PINS, SLOTS - 1), 1);
+    case BIO:
+        return fresh_bio(random, board);
+    case LPC:
+        return make_lpc(random, (uint16_t)below(random, PINS));
+    default: /* HT */
+        return random_structure(random, kind);
+    }
+}
+
+static void insert(struct random *random, struct board *board, struct structure structure)
+{
+    add_structure(board, below(random, board->structures + 1), &structure);
+}
+
+static void insert_fresh(struct random *random, struct board *board, enum kind kind)
+{
+    insert(random, board, fresh(random, board, kind));
+}
+
+/* The structure of a kind with a number, counted in table order. */
+static uint8_t *nth(struct board *board, enum kind kind, size_t number)
+{
+    size_t i = 0;
+
+    while (board->structure[i].bytes[0] != kind || number-- > 0)
+        i++;
+    return board->structure[i].bytes;
+}
+
+/* The bytes of some structure of a kind; one is made if there is none. */
+static uint8_t *some(struct random *random, struct board *board, enum kind kind)
+{
+    if (count_kind(board, kind) == 0)
+        insert_fresh(random, board, kind);
+    return nth(board, kind, below(random, count_kind(board, kind)));
+}
+
+struct pair {
+    uint8_t *first, *second;
+};
+
+/* Two structures of a kind, in any order; made if there are not enough, and sometimes even so. */
+static struct pair some_two(struct random *random, struct board *board, enum kind kind, size_t limit)
+{
+    while (count_kind(board, kind) < 2 || (count_kind(board, kind) < limit && one_in(random, 3)))
+        insert_fresh(random, board, kind);
+
+    size_t count = count_kind(board, kind);
+    size_t first = below(random, count);
+    size_t second = (first + between(random, 1, count - 1)) % count;
+
+    return (struct pair){nth(board, kind, first), nth(board, kind, second)};
+}
+
+static enum kind known_kind(struct random *random)
+{
+    return (enum kind)between(random, CORE, LPC);
+}
+
+/* ---- 31 to 38: structures in turn ---- */
+
+static void one_byte_left(struct random *random, struct board *board)
+{
+    append_structure(board, (struct structure){.length = 1, .bytes = {(uint8_t)any(random)}});
+}
+
+static void length_under_2(struct random *random, struct board *board)
+{
+    struct structure structure = one_in(random, 2) ? passed_over_structure(random) : random_structure(random, known_kind(random));
+
+    structure.bytes[1] = (uint8_t)below(random, 2);
+    insert(random, board, structure);
+}
+
+static void past_the_end(struct random *random, struct board *board)
+{
+    struct structure structure = one_in(random, 2) ? passed_over_structure(random) : random_structure(random, known_kind(random));
+
+    if (structure.length == 255)
+        structure.length = 254;
+    structure.bytes[1] = (uint8_t)between(random, structure.length + 1, one_in(random, 2) ? structure.length + 1 : 255);
+    append_structure(board, structure);
+}
+
+static void wrong_length(struct random *random, struct board *board)
+{
+    struct structure structure = random_structure(random, known_kind(random));
+    size_t right = structure.length;
+
+    if (one_in(random, 2))
+        structure.length = one_in(random, 2) ? right - 1 : right + 1;
+    else
+        do
+            structure.length = between(random, 2, 255);
+        while (structure.length == right);
+    for (size_t i = right; i < structure.length; i++)
+        structure.bytes[i] = (uint8_t)any(random);
+    structure.bytes[1] = (uint8_t)structure.length;
+    insert(random, board, structure);
+}
+
+static void wrong_structure_version(struct random *random, struct board *board)
+{
+    struct structure structure = random_structure(random, known_kind(random));
+
+    spoil(random, &structure.bytes[2]);
+    insert(random, board, structure);
+}
+
+static void ht(struct random *random, struct board *board)
+{
+    insert_fresh(random, board, HT);
+}
+
+static void reserved_flags(struct random *random, struct board *board)
+{
+    uint8_t *core = some(random, board, CORE);
+
+    put_u32(core + CORE_FLAGS, get_u32(core + CORE_FLAGS) | UINT32_C(1) << between(random, 1, 31));
+}
+
+static void lio_cascade(struct random *random, struct board *board)
+{
+    uint8_t *lio = some(random, board, LIO);
+    size_t half = below(random, 2);
+
+    if (get_u32(lio + LIO_MASKS + 4 * half) == 0)
+        put_u32(lio + LIO_MASKS + 4 * half, UINT32_C(1) << below(random, 32));
+    lio[LIO_CASCADES + half] = cascade_out_of_range(random);
+}
+
+static void eio_cascade(struct random *random, struct board *board)
+{
+    uint8_t *eio = some(random, board, EIO);
+
+    eio[EIO_CASCADE] = cascade_out_of_range(random);
+}
+
+static void eio_node(struct random *random, struct board *board)
+{
+    uint8_t *eio = some(random, board, EIO);
+
+    eio[EIO_NODE] = (uint8_t)between(random, NODES, one_in(random, 2) ? NODES : 255);
+}
+
+static void eio_node_map(struct random *random, struct board *board)
+{
+    put_u64(some(random, board, EIO) + EIO_NODE_MAP, 0);
+}
+
+static void msi_no_slots(struct random *random, struct board *board)
+{
+    put_u32(some(random, board, MSI) + MSI_COUNT, 0);
+}
+
+static void msi_past_256(struct random *random, struct board *board)
+{
+    uint8_t *msi = some(random, board, MSI);
+    uint32_t start = (uint32_t)below(random, SLOTS + 8);
+    uint32_t least = start < SLOTS ? SLOTS + 1 - start : 1;
+
+    put_u32(msi + MSI_START, start);
+    put_u32(msi + MSI_COUNT, (uint32_t)between(random, least, one_in(random, 2) ? least + 8 : UINT32_MAX));
+}
+
+/* Added in 32 bits, start and count would seem to end in range. */
+static void msi_wraps(struct random *random, struct board *board)
+{
+    uint8_t *msi = some(random, board, MSI);
+    uint32_t start = UINT32_MAX - (uint32_t)below(random, 512);
+
+    put_u32(msi + MSI_START, start);
+    put_u32(msi + MSI_COUNT, (uint32_t)below(random, SLOTS + 1) - start);
+}
+
+static void bio_hardware_id(struct random *random, struct board *board)
+{
+    uint8_t *bio = some(random, board, BIO);
+
+    put_u16(bio + BIO_HARDWARE_ID, (uint16_t)between(random, NODES, one_in(random, 2) ? NODES : UINT16_MAX));
+}
+
+/* With a low byte that would be right. */
+static void bio_hardware_id_high_byte(struct random *random, struct board *board)
+{
+    uint8_t *bio = some(random, board, BIO);
+
+    bio[BIO_HARDWARE_ID + 1] = (uint8_t)between(random, 1, 255);
+}
+
+static void bio_base(struct random *random, struct board *board)
+{
+    uint8_t *bio = some(random, board, BIO);
+    uint64_t low = one_in(random, 2) ? BASE_MIN - 1 : below(random, BASE_MIN);
+    uint64_t high = one_in(random, 2) ? BASE_MAX + 1 : between(random, BASE_MAX + 1, UINT16_MAX);
+
+    put_u16(bio + BIO_BASE, (uint16_t)(one_in(random, 2) ? low : high));
+}
+
+static void lpc_cascade(struct random *random, struct board *board)
+{
+    uint8_t *lpc = some(random, board, LPC);
+
+    put_u16(lpc + LPC_CASCADE, (uint16_t)between(random, PINS, one_in(random, 2) ? PINS : UINT16_MAX));
+}
+
+static void lpc_cascade_high_byte(struct random *random, struct board *board)
+{
+    uint8_t *lpc = some(random, board, LPC);
+
+    lpc[LPC_CASCADE + 1] = (uint8_t)between(random, 1, 255);
+}
+
+static void masks_share_a_bit(struct random *random, struct board *board)
+{
+    uint8_t *lio = some(random, board, LIO);
+    uint32_t shared = UINT32_C(1) << below(random, 32);
+
+    for (int half = 0; half < 2; half++) {
+        put_u32(lio + LIO_MASKS + 4 * half, get_u32(lio + LIO_MASKS + 4 * half) | shared);
+        lio[LIO_CASCADES + half] = cascade_in_range(random);
+    }
+}
+
+static void have(struct random *random, struct board *board, enum kind kind, size_t count)
+{
+    while (count_kind(board, kind) < count)
+        insert_fresh(random, board, kind);
+}
+
+/* One too many, which is also broken in itself: 35 to 37 come before 38. */
+
+static void surplus_core_with_flags(struct random *random, struct board *board)
+{
+    have(random, board, CORE, CORES_MAX);
+    append_structure(board, make_core(random, 0, 0, UINT32_C(1) << between(random, 1, 31)));
+}
+
+static void surplus_out_of_range(struct random *random, struct board *board)
+{
+    switch (below(random, 4)) {
+    case 0:
+        have(random, board, EIO, EIOS_MAX);
+        append_structure(board, make_eio(random, CASCADE_MIN, 0, 0));
+        break;
+    case 1:
+        have(random, board, MSI, MSIS_MAX);
+        append_structure(board, make_msi(random, 0, 0));
+        break;
+    case 2:
+        have(random, board, BIO, BIOS_MAX);
+        append_structure(board, make_bio(random, 0, BASE_MIN - 1));
+        break;
+    default:
+        have(random, board, LPC, 1);
+        append_structure(board, make_lpc(random, PINS));
+        break;
+    }
+}
+
+static void surplus_lio_with_shared_bit(struct random *random, struct board *board)
+{
+    static const uint8_t cascades[2] = {CASCADE_MIN, CASCADE_MAX};
+    static const uint32_t masks[2] = {3, 6};
+
+    have(random, board, LIO, 1);
+    append_structure(board, make_lio(random, cascades, masks));
+}
+
+static void too_many_cores(struct random *random, struct board *board)
+{
+    have(random, board, CORE, CORES_MAX + 1);
+}
+
+static void two_lios(struct random *random, struct board *board)
+{
+    have(random, board, LIO, 2);
+}
+
+static void too_many_eios(struct random *random, struct board *board)
+{
+    have(random, board, EIO, EIOS_MAX + 1);
+}
+
+static void too_many_msis(struct random *random, struct board *board)
+{
+    have(random, board, MSI, MSIS_MAX + 1);
+}
+
+static void too_many_bios(struct random *random, struct board *board)
+{
+    have(random, board, BIO, BIOS_MAX + 1);
+}
+
+static void two_lpcs(struct random *random, struct board *board)
+{
+    have(random, board, LPC, 2);
+}
+
+/* ---- 39 to 54: the board as a whole ---- */
+
+static void repeated_id(struct random *random, struct board *board)
+{
+    struct pair cores = some_two(random, board, CORE, CORES_MAX);
+    size_t field = one_in(random, 2) ? CORE_UID : CORE_PHYSICAL_ID;
+
+    memcpy(cores.second + field, cores.first + field, 4);
+}
+
+static void none_enabled(struct random *random, struct board *board)
+{
+    if (one_in(random, 2)) {
+        remove_kind(board, CORE);
+        return;
+    }
+    for (size_t i = 0; i < board->structures; i++)
+        if (board->structure[i].bytes[0] == CORE)
+            put_u32(board->structure[i].bytes + CORE_FLAGS, 0);
+}
+
+static void no_lio(struct random *random, struct board *board)
+{
+    (void)random;
+    remove_kind(board, LIO);
+}
+
+static void no_eio(struct random *random, struct board *board)
+{
+    (void)random;
+    remove_kind(board, EIO);
+}
+
+static void repeated_node(struct random *random, struct board *board)
+{
+    struct pair eios = some_two(random, board, EIO, EIOS_MAX);
+
+    eios.second[EIO_NODE] = eios.first[EIO_NODE];
+}
+
+static void bio_without_eio(struct random *random, struct board *board)
+{
+    uint8_t *bio = some(random, board, BIO);
+
+    put_u16(bio + BIO_HARDWARE_ID, unused_node(random, board));
+}
+
+static void lpc_without_bio(struct random *random, struct board *board)
+{
+    remove_kind(board, BIO);
+    (void)some(random, board, LPC);
+}
+
+static void bases_too_close(struct random *random, struct board *board)
+{
+    struct pair bios = some_two(random, board, BIO, BIOS_MAX);
+    int distance = one_in(random, 2) ? PINS - 1 : (int)below(random, PINS);
+    int base = get_u16(bios.first + BIO_BASE) + (one_in(random, 2) ? distance : -distance);
+
+    if (base < BASE_MIN)
+        base = BASE_MIN;
+    if (base > BASE_MAX)
+        base = BASE_MAX;
+    put_u16(bios.second + BIO_BASE, (uint16_t)base);
+}
+
+static void two_bios_of_a_node(struct random *random, struct board *board)
+{
+    struct pair bios = some_two(random, board, BIO, BIOS_MAX);
+
+    memcpy(bios.second + BIO_HARDWARE_ID, bios.first + BIO_HARDWARE_ID, 2);
+}
+
+static void set_slots(struct random *random, uint8_t *msi, uint32_t start)
+{
+    put_u32(msi + MSI_START, start);
+    put_u32(msi + MSI_COUNT, (uint32_t)between(random, 1, start < SLOTS ? SLOTS - start : 1));
+}
+
+static void slots_on_slots(struct random *random, struct board *board)
+{
+    struct pair msis = some_two(random, board, MSI, MSIS_MAX);
+    uint32_t count = get_u32(msis.first + MSI_COUNT);
+    uint32_t into = count == 0 ? 0 : one_in(random, 2) ? count - 1 : (uint32_t)below(random, count);
+
+    set_slots(random, msis.second, get_u32(msis.first + MSI_START) + into);
+}
+
+static void slots_on_pins(struct random *random, struct board *board)
+{
+    if (count_kind(board, BIO) == 0)
+        insert_fresh(random, board, BIO);
+
+    uint8_t *msi = some(random, board, MSI);
+
+    set_slots(random, msi, one_in(random, 2) ? PINS - 1 : (uint32_t)below(random, PINS));
+}
+
+static void eio_on_the_lio(struct random *random, struct board *board)
+{
+    size_t half = below(random, 2);
+
+    if (count_kind(board, EIO) == 0)
+        insert_fresh(random, board, EIO);
+
+    uint8_t *lio = some(random, board, LIO);
+
+    if (get_u32(lio + LIO_MASKS + 4 * half) == 0)
+        half = 1 - half;
+    if (get_u32(lio + LIO_MASKS + 4 * half) == 0) {
+        put_u32(lio + LIO_MASKS + 4 * half, UINT32_C(1) << below(random, 32));
+        lio[LIO_CASCADES + half] = cascade_in_range(random);
+    }
+    some(random, board, EIO)[EIO_CASCADE] = lio[LIO_CASCADES + half];
+}
+
+static void eio_on_an_eio(struct random *random, struct board *board)
+{
+    struct pair eios = some_two(random, board, EIO, EIOS_MAX);
+
+    eios.second[EIO_CASCADE] = eios.first[EIO_CASCADE];
+}
+
+/* Between the LIO's numbers and the lowest base. */
+static void sci_between(struct random *random, struct board *board)
+{
+    board->sci = (uint16_t)between(random, LIO_FIRST + LIO_INPUTS, BASE_MIN - 1);
+}
+
+static void sci_behind_the_bridges(struct random *random, struct board *board)
+{
+    uint16_t number;
+
+    do
+        number = one_in(random, 4) ? UINT16_MAX : (uint16_t)between(random, BASE_MIN, UINT16_MAX);
+    while (base_is_taken(board, number));
+    board->sci = number;
+}
+
+/* The LIO loses the input that the SCI is put on. */
+static void sci_unwired(struct random *random, struct board *board)
+{
+    uint8_t *lio = some(random, board, LIO);
+    uint32_t input = (uint32_t)below(random, LIO_INPUTS);
+
+    for (int half = 0; half < 2; half++)
+        put_u32(lio + LIO_MASKS + 4 * half, get_u32(lio + LIO_MASKS + 4 * half) & ~(UINT32_C(1) << input));
+    board->sci = (uint16_t)(LIO_FIRST + input);
+}
+
+static void sci_without_lpc(struct random *random, struct board *board)
+{
+    remove_kind(board, LPC);
+    board->sci = (uint16_t)below(random, 16);
+}
+
+/* ---- All of them ---- */
+
+const struct way madt_ways[] = {
+    {31, "one byte left", .in_board = one_byte_left},
+    {31, "structure length under 2", .in_board = length_under_2},
+    {31, "structure past the end", .in_board = past_the_end},
+    {32, "length of a known type", .in_board = wrong_length},
+    {33, "structure version", .in_board = wrong_structure_version},
+    {34, "HT", .in_board = ht},
+    {35, "reserved CORE flags", .in_board = reserved_flags},
+    {35, "reserved flags of the 257th CORE", .in_board = surplus_core_with_flags},
+    {36, "LIO cascade", .in_board = lio_cascade},
+    {36, "EIO cascade", .in_board = eio_cascade},
+    {36, "EIO node", .in_board = eio_node},
+    {36, "EIO node map", .in_board = eio_node_map},
+    {36, "MSI count 0", .in_board = msi_no_slots},
+    {36, "MSI end", .in_board = msi_past_256},
+    {36, "MSI end with wrap", .in_board = msi_wraps},
+    {36, "BIO hardware ID", .in_board = bio_hardware_id},
+    {36, "BIO hardware ID, high byte", .in_board = bio_hardware_id_high_byte},
+    {36, "BIO base", .in_board = bio_base},
+    {36, "LPC cascade", .in_board = lpc_cascade},
+    {36, "LPC cascade, high byte", .in_board = lpc_cascade_high_byte},
+    {36, "one too many that is out of range", .in_board = surplus_out_of_range},
+    {37, "LIO masks share a bit", .in_board = masks_share_a_bit},
+    {37, "second LIO whose masks share a bit", .in_board = surplus_lio_with_shared_bit},
+    {38, "257 CORE", .in_board = too_many_cores},
+    {38, "two LIO", .in_board = two_lios},
+    {38, "five EIO", .in_board = too_many_eios},
+    {38, "five MSI", .in_board = too_many_msis},
+    {38, "five BIO", .in_board = too_many_bios},
+    {38, "two LPC", .in_board = two_lpcs},
+    {39, "repeated ID", .in_board = repeated_id},
+    {40, "no enabled CORE", .in_board = none_enabled},
+    {40, "no LIO", .in_board = no_lio},
+    {40, "no EIO", .in_board = no_eio},
+    {41, "repeated node", .in_board = repeated_node},
+    {42, "BIO without its EIO", .in_board = bio_without_eio},
+    {43, "LPC without a BIO", .in_board = lpc_without_bio},
+    {51, "bases too close", .in_board = bases_too_close},
+    {52, "two BIO of a node", .in_board = two_bios_of_a_node},
+    {52, "slots on slots", .in_board = slots_on_slots},
+    {52, "slots on pins", .in_board = slots_on_pins},
+    {53, "EIO on the LIO's vector", .in_board = eio_on_the_lio},
+    {53, "EIO on an EIO's vector", .in_board = eio_on_an_eio},
+    {54, "SCI between LIO and BIO", .in_board = sci_between},
+    {54, "SCI behind the bridges", .in_board = sci_behind_the_bridges},
+    {54, "SCI unwired", .in_board = sci_unwired},
+    {54, "SCI without LPC", .in_board = sci_without_lpc},
+};
+
+const size_t madt_way_count = sizeof madt_ways / sizeof madt_ways[0];
