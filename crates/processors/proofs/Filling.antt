@@ -1,6 +1,6 @@
 -- Counting and writing what each structure adds to the list: what holds at each turn of the loops, and a law for each way
 -- that a turn can go.
-use mathlib.Core.Path.{_≡_, refl, sym, _∙_}
+use mathlib.Core.Path.{_≡_, refl, sym, ap, _∙_}
 use mathlib.Core.Bool.{true, false}
 use mathlib.Core.List.{List, [], _∷_, _++_}
 use Prim.Native.Nat.{ℕ, _+_, _*_, _/_, _≤_, _<_}
@@ -15,7 +15,10 @@ use Rattle.words.proofs.Choices.{yes-if, no-if}
 use Rattle.kinds.specs.Makers.{coreOf}
 use Rattle.madt.specs.Pieces.{Piece, whole, cut, pieces, sizeAt}
 use Rattle.madt.proofs.Pieces.{pieces-end, pieces-cut, pieces-next}
-use Rattle.processors.specs.Listing.{isEnabledCore, entriesOf, entriesIn, processors, countOf, countIn, count, hasRoom, written, filled}
+use Rattle.processors.specs.Listing.{isEnabledCore, entriesOf, entriesIn, processors, countOf, countIn, count, hasRoom, written, filled, filling}
+use Rattle.processors.specs.declared.Filled.{Filled}
+use Rattle.processors.specs.declared.Filled.the-variants.{Whole, NoRoom}
+use Rattle.processors.proofs.Cases.{if-cases}
 
 -- what a structure adds
 module _ (s : List ℕ) where
@@ -144,18 +147,18 @@ module _ {g : List ℕ → List ℕ} (spelling : Spelling g) where
 
 -- ---- a list that is too short, and one that has room
 module _ (entries list : List ℕ) where
-  pub too-short : length list < length entries → (false ≡ hasRoom entries list) × (list ≡ filled entries list)
-  unfolding hasRoom filled
-  too-short h =
+  pub too-short : (n : ℕ) → length list < length entries → (NoRoom ≡ filling entries n list) × (list ≡ filled entries list)
+  unfolding hasRoom filling filled
+  too-short n h =
       let no = lt-leb (length entries) (length list) h in
-      (sym no, sym (no-if _ _ _ no refl))
+      (sym (no-if _ _ _ no refl), sym (no-if _ _ _ no refl))
 
-  pub enough-room : {list′ : List ℕ} → length entries ≤ length list → list′ ≡ written entries list
-      → (true ≡ hasRoom entries list) × (list′ ≡ filled entries list)
-  unfolding hasRoom filled
-  enough-room h e =
+  pub enough-room : (n : ℕ) {m : ℕ} {list′ : List ℕ} → length entries ≤ length list → m ≡ n → list′ ≡ written entries list
+      → (Whole m ≡ filling entries n list) × (list′ ≡ filled entries list)
+  unfolding hasRoom filling filled
+  enough-room n h k e =
       let yes = le-leb (length entries) (length list) h in
-      (sym yes, e ∙ sym (yes-if _ _ _ yes))
+      (ap Whole k ∙ sym (yes-if _ _ _ yes), e ∙ sym (yes-if _ _ _ yes))
 
 -- the test by the count
 module _ (table list : List ℕ) {n : ℕ} (e : n ≡ count table) where
@@ -164,3 +167,17 @@ module _ (table list : List ℕ) {n : ℕ} (e : n ≡ count table) where
 
   pub room-by-count : n ≤ length list / 2 → length (processors table) ≤ length list
   room-by-count h = let two = twice-all table in omega arith
+
+-- ---- what the answer tells of the room
+module _ (entries list : List ℕ) (n : ℕ) where
+  pub no-room-told : filling entries n list ≡ NoRoom → hasRoom entries list ≡ false
+  unfolding filling
+  no-room-told =
+      if-cases (λ (f : Filled). f ≡ NoRoom → hasRoom entries list ≡ false) (hasRoom entries list) _ _
+      (λ b e. absurd (let o : _≡_ {A = ℕ} 0 1 = cc in omega arith)) (λ b e. b)
+
+  pub whole-told : {m : ℕ} → filling entries n list ≡ Whole m → (hasRoom entries list ≡ true) × (m ≡ n)
+  unfolding filling
+  whole-told {m} =
+      if-cases (λ (f : Filled). f ≡ Whole m → (hasRoom entries list ≡ true) × (m ≡ n)) (hasRoom entries list) _ _
+      (λ b e. (b, cc)) (λ b e. absurd (let o : _≡_ {A = ℕ} 0 1 = cc in omega arith))

@@ -9,6 +9,8 @@ use Rattle.words.specs.Choice.{if}
 use Rattle.kinds.specs.Makers.{coreOf, isEnabled}
 use Rattle.madt.specs.Rules.{isType}
 use Rattle.madt.specs.Pieces.{Piece, whole, cut, pieces}
+use Rattle.processors.specs.declared.Filled.{Filled}
+use Rattle.processors.specs.declared.Filled.the-variants.{Whole, NoRoom}
 
 -- a structure, whose own bytes are s, is a CORE; it is an enabled CORE
 abbrev pub isCore : List ℕ → Bool
@@ -54,3 +56,7 @@ written entries list = entries ++ drop (length entries) list
 -- the same where there is room; a list that is too short stays as it is
 unfoldable pub filled : List ℕ → List ℕ → List ℕ
 filled entries list = if (hasRoom entries list) (written entries list) list
+
+-- what comes of filling a list with the entries of some processors
+unfoldable pub filling : List ℕ → ℕ → List ℕ → Filled
+filling entries processors list = if (hasRoom entries list) (Whole processors) NoRoom

@@ -1,4 +1,5 @@
 // The processor list as bytes, for the C entry: four little-endian bytes a number, otherwise as in `list`.
+use crate::Filled;
 use crate::list;
 use kinds::makers::Core;
 use madt::steps;
@@ -7,7 +8,7 @@ ghost use Prim.Native.Nat.{_+_, _≤_};
 ghost use lib.ListN.{length};
 ghost use lib.Seq.{sets};
 ghost use Rattle.processors.specs.Image.{fourBytes, image};
-ghost use Rattle.processors.specs.Listing.{entriesOf, processors, hasRoom, written, filled};
+ghost use Rattle.processors.specs.Listing.{entriesOf, processors, count, written, filled, filling};
 
 // How many bytes a processor takes: two numbers of four bytes.
 const ENTRY: usize = 8;
@@ -55,15 +56,16 @@ fn put_all(table: &[u8], list: &mut [u8])
     }
 }
 
-// The processor list of a MADT as bytes, written from the list's front on; a list without room for it stays as it is. Whether
-// it had room.
-pub fn fill(table: &[u8], list: &mut [u8]) -> bool
-    ensures { λ r. ⌜ r ≡ hasRoom (image (processors (now (table .entry)))) (now (list .entry)) ⌝ }
+// The processor list of a MADT as bytes, written from the list's front on; a list without room for it stays as it
+// is.
+pub fn fill(table: &[u8], list: &mut [u8]) -> Filled
+    ensures { λ r. ⌜ r ≡ filling (image (processors (now (table .entry)))) (count (now (table .entry))) (now (list .entry)) ⌝ }
     ensures { λ r. ⌜ now (list .exit) ≡ filled (image (processors (now (table .entry)))) (now (list .entry)) ⌝ }
 {
-    if list.len() / ENTRY < list::count(table) {
-        return false;
+    let processors = list::count(table);
+    if list.len() / ENTRY < processors {
+        return Filled::NoRoom;
     }
     put_all(table, list);
-    true
+    Filled::Whole(processors)
 }

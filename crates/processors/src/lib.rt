@@ -4,6 +4,12 @@ pub mod bytes; // the same list as bytes, for the C entry
 pub mod list; // UID and physical ID of each enabled CORE
 pub mod repeats; // 39: a CORE that repeats an ID of an earlier one
 
+// What came of filling a list: the number of processors written, or that it had no room.
+pub enum Filled {
+    Whole(usize),
+    NoRoom,
+}
+
 // The offset of the first CORE that repeats an ID of an earlier one, if there is such a CORE.
 pub enum Repeat {
     At(usize),

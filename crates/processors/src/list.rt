@@ -1,11 +1,12 @@
 // The processor list: UID and physical ID of each enabled CORE, in table order, as 32-bit numbers.
+use crate::Filled;
 use kinds::makers::Core;
 use madt::steps;
 ghost use mathlib.Core.Path.{_≡_};
 ghost use Prim.Native.Nat.{_+_, _≤_};
 ghost use lib.ListN.{length};
 ghost use lib.Seq.{sets};
-ghost use Rattle.processors.specs.Listing.{isCore, isEnabledCore, entriesOf, processors, countOf, count, hasRoom, written, filled};
+ghost use Rattle.processors.specs.Listing.{isCore, isEnabledCore, entriesOf, processors, countOf, count, written, filled, filling};
 
 // Whether a structure, given by its own bytes, is a CORE.
 pub(crate) fn is_core(structure: &[u8]) -> bool
@@ -79,15 +80,15 @@ fn put_all(table: &[u8], list: &mut [u32])
     }
 }
 
-// The processor list of a MADT, written from the list's front on; a list without room for it stays as it is. Whether it had
-// room.
-pub fn fill(table: &[u8], list: &mut [u32]) -> bool
-    ensures { λ r. ⌜ r ≡ hasRoom (processors (now (table .entry))) (now (list .entry)) ⌝ }
+// The processor list of a MADT, written from the list's front on; a list without room for it stays as it is.
+pub fn fill(table: &[u8], list: &mut [u32]) -> Filled
+    ensures { λ r. ⌜ r ≡ filling (processors (now (table .entry))) (count (now (table .entry))) (now (list .entry)) ⌝ }
     ensures { λ r. ⌜ now (list .exit) ≡ filled (processors (now (table .entry))) (now (list .entry)) ⌝ }
 {
-    if list.len() / 2 < count(table) {
-        return false;
+    let processors = count(table);
+    if list.len() / 2 < processors {
+        return Filled::NoRoom;
     }
     put_all(table, list);
-    true
+    Filled::Whole(processors)
 }

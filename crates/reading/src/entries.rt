@@ -2,6 +2,7 @@
 use crate::Answer;
 use capture::Verdict;
 use lines::codes;
+use processors::Filled;
 ghost use mathlib.Core.Path.{_≡_};
 ghost use Rattle.processors.specs.Image.{image};
 ghost use Rattle.processors.specs.Listing.{processors, filled};
@@ -12,10 +13,10 @@ fn answer_bytes(table: &[u8], list: &mut [u8]) -> Answer
     ensures { λ r. ⌜ r ≡ answerIn (now (table .entry)) (now (list .entry)) ⌝ }
     ensures { λ r. ⌜ now (list .exit) ≡ filled (image (processors (now (table .entry)))) (now (list .entry)) ⌝ }
 {
-    if processors::bytes::fill(table, list) {
-        return Answer::Read(processors::list::count(table));
+    match processors::bytes::fill(table, list) {
+        Filled::NoRoom => Answer::Refused(words::refuse(60, 0)),
+        Filled::Whole(processors) => Answer::Read(processors),
     }
-    Answer::Refused(words::refuse(60, 0))
 }
 
 fn read_code(answer: Answer) -> u64

@@ -13,6 +13,7 @@ use capture::Verdict;
 use lines::Map;
 use lines::Verdict as Kept;
 use madt::Found;
+use processors::Filled;
 use processors::Repeat;
 use tables::Survey;
 use tables::Table;
@@ -76,11 +77,11 @@ fn check_repeats(table: &[u8], base: u16) -> Verdict
     }
 }
 
-// Refusal 40, of the processors.
-fn check_processors(table: &[u8], base: u16) -> Verdict
-    ensures { λ r. ⌜ r ≡ processorRule base (count (now (table .entry))) ⌝ }
+// Refusal 40, of the enabled processors.
+fn check_processors(enabled: u16, base: u16) -> Verdict
+    ensures { λ r. ⌜ r ≡ processorRule base enabled ⌝ }
 {
-    if processors::list::count(table) == 0 {
+    if enabled == 0 {
         return Verdict::Refused(words::refuse(40, base as u32));
     }
     Verdict::Sound
@@ -98,16 +99,17 @@ fn check_map(found: Found, madt: u16, fadt: u16) -> Verdict
     }
 }
 
-// Refusals 39 to 54.
+// Refusals 39 to 54. The walk has counted the processors.
 fn rules_after_walk(table: &[u8], t: Tables, found: Found) -> Verdict
     requires { ⌜ length (now table) < 65536 ⌝ }
+    requires { ⌜ found .enabled ≡ count (now table) ⌝ }
     ensures { λ r. ⌜ r ≡ rulesAfterWalk (now (table .entry)) t found ⌝ }
 {
     let madt = t.madt;
     let fadt = t.fadt;
     match check_repeats(table, madt.place) {
         Verdict::Refused(refusal) => Verdict::Refused(refusal),
-        Verdict::Sound => match check_processors(table, madt.place) {
+        Verdict::Sound => match check_processors(found.enabled, madt.place) {
             Verdict::Refused(refusal) => Verdict::Refused(refusal),
             Verdict::Sound => check_map(found, madt.place, fadt.place),
         },
@@ -171,11 +173,13 @@ fn answer_list(table: &[u8], map: Map, list: &mut [u32]) -> Reading
     ensures { λ r. ⌜ r ≡ answered (now (table .entry)) map (now (list .entry)) ⌝ }
     ensures { λ r. ⌜ now (list .exit) ≡ filled (processors (now (table .entry))) (now (list .entry)) ⌝ }
 {
-    if processors::list::fill(table, list) {
-        let answer = Answer::Read(processors::list::count(table));
-        return Reading { answer, map };
+    match processors::list::fill(table, list) {
+        Filled::NoRoom => without_map(words::refuse(60, 0)),
+        Filled::Whole(processors) => {
+            let answer = Answer::Read(processors);
+            Reading { answer, map }
+        }
     }
-    without_map(words::refuse(60, 0))
 }
 
 // The reading: UID and physical ID of each enabled processor are written to the front of the list, in table order. A refusal

@@ -1,6 +1,7 @@
 -- `reading::answer_list` fills the list where it has room, and refuses 60 otherwise.
-use Prim.Native.Nat.{ℕ}
 use mathlib.Core.Path.{ap, sym, _∙_}
+use Prim.Native.Nat.{ℕ}
+use Rattle.processors.proofs.Filling.{no-room-told, whole-told}
 use Rattle.reading.specs.Reading.{withoutMap}
 use Rattle.reading.specs.declared.Answer.the-variants.{Read}
 use Rattle.reading.proofs.Laws.{answered-read, answered-60}
@@ -11,17 +12,8 @@ use Rattle.reading.proofs.answer_list.Tie as tie
 fill-requires : tie.Need-fill-requires
 fill-requires c κs = search needs
 
-count-requires : tie.Need-count-requires
-count-requires c κs = search needs
-
-same-length : tie.Need-same-length
-same-length c = search needs
-
-returns : tie.Need-returns
-returns c =
-    let f = c .before .before .before .before in
-    let a = f .before .before .before .before .args in
-    (ap (λ (n : ℕ). record { answer = Read n; map = a .map }) (c .count .ensures) ∙ sym (answered-read _ _ _ (sym (f .fill .ensures .0) ∙ c .before .if1 .taken)), f .fill .ensures .1)
+enum-told : tie.Need-enum-told
+enum-told c = search needs
 
 refuse-requires : tie.Need-refuse-requires
 refuse-requires c κs = search needs
@@ -29,23 +21,38 @@ refuse-requires c κs = search needs
 without-map-requires : tie.Need-without-map-requires
 without-map-requires c κs = search needs
 
+enum-known-processors : tie.Need-enum-known-processors
+enum-known-processors c = search needs
+
+same-length : tie.Need-same-length
+same-length c = search needs
+
+returns : tie.Need-returns
+returns c =
+    let f = c .before .before .before .before .before .before in
+    let room = no-room-told _ _ _ (sym (f .fill .ensures .0) ∙ c .before .before .enum-told .given .1) in
+    (c .without-map .ensures ∙ ap withoutMap (c .before .refuse .ensures) ∙ sym (answered-60 _ _ _ room), f .fill .ensures .1)
+
 same-length-2 : tie.Need-same-length-2
 same-length-2 c = search needs
 
 returns-2 : tie.Need-returns-2
 returns-2 c =
     let f = c .before .before .before .before .before in
-    (c .without-map .ensures ∙ ap withoutMap (c .before .refuse .ensures) ∙ sym (answered-60 _ _ _ (sym (f .fill .ensures .0) ∙ c .before .before .if1 .left)), f .fill .ensures .1)
+    let a = f .before .before .before .before .args in
+    let room = whole-told _ _ _ (sym (f .fill .ensures .0) ∙ c .before .processors .given .1) in
+    (ap (λ (n : ℕ). record { answer = Read n; map = a .map }) (room .1) ∙ sym (answered-read _ _ _ (room .0)), f .fill .ensures .1)
 
 pub answer-list-spec : {M : Type 1} → statement M
 answer-list-spec =
     tie.close
     (tie.spec
     fill-requires
-    count-requires
-    same-length
-    returns
+    enum-told
     refuse-requires
     without-map-requires
+    enum-known-processors
+    same-length
+    returns
     same-length-2
     returns-2)

@@ -1,6 +1,6 @@
 -- `reading::rules_after_walk` gives 39, then 40 to 54.
-use mathlib.Core.Path.{sym, _∙_}
-use Rattle.reading.specs.Scan.{rulesAfterWalk}
+use mathlib.Core.Path.{ap, sym, _∙_}
+use Rattle.reading.specs.Scan.{processorRule, rulesAfterWalk}
 use Rattle.reading.proofs.Laws.{turn-refused, turn-sound}
 use borrow.Author.Needs.{needs}
 use Rattle.reading.proofs.rules_after_walk.Statement.{statement}
@@ -36,17 +36,19 @@ unfolding rulesAfterWalk
 returns-2 c =
     let p = c .before .before .before in
     let r = p .before .before .before in
+    let told = p .check-processors .ensures ∙ ap (processorRule (r .before .before .before .before .args .t .madt .place)) (r .before .before .before .before .pre .1) in
     sym (turn-sound _ _ (sym (r .check-repeats .ensures) ∙ p .before .enum-told .given .1)
-    ∙ turn-refused _ _ (sym (p .check-processors .ensures) ∙ c .before .refusal2 .given .1))
+    ∙ turn-refused _ _ (sym told ∙ c .before .refusal2 .given .1))
 
 returns-3 : tie.Need-returns-3
 unfolding rulesAfterWalk
 returns-3 c =
     let p = c .before .before .before in
     let r = p .before .before .before in
+    let told = p .check-processors .ensures ∙ ap (processorRule (r .before .before .before .before .args .t .madt .place)) (r .before .before .before .before .pre .1) in
     c .check-map .ensures
     ∙ sym (turn-sound _ _ (sym (r .check-repeats .ensures) ∙ p .before .enum-told .given .1)
-    ∙ turn-sound _ _ (sym (p .check-processors .ensures) ∙ c .before .enum-told2 .given .1))
+    ∙ turn-sound _ _ (sym told ∙ c .before .enum-told2 .given .1))
 
 pub rules-after-walk-spec : {M : Type 1} → statement M
 rules-after-walk-spec =

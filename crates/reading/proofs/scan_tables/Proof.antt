@@ -7,6 +7,8 @@ use mathlib.Core.Path.{ap, sym, _∙_}
 use native.Mathlib.Omega.{arith}
 use lib.ListN.{length}
 use Rattle.reading.proofs.Laws.{bytes-small, walk-refused, walk-sound}
+use Rattle.processors.specs.Listing.{count}
+use Rattle.processors.proofs.Agreement.{enabled-count}
 use borrow.Author.Needs.{needs}
 use Rattle.reading.proofs.scan_tables.Statement.{statement}
 use Rattle.reading.proofs.scan_tables.Tie as tie
@@ -27,11 +29,16 @@ madt-bytes-requires : tie.Need-madt-bytes-requires
 madt-bytes-requires c κs = search needs
 
 rules-after-walk-requires : tie.Need-rules-after-walk-requires
+unfolding madtBytes
 rules-after-walk-requires c κs =
     let a = c .before .before .before .before .before .before .before .before .args in
     let small = bytes-small (a .capture .now) (a .t .madt) in
-    let same = ap length (c .madt-bytes .ensures) in
-    omega arith
+    let same = ap length (c .madt-bytes .ensures) in (
+      omega arith,
+      let w = c .before .before .before .before .before in
+          let sound = ap (λ (x : Walked). x .verdict) (sym (w .walk-madt .ensures)) ∙ c .before .enum-told .given .1 in
+          ap (λ (x : Walked). x .found .enabled) (w .walk-madt .ensures) ∙ enabled-count _ _ _ sound ∙ ap count (sym (c .madt-bytes .ensures)),
+    )
 
 judge-requires : tie.Need-judge-requires
 judge-requires c κs = search needs

@@ -10,7 +10,7 @@ count-requires c κs = search needs
 returns : tie.Need-returns
 returns c =
     let list = c .before .before .before .before .args .list .now in
-    too-short _ _ (short-by-count _ list (c .before .count .ensures) (c .if1 .taken))
+    too-short _ _ _ (short-by-count _ list (c .before .count .ensures) (c .if1 .taken))
 
 put-all-requires : tie.Need-put-all-requires
 put-all-requires c κs =
@@ -24,7 +24,7 @@ returns-2 : tie.Need-returns-2
 returns-2 c =
     let test = c .before .before .before .before in
     let list = test .before .before .before .before .args .list .now in
-    enough-room _ _ (room-by-count _ list (test .before .count .ensures) (test .if1 .left)) (c .before .before .put-all .ensures)
+    enough-room _ _ _ (room-by-count _ list (test .before .count .ensures) (test .if1 .left)) (test .before .count .ensures) (c .before .before .put-all .ensures)
 
 pub fill-spec : {M : Type 1} → statement M
 fill-spec = tie.close (tie.spec count-requires returns put-all-requires same-length returns-2)

@@ -5,29 +5,19 @@ use Rattle.processors.specs.Repeats.{sameId}
 use borrow.Author.Needs.{needs}
 use Rattle.processors.proofs.repeats.is_twin.Statement.{statement}
 use Rattle.processors.proofs.repeats.is_twin.Tie as tie
-use Rattle.processors.proofs.repeats.is_twin.Reads as reads
-use Rattle.processors.proofs.repeats.is_twin.Lts as lts
-use Rattle.kinds.proofs.makers.Core.from_bytes.Reads as from-bytes-reads
-use Rattle.processors.proofs.list.is_core.Reads as is-core-reads
-use Rattle.processors.proofs.repeats.same_id.Reads as same-id-reads
 
--- src/repeats.rt:32:9
 is-core-requires : tie.Need-is-core-requires
 is-core-requires c κs = search needs
 
--- src/repeats.rt:33:9
 returns : tie.Need-returns
 returns c = rw (sym (c .before .is-core .ensures) ∙ not-true _ (c .if1 .taken))
 
--- src/repeats.rt:35:19
 from-bytes-requires : tie.Need-from-bytes-requires
 from-bytes-requires c κs = search needs
 
--- src/repeats.rt:35:5
 same-id-requires : tie.Need-same-id-requires
 same-id-requires c κs = search needs
 
--- src/repeats.rt:29:1
 returns-2 : tie.Need-returns-2
 returns-2 c = rw (sym (c .before .before .before .is-core .ensures) ∙ not-false _ (c .before .before .if1 .left)) (c .same-id .ensures ∙ ap (sameId (c .before .before .before .before .before .args .core)) (c .before .from-bytes .ensures))
 

@@ -4,26 +4,19 @@ use mathlib.Core.Path.{refl}
 use borrow.Author.Needs.{needs}
 use Rattle.processors.proofs.repeats.search_from.Statement.{statement}
 use Rattle.processors.proofs.repeats.search_from.Tie as tie
-use Rattle.processors.proofs.repeats.search_from.Reads as reads
-use Rattle.processors.proofs.repeats.search_from.Lts as lts
 
--- src/repeats.rt:62:21
 cast-if1 : tie.Need-cast-if1
 cast-if1 c = search needs
 
--- src/repeats.rt:63:24
 cast-if2 : tie.Need-cast-if2
 cast-if2 c = search needs
 
--- src/repeats.rt:64:13
 returns : tie.Need-returns
 returns c = inr (refl, c .before .before .before .if1 .taken, c .if2 .taken)
 
--- src/repeats.rt:59:1
 returns-2 : tie.Need-returns-2
 returns-2 c = inl refl
 
--- src/repeats.rt:59:1
 returns-3 : tie.Need-returns-3
 returns-3 c = inl refl
 

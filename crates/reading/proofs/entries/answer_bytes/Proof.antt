@@ -1,5 +1,6 @@
 -- `reading::entries::answer_bytes` fills the list of bytes where it has room, and refuses 60 otherwise.
 use mathlib.Core.Path.{ap, sym, _∙_}
+use Rattle.processors.proofs.Filling.{no-room-told, whole-told}
 use Rattle.reading.specs.declared.Answer.the-variants.{Read, Refused}
 use Rattle.reading.proofs.Laws.{in-read, in-60}
 use borrow.Author.Needs.{needs}
@@ -9,36 +10,42 @@ use Rattle.reading.proofs.entries.answer_bytes.Tie as tie
 fill-requires : tie.Need-fill-requires
 fill-requires c κs = search needs
 
-count-requires : tie.Need-count-requires
-count-requires c κs = search needs
+enum-told : tie.Need-enum-told
+enum-told c = search needs
+
+refuse-requires : tie.Need-refuse-requires
+refuse-requires c κs = search needs
+
+enum-known-processors : tie.Need-enum-known-processors
+enum-known-processors c = search needs
 
 same-length : tie.Need-same-length
 same-length c = search needs
 
 returns : tie.Need-returns
 returns c =
-    let f = c .before .before .before .before in
-    (ap Read (c .count .ensures) ∙ sym (in-read _ _ (sym (f .fill .ensures .0) ∙ c .before .if1 .taken)), f .fill .ensures .1)
-
-refuse-requires : tie.Need-refuse-requires
-refuse-requires c κs = search needs
+    let f = c .before .before .before .before .before in
+    let room = no-room-told _ _ _ (sym (f .fill .ensures .0) ∙ c .before .enum-told .given .1) in
+    (ap Refused (c .refuse .ensures) ∙ sym (in-60 _ _ room), f .fill .ensures .1)
 
 same-length-2 : tie.Need-same-length-2
 same-length-2 c = search needs
 
 returns-2 : tie.Need-returns-2
 returns-2 c =
-    let f = c .before .before .before .before in
-    (ap Refused (c .refuse .ensures) ∙ sym (in-60 _ _ (sym (f .fill .ensures .0) ∙ c .before .if1 .left)), f .fill .ensures .1)
+    let f = c .before .before .before .before .before in
+    let room = whole-told _ _ _ (sym (f .fill .ensures .0) ∙ c .before .processors .given .1) in
+    (ap Read (room .1) ∙ sym (in-read _ _ (room .0)), f .fill .ensures .1)
 
 pub answer-bytes-spec : {M : Type 1} → statement M
 answer-bytes-spec =
     tie.close
     (tie.spec
     fill-requires
-    count-requires
+    enum-told
+    refuse-requires
+    enum-known-processors
     same-length
     returns
-    refuse-requires
     same-length-2
     returns-2)
