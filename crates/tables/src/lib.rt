@@ -2,7 +2,7 @@
 // and the stepper over structures are written for any table. Every public function answers for any bytes.
 ghost use mathlib.Core.Path.{_≡_};
 ghost use mathlib.Core.Bool.{false};
-ghost use Prim.Native.Nat.{_-_};
+ghost use Prim.Native.Nat.{ℕ, _-_, _<_};
 ghost use Rattle.words.specs.Bytes.{partAt, byteSum};
 ghost use Rattle.capture.specs.Presence.{located};
 ghost use Rattle.capture.specs.Rules.{verdict};
@@ -13,9 +13,10 @@ ghost use Rattle.tables.specs.Rsdp.{wrongSignature, wrongRevision, wrong
 ghost use Rattle.tables.specs.Table.{addressAt, signature, tableLength, isPresent, cutShort, wrongSum, tableFound, tableAt};
 ghost use Rattle.tables.specs.Xsdt.{revision, notXsdt, wrongXsdtRevision, wrongBody, entryCount, xsdtRules, entryField, entryRules, isRefused};
 ghost use Rattle.tables.specs.Finder.{names, namedFrom, firstNamed, secondNamed};
-ghost use Rattle.tables.specs.Survey.{isNowhere, earlier, secondRule, nameRules, wrongMadtRevision, wrongFlags, bodyRules, sciNumber, tableNamed, tableOfEntry, ofTables, ofNames, ofXsdt, ofRsdp, survey};
+ghost use Rattle.tables.specs.Survey.{apic, facp, isNowhere, earlier, secondRule, nameRules, wrongMadtRevision, wrongFlags, bodyRules, sciNumber, tableNamed, tableOfEntry, ofTables, ofNames, ofXsdt, ofRsdp, survey};
 ghost use Rattle.tables.specs.Structures.{stepAt};
 ghost use Rattle.tables.specs.declared.Checked.the-variants.{Is};
+ghost use Rattle.tables.specs.declared.Entry.the-variants.{At};
 use capture::Root;
 use capture::Stretch;
 use capture::Verdict;
@@ -337,10 +338,12 @@ fn first_named(capture: &[u8], xsdt: Table, letters: u32) -> Entry
     named_from(capture, xsdt, letters, 0)
 }
 
-fn second_named(capture: &[u8], xsdt: Table, letters: u32) -> Entry
+// The entry after a first one that names such a table.
+fn named_after(capture: &[u8], xsdt: Table, letters: u32, first: Entry) -> Entry
+    requires { ⌜ first ≡ firstNamed (now capture) xsdt letters ⌝ }
     ensures { λ r. ⌜ r ≡ secondNamed (now (capture .entry)) xsdt letters ⌝ }
 {
-    match first_named(capture, xsdt, letters) {
+    match first {
         Entry::Nowhere => Entry::Nowhere,
         Entry::At(entry) => named_from(capture, xsdt, letters, entry + 1),
     }
@@ -382,17 +385,19 @@ fn second_rule(xsdt: Table, second: Entry) -> Verdict
 }
 
 // Refusals 26 and 27.
-fn name_rules(capture: &[u8], xsdt: Table) -> Verdict
+fn name_rules(capture: &[u8], xsdt: Table, madt: Entry, fadt: Entry) -> Verdict
+    requires { ⌜ madt ≡ firstNamed (now capture) xsdt apic ⌝ }
+    requires { ⌜ fadt ≡ firstNamed (now capture) xsdt facp ⌝ }
     ensures { λ r. ⌜ r ≡ nameRules (now (capture .entry)) xsdt ⌝ }
 {
-    if is_nowhere(first_named(capture, xsdt, APIC)) | is_nowhere(first_named(capture, xsdt, FACP)) {
+    if is_nowhere(madt) | is_nowhere(fadt) {
         return Verdict::Refused(words::refuse(26, xsdt.place as u32));
     }
     second_rule(
         xsdt,
         earlier_of(
-            second_named(capture, xsdt, APIC),
-            second_named(capture, xsdt, FACP),
+            named_after(capture, xsdt, APIC, madt),
+            named_after(capture, xsdt, FACP, fadt),
         ),
     )
 }
@@ -455,12 +460,13 @@ fn table_named(capture: &[u8], field: u32) -> Table
 }
 
 // The table that an entry names, whose entries went through 20 to 22.
-fn table_of_entry(capture: &[u8], xsdt: Table, letters: u32) -> Table
+fn table_of_entry(capture: &[u8], xsdt: Table, named: Entry) -> Table
     requires { ⌜ verdict (now capture) ≡ Sound ⌝ }
     requires { ⌜ entryRules (now capture) xsdt ≡ Sound ⌝ }
-    ensures { λ r. ⌜ r ≡ tableOfEntry (now (capture .entry)) xsdt (firstNamed (now (capture .entry)) xsdt letters) ⌝ }
+    requires { ⌜ ((entry : ℕ) → named ≡ At entry → entry < entryCount xsdt) ⌝ }
+    ensures { λ r. ⌜ r ≡ tableOfEntry (now (capture .entry)) xsdt named ⌝ }
 {
-    match first_named(capture, xsdt, letters) {
+    match named {
         Entry::Nowhere => Table {
             place: 0,
             length: 0,
@@ -489,12 +495,14 @@ fn survey_names(capture: &[u8], xsdt: Table) -> Survey
     requires { ⌜ entryRules (now capture) xsdt ≡ Sound ⌝ }
     ensures { λ r. ⌜ r ≡ ofNames (now (capture .entry)) xsdt ⌝ }
 {
-    match name_rules(capture, xsdt) {
+    let madt = first_named(capture, xsdt, APIC);
+    let fadt = first_named(capture, xsdt, FACP);
+    match name_rules(capture, xsdt, madt, fadt) {
         Verdict::Refused(refusal) => Survey::Refused(refusal),
         Verdict::Sound => survey_tables(
             capture,
-            table_of_entry(capture, xsdt, APIC),
-            table_of_entry(capture, xsdt, FACP),
+            table_of_entry(capture, xsdt, madt),
+            table_of_entry(capture, xsdt, fadt),
         ),
     }
 }

@@ -1,21 +1,16 @@
 -- `tables::name_rules` gives 26 before 27.
-use mathlib.Core.Path.{ap, sym, _∙_}
+use mathlib.Core.Path.{ap, ap₂, sym, _∙_}
+use mathlib.Core.Bool.{_||_}
 use Rattle.words.specs.Bytes.{spelled}
 use Rattle.words.proofs.Choices.{yes-if, no-if}
 use Rattle.capture.specs.declared.Verdict.the-variants.{Refused}
-use Rattle.tables.specs.Survey.{nameRules, apic, facp}
+use Rattle.tables.specs.Survey.{apic, facp, isNowhere, earlier, secondRule, nameRules}
 use borrow.Author.Needs.{needs}
 use Rattle.tables.proofs.name_rules.Statement.{statement}
 use Rattle.tables.proofs.name_rules.Tie as tie
 
-first-named-requires : tie.Need-first-named-requires
-first-named-requires c κs = search needs
-
 is-nowhere-requires : tie.Need-is-nowhere-requires
 is-nowhere-requires c κs = search needs
-
-first-named-requires-2 : tie.Need-first-named-requires-2
-first-named-requires-2 c κs = search needs
 
 is-nowhere-requires-2 : tie.Need-is-nowhere-requires-2
 is-nowhere-requires-2 c κs = search needs
@@ -28,13 +23,17 @@ refuse-requires c κs = search needs
 
 returns : tie.Need-returns
 unfolding nameRules apic facp spelled
-returns c = ap Refused (c .refuse .ensures) ∙ sym (yes-if _ _ _ (cc))
+returns c =
+    let nowhere = ap₂ _||_ (c .before .before .before .before .is-nowhere .ensures ∙ ap isNowhere (c .before .before .before .before .before .before .pre .0)) (c .before .before .before .is-nowhere2 .ensures ∙ ap isNowhere (c .before .before .before .before .before .before .pre .1)) in
+    ap Refused (c .refuse .ensures) ∙ sym (yes-if _ _ _ (sym nowhere ∙ c .before .before .if1 .taken))
 
-second-named-requires : tie.Need-second-named-requires
-second-named-requires c κs = search needs
+named-after-requires : tie.Need-named-after-requires
+unfolding apic spelled
+named-after-requires c κs = c .before .before .before .before .pre .0
 
-second-named-requires-2 : tie.Need-second-named-requires-2
-second-named-requires-2 c κs = search needs
+named-after-requires-2 : tie.Need-named-after-requires-2
+unfolding facp spelled
+named-after-requires-2 c κs = c .before .before .before .before .before .pre .1
 
 earlier-of-requires : tie.Need-earlier-of-requires
 earlier-of-requires c κs = search needs
@@ -44,21 +43,23 @@ second-rule-requires c κs = search needs
 
 returns-2 : tie.Need-returns-2
 unfolding nameRules apic facp spelled
-returns-2 c = sym (no-if _ _ _ (cc) (cc))
+returns-2 c =
+    let s = c .before .before .before .before .before .before .before .before in
+    let nowhere = ap₂ _||_ (c .before .before .before .before .before .before .is-nowhere .ensures ∙ ap isNowhere (s .pre .0)) (c .before .before .before .before .before .is-nowhere2 .ensures ∙ ap isNowhere (s .pre .1)) in
+    let second = c .before .earlier-of .ensures ∙ ap₂ earlier (c .before .before .before .named-after .ensures) (c .before .before .named-after2 .ensures) in
+    sym (no-if _ _ _ (sym nowhere ∙ c .before .before .before .before .if1 .left) (sym (c .second-rule .ensures ∙ ap (secondRule (s .args .xsdt)) second)))
 
 pub name-rules-spec : {M : Type 1} → statement M
 name-rules-spec =
     tie.close
     (tie.spec
-    first-named-requires
     is-nowhere-requires
-    first-named-requires-2
     is-nowhere-requires-2
     cast-refuse
     refuse-requires
     returns
-    second-named-requires
-    second-named-requires-2
+    named-after-requires
+    named-after-requires-2
     earlier-of-requires
     second-rule-requires
     returns-2)
