@@ -1,4 +1,5 @@
 pub mod Folds
 pub mod Claims
 pub mod Rules
+pub mod Apart
 pub mod Search

@@ -7,6 +7,7 @@ ghost use Prim.Native.Nat.{_<_, _≤_, _+_};
 ghost use lib.ListN.{take};
 ghost use Rattle.clashes.specs.Claims.{room, listed, pushed};
 ghost use Rattle.clashes.specs.Rules.{meet, repeatsNode, sharesNumber, sharesVector, sharesCore, clash, noEio};
+ghost use Rattle.clashes.specs.Apart.{apart};
 ghost use Rattle.clashes.specs.Search.{sooner, nearer, partner, better, firstClash, lonelier, firstLone};
 
 // Numbers one after the other: the first, and how many. None at all is 0, 0.
@@ -125,6 +126,17 @@ fn clashing(rule: u8, x: Claim, y: Claim) -> bool
         52 => shares_vector(x, y),
         _ => shares_core(x, y),
     }
+}
+
+// Whether two claims clash by none of these rules. It does not search: a map whose claims are all apart needs no search.
+pub fn are_apart(x: Claim, y: Claim) -> bool
+    ensures { λ r. ⌜ r ≡ apart x y ⌝ }
+{
+    let node = repeats_node(x, y);
+    let number = shares_number(x, y);
+    let vector = shares_vector(x, y);
+    let core = shares_core(x, y);
+    !(node | number | vector | core)
 }
 
 // ---- the search, by places

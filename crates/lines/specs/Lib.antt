@@ -2,5 +2,6 @@ pub mod Says
 pub mod Routes
 pub mod Traces
 pub mod Claims
+pub mod Quiet
 pub mod Rules
 pub mod Answers

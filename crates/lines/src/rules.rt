@@ -257,8 +257,18 @@ impl Map {
         Verdict::Kept
     }
 
-    // The first broken rule from 40 on.
-    fn first_from_40(self, places: Places, madt: u32, fadt: u32) -> Verdict
+    // The first broken rule from 40 on, of a map that breaks none of 41, 42 and 51 to 53.
+    fn first_of_quiet(self, lpc: u32, madt: u32, fadt: u32) -> Verdict
+        requires { ⌜ (self .eiocount ≤ 4) × (self .biocount ≤ 4) ⌝ }
+        ensures { λ r. ⌜ r ≡ orElse (rule40 (says self) madt) (orElse (rule43 (says self) lpc) (rule54 (says self) fadt)) ⌝ }
+    {
+        let from54 = self.rule_54(fadt);
+        let from43 = or_else(self.rule_43(lpc), from54);
+        or_else(self.rule_40(madt), from43)
+    }
+
+    // The first broken rule from 40 on, by the search of all claims.
+    fn first_by_search(self, places: Places, madt: u32, fadt: u32) -> Verdict
         requires { ⌜ (self .eiocount ≤ 4) × (self .biocount ≤ 4) × (self .msicount ≤ 4) ⌝ }
         ensures { λ r. ⌜ r ≡ lowest (verdictsFrom40 (says self) places madt fadt) ⌝ }
     {
@@ -271,6 +281,17 @@ impl Map {
         let from42 = or_else(rule_42(all), from43);
         let from41 = or_else(rule_41(all), from42);
         or_else(self.rule_40(madt), from41)
+    }
+
+    // The first broken rule from 40 on.
+    fn first_from_40(self, places: Places, madt: u32, fadt: u32) -> Verdict
+        requires { ⌜ (self .eiocount ≤ 4) × (self .biocount ≤ 4) × (self .msicount ≤ 4) ⌝ }
+        ensures { λ r. ⌜ r ≡ lowest (verdictsFrom40 (says self) places madt fadt) ⌝ }
+    {
+        if self.is_quiet() {
+            return self.first_of_quiet(places.lpc, madt, fadt);
+        }
+        self.first_by_search(places, madt, fadt)
     }
 
     // The first broken rule of a map from 38 on, at the place of the structure that is named. Where two clash by 51 to 53

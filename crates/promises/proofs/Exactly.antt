@@ -12,6 +12,7 @@ use Rattle.clashes.specs.Rules.{noNode, meet, sharesNumber, sharesVector, clash
 use Rattle.clashes.specs.declared.Run.{Run}
 use Rattle.clashes.specs.declared.Claim.{Claim}
 use Rattle.clashes.proofs.Logic.{and-left, and-right, or-cases}
+use Rattle.clashes.proofs.Symmetric.{core-of, of-core}
 use Rattle.parts.specs.Inputs.{hasBit, wired}
 use Rattle.parts.proofs.Inputs.{bit-small}
 use Rattle.lines.specs.Says.{Said}
@@ -21,7 +22,6 @@ use Rattle.promises.specs.Structures.{Structure, lio, eio, bio, msi, IsI
 use Rattle.promises.proofs.Hubs.{Hub}
 use Rattle.promises.proofs.Logic.{neq, order}
 use Rattle.promises.proofs.Ranged.{eio-fits, bio-fits, msi-fits, low-used, high-used}
-use Rattle.promises.proofs.Symmetric.{core-of, of-core}
 
 -- what two runs that meet say
 runs : (a b : Run) → meet a b ≡ true → (a .first < b .first + b .count) × (b .first < a .first + a .count)

@@ -12,6 +12,7 @@ use Rattle.clashes.specs.Rules.{noNode, noEio, lone}
 use Rattle.clashes.specs.Search.{firstLone}
 use Rattle.clashes.specs.declared.Claim.{Claim}
 use Rattle.clashes.specs.declared.Spot.the-variants.{Nowhere}
+use Rattle.clashes.proofs.Searched.{none-lone}
 use Rattle.lines.specs.Says.{Said}
 use Rattle.lines.specs.Claims.{claims}
 use Rattle.lines.specs.Rules.{rangesKept}
@@ -22,7 +23,6 @@ use Rattle.promises.proofs.Logic.{is-bool}
 use Rattle.promises.proofs.Members.{each-or-one, mem-every}
 use Rattle.promises.proofs.Meetings.{member, of-member}
 use Rattle.promises.proofs.Ranged.{bio-fits}
-use Rattle.promises.proofs.Searched.{none-lone}
 
 -- the EIO of a bridge
 abbrev pub Hub : Said → ℕ → Type 0

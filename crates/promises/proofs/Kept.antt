@@ -13,7 +13,8 @@ use Rattle.kinds.specs.Ranges.{bitInBoth}
 use Rattle.kinds.specs.declared.Bio.{Bio}
 use Rattle.clashes.specs.Rules.{noNode, clash}
 use Rattle.clashes.specs.Search.{firstClash, firstLone}
-use Rattle.clashes.proofs.Logic.{and-left, and-right}
+use Rattle.clashes.proofs.Logic.{and-left, and-right, both-true}
+use Rattle.clashes.proofs.Symmetric.{core-of}
 use Rattle.lines.specs.Says.{Said, says}
 use Rattle.lines.specs.Routes.{bridge}
 use Rattle.lines.specs.Claims.{claims}
@@ -25,11 +26,10 @@ use Rattle.lines.proofs.Counts.{counts, few-of-kept}
 use Rattle.promises.specs.Sources.{eioAt, bioAt, msiAt}
 use Rattle.promises.specs.Structures.{lio, eio, bio, msi, claimOf, Meet}
 use Rattle.promises.proofs.Hubs.{Hub, bio-hub}
-use Rattle.promises.proofs.Logic.{both-true, order}
+use Rattle.promises.proofs.Logic.{order}
 use Rattle.promises.proofs.Meetings.{no-meet}
 use Rattle.promises.proofs.Ranged.{eio-fits}
 use Rattle.promises.proofs.Slots.{slots-placed}
-use Rattle.promises.proofs.Symmetric.{core-of}
 use Rattle.promises.proofs.Verdicts.{check-kept, alone-kept, both-kept, spotted-kept, both-of-kept, each-kept, kept-yes}
 
 -- the rules, as facts about what is said

@@ -1,7 +1,5 @@
 pub mod Logic
 pub mod Members
-pub mod Searched
-pub mod Symmetric
 pub mod Meetings
 pub mod Ranged
 pub mod Verdicts

@@ -4,37 +4,21 @@ use native.Mathlib.Nat.{zero-div}
 use native.Mathlib.Omega.{arith}
 use mathlib.Core.Path.{_≡_, refl, sym}
 use mathlib.Core.Logic.{_⊎_, inl, inr, ⊎-elim}
-use mathlib.Core.Bool.{Bool, true, false, not, _&&_, _||_, or-true}
-use borrow.Author.Tests.{eqb-true, eqb-false, eq-eqb, not-true}
+use mathlib.Core.Bool.{Bool, true, false, not}
+use borrow.Author.Tests.{eqb-true, eqb-false, not-true}
 use lib.Bits.{bitAnd, and-shr, and-mod}
 use lib.Dec.{eqb, ltb}
 use Rattle.clashes.proofs.Logic.{and-right}
 use Rattle.parts.specs.Inputs.{hasBit}
 
-pub both-true : (a b : Bool) → a ≡ true → b ≡ true → (a && b) ≡ true
-both-true a b p q = rw (p, q)
-
-pub left-true : (a b : Bool) → a ≡ true → (a || b) ≡ true
-left-true a b p = rw p
-
-pub right-true : (a b : Bool) → b ≡ true → (a || b) ≡ true
-right-true a b q = rw (q, or-true)
-
 pub is-bool : (t : Bool) → (t ≡ false) ⊎ (t ≡ true)
 is-bool true = inr refl
 is-bool false = inl refl
-
-pub is-false : (t : Bool) → (t ≡ true → ⊥) → t ≡ false
-is-false true h = absurd (h refl)
-is-false false h = refl
 
 pub same-bool : (a b : Bool) → (a ≡ true → b ≡ true) → (b ≡ true → a ≡ true) → a ≡ b
 same-bool true b f g = sym (f refl)
 same-bool false true f g = g refl
 same-bool false false f g = refl
-
-pub eqb-sym : (a b : ℕ) → eqb a b ≡ true → eqb b a ≡ true
-eqb-sym a b h = eq-eqb b a (sym (eqb-true a b h))
 
 pub neq : (x y : ℕ) → not (eqb x y) ≡ true → x ≡ y → ⊥
 neq x y h = eqb-false x y (not-true _ h)

@@ -13,6 +13,8 @@ use Rattle.clashes.specs.Search.{firstClash}
 use Rattle.clashes.specs.declared.Claim.{Claim}
 use Rattle.clashes.specs.declared.Pair.the-variants.{None}
 use Rattle.clashes.proofs.Logic.{and-left, and-right}
+use Rattle.clashes.proofs.Searched.{hits, clear, quiet}
+use Rattle.clashes.proofs.Symmetric.{clash-back}
 use Rattle.parts.specs.Claims.{lioClaim, eioClaim, bioClaim, msiClaim}
 use Rattle.lines.specs.Says.{Said}
 use Rattle.lines.specs.Claims.{placed, claims}
@@ -22,8 +24,6 @@ use Rattle.promises.specs.Sources.{noEio, noBio, noMsi}
 use Rattle.promises.specs.Structures.{Structure, lio, eio, bio, msi, IsIn, placeOf, claimOf, Placed, Meet}
 use Rattle.promises.proofs.Logic.{is-bool, order}
 use Rattle.promises.proofs.Members.{each-or-one, placed-at, placed-of}
-use Rattle.promises.proofs.Searched.{hits, clear, quiet}
-use Rattle.promises.proofs.Symmetric.{clash-back}
 
 -- a claim but for its place
 abbrev unplaced : Claim → Claim

@@ -12,6 +12,7 @@ use Rattle.clashes.specs.declared.Claim.{Claim}
 use Rattle.clashes.specs.declared.Spot.the-variants.{Nowhere}
 use Rattle.clashes.specs.declared.Pair.the-variants.{None}
 use Rattle.clashes.proofs.Logic.{and-right}
+use Rattle.clashes.proofs.Searched.{none-lone, lone-none}
 use Rattle.lines.specs.Says.{Said, says}
 use Rattle.lines.specs.Claims.{claims}
 use Rattle.lines.specs.Routes.{bridge, arrival}
@@ -25,7 +26,6 @@ use Rattle.promises.specs.Statements.{PlacesDoNotMatter}
 use Rattle.promises.proofs.Logic.{same-bool}
 use Rattle.promises.proofs.Meetings.{same-claim, member, of-member, no-meet, meet-or-none}
 use Rattle.promises.proofs.Members.{every-mem, mem-every}
-use Rattle.promises.proofs.Searched.{none-lone, lone-none}
 use Rattle.promises.proofs.Slots.{slots-placed}
 use Rattle.promises.proofs.Verdicts.{check-kept, kept-check, alone-kept, none-alone, both-kept, none-both, spotted-kept, nowhere-spotted, both-of-kept, each-kept, kept-yes}
 

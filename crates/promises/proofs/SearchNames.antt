@@ -17,8 +17,8 @@ use Rattle.clashes.specs.declared.Spot.the-variants.{At, Nowhere}
 use Rattle.clashes.specs.declared.Pair.{Pair}
 use Rattle.clashes.specs.declared.Pair.the-variants.{Two, None}
 use Rattle.clashes.proofs.Logic.{and-left, and-right}
+use Rattle.clashes.proofs.Searched.{at-nowhere, two-none, hits, step, turn, spot-none}
 use Rattle.promises.specs.Statements.{FirstClash, SearchNames}
-use Rattle.promises.proofs.Searched.{at-nowhere, two-none, hits, step, turn, spot-none}
 
 -- q is no later than the best so far
 abbrev Under : ℕ → Spot → Type 0

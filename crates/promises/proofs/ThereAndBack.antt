@@ -11,7 +11,7 @@ use lib.ListN.{length}
 use Rattle.words.specs.Choice.{if}
 use Rattle.words.proofs.Choices.{yes-if}
 use Rattle.kinds.specs.declared.Bio.{Bio}
-use Rattle.clashes.proofs.Logic.{and-left, and-right}
+use Rattle.clashes.proofs.Logic.{and-left, and-right, both-true}
 use Rattle.parts.specs.Inputs.{hasBit, wired, owns}
 use Rattle.lines.specs.Says.{Said, says}
 use Rattle.lines.specs.Routes.{lioArrival, bridge, pinArrival, bioOwner, owner, arrivalOf, arrival, through}
@@ -27,7 +27,7 @@ use Rattle.promises.specs.Sources.{input, pin, noBio, bioAt, arrives}
 use Rattle.promises.specs.Statements.{LpcLinesShare, Tells, ThereAndBack}
 use Rattle.promises.proofs.Bridges.{bridge-one}
 use Rattle.promises.proofs.Kept.{Good, good, bio-number}
-use Rattle.promises.proofs.Logic.{both-true, order, is-bool}
+use Rattle.promises.proofs.Logic.{order, is-bool}
 use Rattle.promises.proofs.Members.{finds, found-or-not}
 use Rattle.promises.proofs.Ranged.{bio-fits, lpc-fits}
 use Rattle.promises.proofs.Tracing.{tracing-names}

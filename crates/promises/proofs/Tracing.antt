@@ -10,7 +10,7 @@ use lib.ListN.{length}
 use Rattle.words.specs.Choice.{if}
 use Rattle.words.proofs.Choices.{yes-if, no-if}
 use Rattle.kinds.specs.declared.Half.{Half}
-use Rattle.clashes.proofs.Logic.{and-left, and-right, or-cases}
+use Rattle.clashes.proofs.Logic.{and-left, and-right, or-cases, both-true, left-true, right-true, is-false}
 use Rattle.parts.specs.Inputs.{hasBit, leads, hasSlot, hasPin}
 use Rattle.lines.specs.Says.{Said, says}
 use Rattle.lines.specs.Routes.{lioArrival}
@@ -23,7 +23,7 @@ use Rattle.lines.specs.declared.Trace.the-variants.{Nothing, LioInput, BioInput
 use Rattle.promises.specs.Sources.{Source, input, pin, slot, noEio, noBio, noMsi, eioAt, bioAt, msiAt, IsSource, arrives, name}
 use Rattle.promises.specs.Statements.{TracingNames, Arrived, NothingExactly}
 use Rattle.promises.proofs.Kept.{Good, good, eio-node, eio-core, eio-not-low, eio-not-high, bio-node, bio-number, bio-msi, msi-slot}
-use Rattle.promises.proofs.Logic.{both-true, left-true, right-true, is-false, is-bool, both-bits}
+use Rattle.promises.proofs.Logic.{is-bool, both-bits}
 use Rattle.promises.proofs.Members.{finds, finds-none, found-or-not}
 use Rattle.promises.proofs.NoTwoAlike.{input-at, through-at, pin-at}
 

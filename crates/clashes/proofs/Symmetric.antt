@@ -6,11 +6,10 @@ use mathlib.Core.Bool.{Bool, true, false, not, _||_}
 use borrow.Author.Tests.{eqb-true, eq-eqb}
 use lib.Dec.{eqb, ltb}
 use Rattle.words.specs.Choice.{if}
 use Rattle.clashes.specs.Rules.{noNode, meet, repeatsNode, sharesNumber, sharesVector, entersBy, sharesCore, clash}
 use Rattle.clashes.specs.declared.Run.{Run}
 use Rattle.clashes.specs.declared.Claim.{Claim}
-use Rattle.clashes.proofs.Logic.{and-left, and-right, or-cases}
-use Rattle.promises.proofs.Logic.{both-true, left-true, right-true, eqb-sym}
+use Rattle.clashes.proofs.Logic.{and-left, and-right, or-cases, both-true, left-true, right-true, eqb-sym}
 
 meet-back : (a b : Run) → meet a b ≡ true → meet b a ≡ true
 meet-back a b h =

@@ -1,0 +1,40 @@
+-- `Map::first_of_quiet` is the first broken rule of 40, 43 and 54.
+use borrow.Author.Needs.{needs}
+use Rattle.lines.proofs.Map.first_of_quiet.Statement.{statement}
+use Rattle.lines.proofs.Map.first_of_quiet.Tie as tie
+
+rule-54-requires : tie.Need-rule-54-requires
+rule-54-requires c κs = search needs
+
+rule-43-requires : tie.Need-rule-43-requires
+rule-43-requires c κs = search needs
+
+or-else-requires : tie.Need-or-else-requires
+or-else-requires c κs = search needs
+
+rule-40-requires : tie.Need-rule-40-requires
+rule-40-requires c κs = search needs
+
+or-else-requires-2 : tie.Need-or-else-requires-2
+or-else-requires-2 c κs = search needs
+
+returns : tie.Need-returns
+returns c =
+    rw (
+      c .or-else2 .ensures,
+      c .before .rule-40 .ensures,
+      c .before .before .or-else .ensures,
+      c .before .before .before .rule-43 .ensures,
+      c .before .before .before .before .rule-54 .ensures,
+    )
+
+pub first-of-quiet-spec : {M : Type 1} → statement M
+first-of-quiet-spec =
+    tie.close
+    (tie.spec
+    rule-54-requires
+    rule-43-requires
+    or-else-requires
+    rule-40-requires
+    or-else-requires-2
+    returns)

@@ -1,0 +1,140 @@
+// A map without clashes is told by a quick test: each pair of structures that could clash is looked at once, by all rules
+// together. Only where it finds something need the search say which rule is broken, and where (proofs/NoClash). A LIO or an
+// EIO has nothing that a BIO or an MSI has too, so those pairs are not looked at.
+use crate::Map;
+use clashes::Claim;
+use kinds::Bio;
+use kinds::Eio;
+use kinds::Msi;
+ghost use mathlib.Core.Path.{_≡_};
+ghost use Prim.Native.Nat.{_≤_};
+ghost use lib.ListN.{take, drop};
+ghost use Rattle.lines.specs.Says.{says};
+ghost use Rattle.parts.specs.Claims.{eioClaim, bioClaim, msiClaim};
+ghost use Rattle.lines.specs.Quiet.{farFrom, noEioOf, eiosQuiet, biosQuiet, msisQuiet, quiet};
+
+// ---- one claim against the structures of a kind, from one of them on
+
+fn far_from_eios(x: Claim, eios: [Eio; 4], n: usize, from: usize) -> bool
+    requires { ⌜ (n ≤ 4) × (from ≤ n) ⌝ }
+    ensures { λ r. ⌜ r ≡ farFrom eioClaim x (drop from (take n eios)) ⌝ }
+{
+    let mut far = true;
+    let mut i = from;
+    while i < n {
+        let e = eios[i];
+        far = far & clashes::are_apart(x, parts::eio_claim(e, 0));
+        i += 1;
+    }
+    far
+}
+
+fn far_from_bios(x: Claim, bios: [Bio; 4], n: usize, from: usize) -> bool
+    requires { ⌜ (n ≤ 4) × (from ≤ n) ⌝ }
+    ensures { λ r. ⌜ r ≡ farFrom bioClaim x (drop from (take n bios)) ⌝ }
+{
+    let mut far = true;
+    let mut i = from;
+    while i < n {
+        let b = bios[i];
+        far = far & clashes::are_apart(x, parts::bio_claim(b, 0));
+        i += 1;
+    }
+    far
+}
+
+fn far_from_msis(x: Claim, msis: [Msi; 4], n: usize, from: usize) -> bool
+    requires { ⌜ (n ≤ 4) × (from ≤ n) ⌝ }
+    ensures { λ r. ⌜ r ≡ farFrom msiClaim x (drop from (take n msis)) ⌝ }
+{
+    let mut far = true;
+    let mut i = from;
+    while i < n {
+        let m = msis[i];
+        far = far & clashes::are_apart(x, parts::msi_claim(m, 0));
+        i += 1;
+    }
+    far
+}
+
+// 42: whether no EIO has this node.
+fn no_eio_of(eios: [Eio; 4], n: usize, node: u16) -> bool
+    requires { ⌜ n ≤ 4 ⌝ }
+    ensures { λ r. ⌜ r ≡ noEioOf node (take n eios) ⌝ }
+{
+    let mut none = true;
+    let mut i = 0;
+    while i < n {
+        let e = eios[i];
+        none = none & (e.node as u16 != node);
+        i += 1;
+    }
+    none
+}
+
+// ---- the structures of a kind among themselves, and against those of other kinds
+
+// The EIO, with the LIO's claim.
+fn eios_quiet(lio: Claim, eios: [Eio; 4], n: usize) -> bool
+    requires { ⌜ n ≤ 4 ⌝ }
+    ensures { λ r. ⌜ r ≡ eiosQuiet lio (take n eios) ⌝ }
+{
+    let mut still = true;
+    let mut i = 0;
+    while i < n {
+        let e = eios[i];
+        let x = parts::eio_claim(e, 0);
+        still = still & (clashes::are_apart(lio, x) & far_from_eios(x, eios, n, i + 1));
+        i += 1;
+    }
+    still
+}
+
+// The BIO, with the EIO that they stand on and the MSI whose slots land there too.
+fn bios_quiet(eios: [Eio; 4], e: usize, bios: [Bio; 4], n: usize, msis: [Msi; 4], m: usize) -> bool
+    requires { ⌜ (e ≤ 4) × (n ≤ 4) × (m ≤ 4) ⌝ }
+    ensures { λ r. ⌜ r ≡ biosQuiet (take e eios) (take m msis) (take n bios) ⌝ }
+{
+    let mut still = true;
+    let mut i = 0;
+    while i < n {
+        let b = bios[i];
+        let x = parts::bio_claim(b, 0);
+        let alone = !no_eio_of(eios, e, b.node) & far_from_msis(x, msis, m, 0);
+        still = still & (alone & far_from_bios(x, bios, n, i + 1));
+        i += 1;
+    }
+    still
+}
+
+// The MSI.
+fn msis_quiet(msis: [Msi; 4], n: usize) -> bool
+    requires { ⌜ n ≤ 4 ⌝ }
+    ensures { λ r. ⌜ r ≡ msisQuiet (take n msis) ⌝ }
+{
+    let mut still = true;
+    let mut i = 0;
+    while i < n {
+        let m = msis[i];
+        still = still & far_from_msis(parts::msi_claim(m, 0), msis, n, i + 1);
+        i += 1;
+    }
+    still
+}
+
+impl Map {
+    // Whether no two structures clash by 41 or 51 to 53, and no BIO is without an EIO.
+    pub(crate) fn is_quiet(self) -> bool
+        requires { ⌜ (self .eiocount ≤ 4) × (self .biocount ≤ 4) × (self .msicount ≤ 4) ⌝ }
+        ensures { λ r. ⌜ r ≡ quiet (says self) ⌝ }
+    {
+        let eios = self.eios;
+        let bios = self.bios;
+        let msis = self.msis;
+        let e = self.eiocount as usize;
+        let b = self.biocount as usize;
+        let m = self.msicount as usize;
+        let lio = parts::lio_claim(kinds::said_lio(self.lio), 0);
+        eios_quiet(lio, eios, e) & bios_quiet(eios, e, bios, b, msis, m) & msis_quiet(msis, m)
+    }
+}
