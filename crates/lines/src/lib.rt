@@ -7,7 +7,7 @@ use kinds::Lpc;
 use kinds::Msi;
 use words::Refusal;
 
-mod routes; // where a global number arrives
+pub mod routes; // where a global number arrives
 mod traces; // what arrives at a core vector with a number
 mod rules; // 38 to 54: the first rule that a map breaks
 mod asked; // 61, and the two questions
