@@ -1,5 +1,4 @@
--- No text is longer than a position of 16 bits and one more can tell: a line by its word and its numbers, a list of lines by
--- its length.
+-- How long a text can be: a line by its word and its numbers, of 20 digits at most, and a list of lines by its length.
 use mathlib.Core.Path.{_≡_, refl}
 use mathlib.Core.List.{List, [], _∷_, _++_}
 use Prim.Native.Nat.{ℕ, zero, suc, _+_, _*_, _≤_, _<_}
@@ -57,7 +56,7 @@ core-length : (uid id : ℕ) → length (coreLine uid id) ≤ 47
 unfolding coreLine letters
 core-length uid id = line-length (letters "core") (uid ∷ id ∷ [])
 
-cores-length : (list : List ℕ) → length (coreLines list) ≤ 47 * length list
+cores-length : (list : List ℕ) → 2 * length (coreLines list) ≤ 47 * length list
 unfolding coreLines
 cores-length [] = omega arith
 cores-length (uid ∷ []) = omega arith
@@ -138,8 +137,8 @@ pub map-fits : (version : ℕ) (list : List ℕ) (map : Map) → length list ≤
     → length (map .eios) ≡ 4 → length (map .bios) ≡ 4 → length (map .msis) ≡ 4 → Fits 0 (mapText version list map)
 unfolding mapText mapParts
 map-fits version list map few eios bios msis =
-    let cores : length (coreLines list) ≤ 24064 = omega (arith, cores-length list) in
-    let all : Most (mapText version list map) 25014 =
+    let cores : length (coreLines list) ≤ 12032 = omega (arith, cores-length list) in
+    let all : Most (mapText version list map) 12982 =
     and-more _ _ (version-length version)
     (and-more _ _ cores
     (and-more _ _ (lio-length _)
@@ -148,5 +147,5 @@ map-fits version list map few eios bios msis =
     (and-more _ _ (four-length msiLine 46 msi-length (map .msis) (map .msicount) msis)
     (and-more _ _ (lpc-length _ _)
     (and-more _ _ (sci-length _ _) none-more))))))) in
-    let most : length (mapText version list map) ≤ 25014 = all .small in
+    let most : length (mapText version list map) ≤ 12982 = all .small in
     omega arith

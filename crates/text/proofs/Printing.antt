@@ -41,6 +41,9 @@ module _ {whole old rest room : List ℕ} {from n : ℕ} (p : Printing whole old
       → (n′ ≡ from + length whole) × (room′ ≡ sets old from whole)
   done (k, g) = (k ∙ p .count, g ∙ p .gives)
 
+  pub short : n ≤ 16384
+  short = let all : n + length rest ≤ 16384 = p .fits in omega arith
+
   pub over : rest ≡ [] → (n ≡ from + length whole) × (room ≡ sets old from whole)
   over e = (sym (add-zero n) ∙ (rw e at (p .count)), rw e at (p .gives))
 
@@ -48,13 +51,13 @@ module _ {whole old rest room : List ℕ} {from n : ℕ} (p : Printing whole old
     -- the next thing fits
     pub ahead : Fits n bytes
     ahead =
-        let all : n + length (bytes ++ later) ≤ 65536 = rw (s .parts) at (p .fits) in
+        let all : n + length (bytes ++ later) ≤ 16384 = rw (s .parts) at (p .fits) in
         omega (arith, length-append bytes later)
 
     -- it is written
     pub next : {room′ : List ℕ} {n′ : ℕ} → (n′ ≡ n + length bytes) × (room′ ≡ sets room n bytes) → Printing whole old from later room′ n′
     next (k, g) =
-        let all : n + length (bytes ++ later) ≤ 65536 = rw (s .parts) at (p .fits) in
+        let all : n + length (bytes ++ later) ≤ 16384 = rw (s .parts) at (p .fits) in
         let ends : n + length (bytes ++ later) ≡ from + length whole = rw (s .parts) at (p .count) in
         let size = length-append bytes later in
         record {

@@ -55,6 +55,6 @@ textOf capture =
 unfoldable pub outcome : List ℕ → List ℕ → Written
 outcome text room = if (hasRoom text room) (Whole (length text)) NoRoom
 
--- some bytes from place n on end where a position of 16 bits and one more can
+-- some bytes from byte n on end where every text does
 abbrev pub Fits : ℕ → List ℕ → Type 0
-Fits n bytes = n + length bytes ≤ 65536
+Fits n bytes = n + length bytes ≤ 16384

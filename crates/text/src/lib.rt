@@ -22,6 +22,9 @@ pub enum Written {
     NoRoom,
 }
 
+// No text is longer than this.
+pub const ROOM: usize = 16384;
+
 // The numbers of a processor list: UID and physical ID of 256 processors, the most that there can be.
 const MOST_NUMBERS: usize = 512;
 
@@ -30,6 +33,7 @@ fn put_map(room: &mut [u8], version: u16, list: &[u32], map: Map) -> usize
     requires { ⌜ length (now list) ≤ 512 ⌝ }
     ensures { λ r. ⌜ r ≡ length (mapText version (now (list .entry)) map) ⌝ }
     ensures { λ r. ⌜ now (room .exit) ≡ sets (now (room .entry)) 0 (mapText version (now (list .entry)) map) ⌝ }
+    ensures { λ r. ⌜ r ≤ 16384 ⌝ }
 {
     let eios = map.eios;
     let bios = map.bios;
@@ -53,6 +57,7 @@ fn put_text(room: &mut [u8], capture: &[u8], reading: Reading, list: &[u32]) -> 
     requires { ⌜ now list ≡ listAfter (now capture) lent ⌝ }
     ensures { λ r. ⌜ r ≡ length (textOf (now (capture .entry))) ⌝ }
     ensures { λ r. ⌜ now (room .exit) ≡ sets (now (room .entry)) 0 (textOf (now (capture .entry))) ⌝ }
+    ensures { λ r. ⌜ r ≤ 16384 ⌝ }
 {
     let answer = reading.answer;
     let map = reading.map;
@@ -63,10 +68,11 @@ fn put_text(room: &mut [u8], capture: &[u8], reading: Reading, list: &[u32]) -> 
 }
 
 // Writes the text of a capture to the room's front; what lies past it stays. A room that is too short for the text stays as it
-// is. The text is measured first, in a room of one byte.
+// is; one of ROOM bytes never is. The text is measured first, in a room of one byte.
 pub fn write_text(capture: &[u8], room: &mut [u8]) -> Written
     ensures { λ r. ⌜ r ≡ outcome (textOf (now (capture .entry))) (now (room .entry)) ⌝ }
     ensures { λ r. ⌜ now (room .exit) ≡ filled (textOf (now (capture .entry))) (now (room .entry)) ⌝ }
+    ensures { λ r. ⌜ length (textOf (now (capture .entry))) ≤ 16384 ⌝ }
 {
     let mut list = [0u32; MOST_NUMBERS];
     let reading = reading::read(capture, &mut list);

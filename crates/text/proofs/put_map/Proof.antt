@@ -10,7 +10,7 @@ use Rattle.text.specs.Lines.{each, lioLines, eioLine, bioLine, msiLine, 
 use Rattle.text.specs.Text.{joined, mapParts, mapText}
 use Rattle.text.proofs.Bounds.{map-fits}
 use Rattle.text.proofs.ByCase.{lpc-same}
-use Rattle.text.proofs.Printing.{Printing, named, begin, ahead, next, over, joined-split, nothing-left}
+use Rattle.text.proofs.Printing.{Printing, named, begin, ahead, next, over, short, joined-split, nothing-left}
 use borrow.Author.Needs.{needs}
 use Rattle.text.proofs.put_map.Statement.{statement}
 use Rattle.text.proofs.put_map.Tie as tie
@@ -127,7 +127,7 @@ same-length c = all-told c .same
 
 returns : tie.Need-returns
 unfolding mapParts
-returns c = let e = over (all-told c) nothing-left in (e .0 ∙ zero-add _, e .1)
+returns c = let e = over (all-told c) nothing-left in (e .0 ∙ zero-add _, (e .1, short (all-told c)))
 
 pub put-map-spec : {M : Type 1} → statement M
 put-map-spec =

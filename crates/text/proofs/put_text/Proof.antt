@@ -1,11 +1,12 @@
 -- `put_text` goes by the answer: a refusal, or the map with the written part of the processor list.
 use mathlib.Core.Path.{_≡_, ap, sym, _∙_}
-use Prim.Native.Nat.{ℕ, _*_, _≤_}
+use Prim.Native.Nat.{_+_, _*_, _≤_}
 use native.Mathlib.Nat.{zero-add}
 use native.Mathlib.Omega.{arith}
 use lib.ListN.{length, length-take}
 use lib.Seq.{length-take-le}
 use Rattle.reading.specs.declared.Reading.{Reading}
+use Rattle.text.specs.Lines.{refusalLine}
 use Rattle.text.proofs.Answers.{Listed, listed, text-refused, text-of-map}
 use Rattle.text.proofs.Bounds.{refusal-fits}
 use borrow.Author.Needs.{needs}
@@ -40,7 +41,7 @@ same-length : tie.Need-same-length
 same-length c = search needs
 
 returns : tie.Need-returns
-returns c = let e = text-refused _ (ap (λ (r : Reading). r .answer) (sym (c .before .before .before .before .before .before .before .before .before .before .before .pre .0)) ∙ c .before .before .before .before .before .answer .given .1) in let w = c .before .before .put-refusal .ensures in rw e (w .0 ∙ zero-add _, w .1)
+returns c = let e = text-refused _ (ap (λ (r : Reading). r .answer) (sym (c .before .before .before .before .before .before .before .before .before .before .before .pre .0)) ∙ c .before .before .before .before .before .answer .given .1) in let w = c .before .before .put-refusal .ensures in let fits : 0 + length (refusalLine (c .before .before .before .before .before .answer .given .0 .0)) ≤ 16384 = refusal-fits _ in rw e (w .0 ∙ zero-add _, (w .1, omega arith))
 
 same-length-2 : tie.Need-same-length-2
 same-length-2 c = search needs

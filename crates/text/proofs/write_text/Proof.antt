@@ -20,7 +20,10 @@ put-text-requires : tie.Need-put-text-requires
 put-text-requires c κs = search needs
 
 returns : tie.Need-returns
-returns c = no-room _ _ (c .before .before .put-text .ensures .0) (c .if1 .taken)
+returns c =
+    let put = c .before .before .put-text .ensures in
+    let w = no-room _ _ (put .0) (c .if1 .taken) in
+    (w .0, (w .1, rw (← put .0) (put .1 .1)))
 
 slice-aggregate-put-text-3 : tie.Need-slice-aggregate-put-text-3
 slice-aggregate-put-text-3 c = search needs
@@ -32,7 +35,10 @@ same-length : tie.Need-same-length
 same-length c = search needs
 
 returns-2 : tie.Need-returns-2
-returns-2 c = has-room _ _ (c .before .before .before .before .before .before .before .put-text .ensures .0) (c .before .before .before .before .before .if1 .left) (c .before .before .put-text2 .ensures .1)
+returns-2 c =
+    let put = c .before .before .before .before .before .before .before .put-text .ensures in
+    let w = has-room _ _ (put .0) (c .before .before .before .before .before .if1 .left) (c .before .before .put-text2 .ensures .1 .0) in
+    (w .0, (w .1, rw (← put .0) (put .1 .1)))
 
 pub write-text-spec : {M : Type 1} → statement M
 write-text-spec =
