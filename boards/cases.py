@@ -1,8 +1,9 @@
 #!/usr/bin/env python3
 """The cases that the program `vectors` runs: what is asked of which capture, and the answer that document 01 fixes.
 
-`boards/cases.py` writes crates/vectors/stdin (the questions), crates/vectors/stdout (the answers, one line each) and
-boards/A.cap (board A); `boards/cases.py --check` says whether these files are what this page makes.
+`boards/cases.py` writes crates/vectors/stdin (the questions), crates/vectors/stdout (the answers, one line each), the boards of
+boards/printed.py with what is printed for each, and board A as the case of the program `map`; `boards/cases.py --check` says
+whether these files are what these pages make.
 Labels begin with the point that they settle: a refusal number of document 01, or a rule in our words.
 """
 import pathlib
@@ -10,6 +11,7 @@ import sys
 
 from board import A, BASE, STRUCTURES_OF_A, bio, board, capture, core, eio, fadt, ht, image, lay, le, lio, lpc, madt, msi, rsdp
 from board import structure, summed, table
+from printed import PRINTED
 
 # The kinds of question that crates/vectors/src/main.rt knows.
 CHECK, RSDP, LOCATE, SURVEY, READ, ROUTE, TRACE, READ_BYTES = range(8)
@@ -459,10 +461,14 @@ for name, answer in [
 
 ROOT = pathlib.Path(__file__).resolve().parent.parent
 FILES = {
-    "boards/A.cap": A,
+    "crates/map/stdin": PRINTED["A"][0],
+    "crates/map/stdout": PRINTED["A"][1].encode(),
     "crates/vectors/stdin": b"".join(question for question, _ in cases),
     "crates/vectors/stdout": "".join(line for _, line in cases).encode(),
 }
+for name, (data, text) in PRINTED.items():
+    FILES[f"boards/{name}.cap"] = data
+    FILES[f"boards/{name}.txt"] = text.encode()
 
 
 def main():
