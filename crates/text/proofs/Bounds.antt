@@ -1,8 +1,8 @@
 -- How long a text can be: a line by its word and its numbers, of 20 digits at most, and a list of lines by its length.
-use mathlib.Core.Path.{_≡_, refl}
-use mathlib.Core.List.{List, [], _∷_, _++_}
-use Prim.Native.Nat.{ℕ, zero, suc, _+_, _*_, _≤_, _<_}
-use native.Mathlib.Nat.{mul-suc, le-trans, le-refl, mul-le-mul-left}
+use mathlib.Core.Path.{_≡_}
+use mathlib.Core.List.{List, [], _∷_}
+use Prim.Native.Nat.{ℕ, _+_, _*_, _≤_}
+use native.Mathlib.Nat.{mul-suc, le-trans, mul-le-mul-left}
 use native.Mathlib.Omega.{arith}
 use lib.ListN.{length, length-append, length-take, take}
 use Rattle.words.specs.declared.Refusal.{Refusal}
@@ -18,7 +18,7 @@ use Rattle.lines.specs.declared.Bridge.the-variants.{Is, None}
 use Rattle.lines.specs.declared.Route.{Route}
 use Rattle.lines.specs.declared.Route.the-variants.{Arrives, Unwired, NoOwner, Refused}
 use Rattle.processors.proofs.Cases.{if-cases}
-use Rattle.text.specs.Numerals.{letters, decimal}
+use Rattle.text.specs.Numerals.{letters}
 use Rattle.text.specs.Lines.{each, field, phrase, line, versionLine, coreLine, coreLines, halfLine, lioLines, eioLine, bioLine, msiLine, lpcLine, sciLine, refusalLine}
 use Rattle.text.specs.Text.{joined, mapParts, mapText, Fits}
 use Rattle.text.proofs.Numerals.{decimal-length}

@@ -1,8 +1,7 @@
 -- What is written of a half of the LIO, of the LPC and of the SCI, by their cases.
 use mathlib.Core.Path.{_≡_, refl}
 use mathlib.Core.Bool.{true, false}
-use mathlib.Core.List.{List, [], _∷_}
-use Prim.Native.Nat.{ℕ}
+use mathlib.Core.List.{[], _∷_}
 use borrow.Author.Tests.{eq-eqb, ne-eqb}
 use Rattle.words.proofs.Choices.{yes-if, no-if}
 use Rattle.kinds.specs.declared.Half.{Half}

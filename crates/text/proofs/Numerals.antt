@@ -1,7 +1,7 @@
--- Laws of decimal numbers: one digit, one digit more, and how many there can be.
+-- Laws of decimal numbers: one digit, one digit more, how many there can be, and that they read back as the number.
 use mathlib.Core.Path.{_≡_, refl, sym, ap, _∙_}
 use mathlib.Core.List.{List, [], _∷_, _++_}
-use Prim.Native.Nat.{ℕ, zero, suc, _+_, _*_, _/_, _%_, _^_, _≤_, _<_}
+use Prim.Native.Nat.{ℕ, zero, suc, _+_, _-_, _*_, _/_, _%_, _^_, _≤_, _<_}
 use native.Mathlib.Nat.{pow-succ'}
 use native.Mathlib.Omega.{arith}
 use borrow.Author.Tests.{lt-ltb, le-ltb}
@@ -45,3 +45,28 @@ digits-length (suc k) n =
 pub decimal-length : (n : ℕ) → length (decimal n) ≤ 20
 unfolding decimal
 decimal-length n = digits-length 20 n
+
+-- ---- read back, the digits of a number are the number
+-- the number that digits behind a number make
+unfoldable pub readOn : ℕ → List ℕ → ℕ
+readOn sofar [] = sofar
+readOn sofar (d ∷ ds) = readOn (10 * sofar + (d - 48)) ds
+
+read-last : (sofar : ℕ) (ds : List ℕ) (d : ℕ) → readOn sofar (ds ++ (d ∷ [])) ≡ 10 * readOn sofar ds + (d - 48)
+unfolding readOn
+read-last sofar [] d = refl
+read-last sofar (e ∷ ds) d = read-last (10 * sofar + (e - 48)) ds d
+
+read-digits : (k n : ℕ) → n < 10 ^ suc k → readOn 0 (digits (suc k) n) ≡ n
+unfolding digits readOn
+read-digits zero n h = rw (yes-if (ltb n 10) (digit n ∷ []) ([] ++ (digit (n % 10) ∷ [])) (lt-ltb n 10 h)) (omega arith)
+read-digits (suc k) n h =
+    let low : n < 10 * 10 ^ suc k = rw (pow-succ') at h in
+    let front : readOn 0 (digits (suc k) (n / 10)) ≡ n / 10 = read-digits k (n / 10) (omega arith) in
+    if-cases (λ (ds : List ℕ). readOn 0 ds ≡ n) _ _ _
+    (λ t. omega arith)
+    (λ t. read-last 0 (digits (suc k) (n / 10)) (digit (n % 10)) ∙ (rw front (omega arith)))
+
+pub reads-back : (n : ℕ) → n < 10 ^ 20 → readOn 0 (decimal n) ≡ n
+unfolding decimal
+reads-back n h = read-digits 19 n h

@@ -48,15 +48,21 @@ lio-told c = next (cores-told (c .before .before .before .before)) (named (joine
 
 eios-told : (c : tie.After-put-bios-arg) → Told (c .before .before .before .before .before .before .before .before .before .before .before .before .before .before .before .before .before .before .before .before .before .before .before .before .before) 4 (c .before .before .before .put-eios .last .0) (c .before .before .before .put-eios .result)
 unfolding mapParts
-eios-told c = let s = c .before .before .before .before .before .before .before .before .before .before .before .before .before .before .before .before .before .before .before .before .before .before .before .before .before in next (lio-told (c .before .before .before .before .before)) (named (joined-split _ _) (ap (each eioLine) (take-used (s .args .map .eios) (s .args .map .eiocount) _ (four-eios s) (c .before .before .before .before .used .ensures .1)))) (c .before .before .before .put-eios .ensures)
+eios-told c =
+    let s = c .before .before .before .before .before .before .before .before .before .before .before .before .before .before .before .before .before .before .before .before .before .before .before .before .before in
+    next (lio-told (c .before .before .before .before .before)) (named (joined-split _ _) (ap (each eioLine) (take-used (s .args .map .eios) (s .args .map .eiocount) _ (four-eios s) (c .before .before .before .before .used .ensures .1)))) (c .before .before .before .put-eios .ensures)
 
 bios-told : (c : tie.After-put-msis-arg) → Told (c .before .before .before .before .before .before .before .before .before .before .before .before .before .before .before .before .before .before .before .before .before .before .before .before .before .before .before .before .before .before) 5 (c .before .before .before .put-bios .last .0) (c .before .before .before .put-bios .result)
 unfolding mapParts
-bios-told c = let s = c .before .before .before .before .before .before .before .before .before .before .before .before .before .before .before .before .before .before .before .before .before .before .before .before .before .before .before .before .before .before in next (eios-told (c .before .before .before .before .before)) (named (joined-split _ _) (ap (each bioLine) (take-used (s .args .map .bios) (s .args .map .biocount) _ (four-bios s) (c .before .before .before .before .used2 .ensures .1)))) (c .before .before .before .put-bios .ensures)
+bios-told c =
+    let s = c .before .before .before .before .before .before .before .before .before .before .before .before .before .before .before .before .before .before .before .before .before .before .before .before .before .before .before .before .before .before in
+    next (eios-told (c .before .before .before .before .before)) (named (joined-split _ _) (ap (each bioLine) (take-used (s .args .map .bios) (s .args .map .biocount) _ (four-bios s) (c .before .before .before .before .used2 .ensures .1)))) (c .before .before .before .put-bios .ensures)
 
 msis-told : (c : tie.After-put-lpc-arg) → Told (c .before .before .before .before .before .before .before .before .before .before .before .before .before .before .before .before .before .before .before .before .before .before .before .before .before .before .before .before .before .before .before .before .before .before .before) 6 (c .before .before .before .put-msis .last .0) (c .before .before .before .put-msis .result)
 unfolding mapParts
-msis-told c = let s = c .before .before .before .before .before .before .before .before .before .before .before .before .before .before .before .before .before .before .before .before .before .before .before .before .before .before .before .before .before .before .before .before .before .before .before in next (bios-told (c .before .before .before .before .before)) (named (joined-split _ _) (ap (each msiLine) (take-used (s .args .map .msis) (s .args .map .msicount) _ (four-msis s) (c .before .before .before .before .used3 .ensures .1)))) (c .before .before .before .put-msis .ensures)
+msis-told c =
+    let s = c .before .before .before .before .before .before .before .before .before .before .before .before .before .before .before .before .before .before .before .before .before .before .before .before .before .before .before .before .before .before .before .before .before .before .before in
+    next (bios-told (c .before .before .before .before .before)) (named (joined-split _ _) (ap (each msiLine) (take-used (s .args .map .msis) (s .args .map .msicount) _ (four-msis s) (c .before .before .before .before .used3 .ensures .1)))) (c .before .before .before .put-msis .ensures)
 
 lpc-told : (c : tie.After-struct-known) → Told (c .before .before .before .before .before .before .before .before .before .before .before .before .before .before .before .before .before .before .before .before .before .before .before .before .before .before .before .before .before .before .before .before .before .before .before .before .before .before .before .before .before) 7 (c .before .before .before .before .put-lpc .last .0) (c .before .before .before .before .put-lpc .result)
 unfolding mapParts
@@ -89,21 +95,27 @@ used-requires c κs = search needs
 
 put-eios-requires : tie.Need-put-eios-requires
 unfolding mapParts
-put-eios-requires c κs = let s = c .before .before .before .before .before .before .before .before .before .before .before .before .before .before .before .before .before .before .before .before .before in (search needs, ahead (lio-told (c .before)) (named (joined-split _ _) (ap (each eioLine) (take-used (s .args .map .eios) (s .args .map .eiocount) _ (four-eios s) (c .used .ensures .1)))))
+put-eios-requires c κs =
+    let s = c .before .before .before .before .before .before .before .before .before .before .before .before .before .before .before .before .before .before .before .before .before in
+    (search needs, ahead (lio-told (c .before)) (named (joined-split _ _) (ap (each eioLine) (take-used (s .args .map .eios) (s .args .map .eiocount) _ (four-eios s) (c .used .ensures .1)))))
 
 used-requires-2 : tie.Need-used-requires-2
 used-requires-2 c κs = search needs
 
 put-bios-requires : tie.Need-put-bios-requires
 unfolding mapParts
-put-bios-requires c κs = let s = c .before .before .before .before .before .before .before .before .before .before .before .before .before .before .before .before .before .before .before .before .before .before .before .before .before .before in (search needs, ahead (eios-told (c .before)) (named (joined-split _ _) (ap (each bioLine) (take-used (s .args .map .bios) (s .args .map .biocount) _ (four-bios s) (c .used2 .ensures .1)))))
+put-bios-requires c κs =
+    let s = c .before .before .before .before .before .before .before .before .before .before .before .before .before .before .before .before .before .before .before .before .before .before .before .before .before .before in
+    (search needs, ahead (eios-told (c .before)) (named (joined-split _ _) (ap (each bioLine) (take-used (s .args .map .bios) (s .args .map .biocount) _ (four-bios s) (c .used2 .ensures .1)))))
 
 used-requires-3 : tie.Need-used-requires-3
 used-requires-3 c κs = search needs
 
 put-msis-requires : tie.Need-put-msis-requires
 unfolding mapParts
-put-msis-requires c κs = let s = c .before .before .before .before .before .before .before .before .before .before .before .before .before .before .before .before .before .before .before .before .before .before .before .before .before .before .before .before .before .before .before in (search needs, ahead (bios-told (c .before)) (named (joined-split _ _) (ap (each msiLine) (take-used (s .args .map .msis) (s .args .map .msicount) _ (four-msis s) (c .used3 .ensures .1)))))
+put-msis-requires c κs =
+    let s = c .before .before .before .before .before .before .before .before .before .before .before .before .before .before .before .before .before .before .before .before .before .before .before .before .before .before .before .before .before .before .before in
+    (search needs, ahead (bios-told (c .before)) (named (joined-split _ _) (ap (each msiLine) (take-used (s .args .map .msis) (s .args .map .msicount) _ (four-msis s) (c .used3 .ensures .1)))))
 
 bridge-requires : tie.Need-bridge-requires
 bridge-requires c κs = search needs

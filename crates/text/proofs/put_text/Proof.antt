@@ -1,5 +1,5 @@
 -- `put_text` goes by the answer: a refusal, or the map with the written part of the processor list.
-use mathlib.Core.Path.{_≡_, ap, sym, _∙_}
+use mathlib.Core.Path.{ap, sym, _∙_}
 use Prim.Native.Nat.{_+_, _*_, _≤_}
 use native.Mathlib.Nat.{zero-add}
 use native.Mathlib.Omega.{arith}
@@ -29,25 +29,35 @@ version-of-requires : tie.Need-version-of-requires
 version-of-requires c κs = search needs
 
 mul-put-map : tie.Need-mul-put-map
-mul-put-map c = let few : 2 * (c .before .before .before .answer2 .given .0 .0) ≤ 512 = read-list (c .before) .few in record { fits = omega arith }
+mul-put-map c =
+    let few : 2 * (c .before .before .before .answer2 .given .0 .0) ≤ 512 = read-list (c .before) .few in
+    record { fits = omega arith }
 
 slice-aggregate-put-map : tie.Need-slice-aggregate-put-map
 slice-aggregate-put-map c = sym (length-take-le _ _ (rw (c .before .before .before .before .before .before .before .before .before .before .pre .1) (read-list (c .before .before) .inside)))
 
 put-map-requires : tie.Need-put-map-requires
-put-map-requires c κs = let few = read-list (c .before .before) .few in omega (arith, length-take (2 * (c .before .before .before .before .answer2 .given .0 .0)) (c .before .before .before .before .before .before .before .before .before .before .args .list .now))
+put-map-requires c κs =
+    let few = read-list (c .before .before) .few in
+    omega (arith, length-take (2 * (c .before .before .before .before .answer2 .given .0 .0)) (c .before .before .before .before .before .before .before .before .before .before .args .list .now))
 
 same-length : tie.Need-same-length
 same-length c = search needs
 
 returns : tie.Need-returns
-returns c = let e = text-refused _ (ap (λ (r : Reading). r .answer) (sym (c .before .before .before .before .before .before .before .before .before .before .before .pre .0)) ∙ c .before .before .before .before .before .answer .given .1) in let w = c .before .before .put-refusal .ensures in let fits : 0 + length (refusalLine (c .before .before .before .before .before .answer .given .0 .0)) ≤ 16384 = refusal-fits _ in rw e (w .0 ∙ zero-add _, (w .1, omega arith))
+returns c =
+    let e = text-refused _ (ap (λ (r : Reading). r .answer) (sym (c .before .before .before .before .before .before .before .before .before .before .before .pre .0)) ∙ c .before .before .before .before .before .answer .given .1) in
+    let w = c .before .before .put-refusal .ensures in
+    let fits : 0 + length (refusalLine (c .before .before .before .before .before .answer .given .0 .0)) ≤ 16384 = refusal-fits _ in
+    rw e (w .0 ∙ zero-add _, (w .1, omega arith))
 
 same-length-2 : tie.Need-same-length-2
 same-length-2 c = search needs
 
 returns-2 : tie.Need-returns-2
-returns-2 c = let s = c .before .before .before .before .before .before .before .before .before .before .before .before .before in rw (← text-of-map (s .args .capture .now) (s .pre .0) (s .pre .1) (c .before .before .before .before .version-of .ensures) (c .before .before .before .before .before .before .before .answer2 .given .1)) (c .before .before .put-map .ensures)
+returns-2 c =
+    let s = c .before .before .before .before .before .before .before .before .before .before .before .before .before in
+    rw (← text-of-map (s .args .capture .now) (s .pre .0) (s .pre .1) (c .before .before .before .before .version-of .ensures) (c .before .before .before .before .before .before .before .answer2 .given .1)) (c .before .before .put-map .ensures)
 
 pub put-text-spec : {M : Type 1} → statement M
 put-text-spec =

@@ -1,9 +1,7 @@
 -- `put_decimal` writes the digits of a number: it calls itself for the tenth of the number, which is what falls.
-use mathlib.Core.Path.{_≡_, refl}
-use mathlib.Core.List.{[], _∷_}
 use native.Mathlib.Omega.{arith}
 use Prim.Native.Nat.{_^_}
-use Rattle.text.specs.Numerals.{digit, decimal}
+use Rattle.text.specs.Numerals.{decimal}
 use Rattle.text.proofs.Numerals.{decimal-one}
 use Rattle.text.proofs.Printing.{begin, ahead, next, done, decimal-split}
 use borrow.Author.Needs.{needs}
@@ -50,7 +48,10 @@ put-decimal-put-byte-requires : (t : ℕ) → put-decimal-lts.Need-put-byte-requ
   put-decimal-below t,
   put-decimal.Post,
 ) (put-decimal-at t) put-decimal.Post
-put-decimal-put-byte-requires t c κs = let a = c .before .before .before in let one = decimal-one (a .args .number) (c .before .if1 .taken) in rw one at (a .pre .1)
+put-decimal-put-byte-requires t c κs =
+    let a = c .before .before .before in
+    let one = decimal-one (a .args .number) (c .before .if1 .taken) in
+    rw one at (a .pre .1)
 
 put-decimal-same-length : (t : ℕ) → put-decimal-lts.Need-same-length (
   put-byte-reads.Asked,
@@ -66,7 +67,9 @@ put-decimal-returns : (t : ℕ) → put-decimal-lts.Need-returns (
   put-decimal-below t,
   put-decimal.Post,
 ) (put-decimal-at t) put-decimal.Post
-put-decimal-returns t c = let a = c .before .before .before .before .before .before in rw (decimal-one (a .args .number) (c .before .before .before .before .if1 .taken)) (c .before .before .put-byte .ensures)
+put-decimal-returns t c =
+    let a = c .before .before .before .before .before .before in
+    rw (decimal-one (a .args .number) (c .before .before .before .before .if1 .taken)) (c .before .before .put-byte .ensures)
 
 put-decimal-put-decimal-requires : (t : ℕ) → put-decimal-lts.Need-put-decimal-requires (
   put-byte-reads.Asked,
@@ -74,7 +77,10 @@ put-decimal-put-decimal-requires : (t : ℕ) → put-decimal-lts.Need-put-decima
   put-decimal-below t,
   put-decimal.Post,
 ) (put-decimal-at t) put-decimal.Post
-put-decimal-put-decimal-requires t c κs = let a = c .before .before .before in let small : a .args .number < 10 ^ 20 = omega arith in (search needs, ahead (begin (decimal (a .args .number)) (a .args .room .now) (a .args .n) (a .pre .1)) (decimal-split (a .args .number) (c .before .if1 .left) small))
+put-decimal-put-decimal-requires t c κs =
+    let a = c .before .before .before in
+    let small : a .args .number < 10 ^ 20 = omega arith in
+    (search needs, ahead (begin (decimal (a .args .number)) (a .args .room .now) (a .args .n) (a .pre .1)) (decimal-split (a .args .number) (c .before .if1 .left) small))
 
 put-decimal-cast-put-byte-2 : (t : ℕ) → put-decimal-lts.Need-cast-put-byte-2 (
   put-byte-reads.Asked,
@@ -98,7 +104,10 @@ put-decimal-put-byte-requires-2 : (t : ℕ) → put-decimal-lts.Need-put-byte-re
   put-decimal-below t,
   put-decimal.Post,
 ) (put-decimal-at t) put-decimal.Post
-put-decimal-put-byte-requires-2 t c κs = let a = c .before .before .before .before .before .before .before in let small : a .args .number < 10 ^ 20 = omega arith in next (begin (decimal (a .args .number)) (a .args .room .now) (a .args .n) (a .pre .1)) (decimal-split (a .args .number) (c .before .before .before .before .before .if1 .left) small) (c .before .before .before .put-decimal .ensures) .fits
+put-decimal-put-byte-requires-2 t c κs =
+    let a = c .before .before .before .before .before .before .before in
+    let small : a .args .number < 10 ^ 20 = omega arith in
+    next (begin (decimal (a .args .number)) (a .args .room .now) (a .args .n) (a .pre .1)) (decimal-split (a .args .number) (c .before .before .before .before .before .if1 .left) small) (c .before .before .before .put-decimal .ensures) .fits
 
 put-decimal-same-length-2 : (t : ℕ) → put-decimal-lts.Need-same-length-2 (
   put-byte-reads.Asked,
@@ -114,7 +123,10 @@ put-decimal-returns-2 : (t : ℕ) → put-decimal-lts.Need-returns-2 (
   put-decimal-below t,
   put-decimal.Post,
 ) (put-decimal-at t) put-decimal.Post
-put-decimal-returns-2 t c = let a = c .before .before .before .before .before .before .before .before .before .before in let small : a .args .number < 10 ^ 20 = omega arith in done (next (begin (decimal (a .args .number)) (a .args .room .now) (a .args .n) (a .pre .1)) (decimal-split (a .args .number) (c .before .before .before .before .before .before .before .before .if1 .left) small) (c .before .before .before .before .before .before .put-decimal .ensures)) (c .before .before .put-byte2 .ensures)
+put-decimal-returns-2 t c =
+    let a = c .before .before .before .before .before .before .before .before .before .before in
+    let small : a .args .number < 10 ^ 20 = omega arith in
+    done (next (begin (decimal (a .args .number)) (a .args .room .now) (a .args .n) (a .pre .1)) (decimal-split (a .args .number) (c .before .before .before .before .before .before .before .before .if1 .left) small) (c .before .before .before .before .before .before .put-decimal .ensures)) (c .before .before .put-byte2 .ensures)
 
 pub +put-decimal-spec : {M : Type 1} → statement M
 +put-decimal-spec = close μ-put-decimal λ t. put-decimal-lts.spec (

@@ -1,5 +1,5 @@
 -- `put_bio` writes the line of a BIO.
-use mathlib.Core.Path.{_≡_, ap, _∙_}
+use mathlib.Core.Path.{ap, _∙_}
 use Prim.Native.Nat.{ℕ}
 use Rattle.text.specs.Lines.{lastOf}
 use Rattle.text.specs.Numerals.{letters}

@@ -34,7 +34,9 @@ loop-less : tie.Need-loop-less Inv-loop μ-loop
 loop-less c = search needs
 
 loop-again : tie.Need-loop-again Inv-loop μ-loop
-loop-again c = let l = c .before .before .before .before .before .before .loop .inv in (next-turn (l .0) (omega arith), next (l .1) (next-of eioLine (element (l .0) _ (omega arith))) (c .before .before .put-eio .ensures))
+loop-again c =
+    let l = c .before .before .before .before .before .before .loop .inv in
+    (next-turn (l .0) (omega arith), next (l .1) (next-of eioLine (element (l .0) _ (omega arith))) (c .before .before .put-eio .ensures))
 
 same-length : tie.Need-same-length Inv-loop μ-loop
 same-length c = c .before .loop .inv .1 .same

@@ -1,12 +1,6 @@
 -- `put_half` writes a line for a half with a mask.
-use mathlib.Core.Path.{_≡_, refl, sym}
-use mathlib.Core.List.{List, []}
-use Prim.Native.Nat.{ℕ, _+_}
 use native.Mathlib.Omega.{arith}
-use borrow.Author.Tests.{eq-eqb, ne-eqb}
-use Rattle.words.proofs.Choices.{yes-if, no-if}
 use Rattle.text.specs.Numerals.{letters}
-use Rattle.text.specs.Lines.{halfLine}
 use Rattle.text.proofs.ByCase.{half-unused, half-used}
 use borrow.Author.Needs.{needs}
 use Rattle.text.proofs.tell.put_half.Statement.{statement}

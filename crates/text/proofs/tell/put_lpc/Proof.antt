@@ -1,5 +1,4 @@
 -- `put_lpc` writes a line for an LPC behind a bridge.
-use mathlib.Core.Path.{_≡_}
 use native.Mathlib.Omega.{arith}
 use Rattle.text.specs.Numerals.{letters}
 use Rattle.text.proofs.ByCase.{lpc-alone, lpc-absent, lpc-present}
@@ -40,7 +39,9 @@ unfolding letters
 returns-2 c = rw (lpc-present (c .before .before .before .before .before .before .before .before .before .before .before .before .before .args .lpc) (c .before .before .before .before .before .before .before .before .before .before .bridge .given .1) (c .before .before .before .before .before .before .before .before .if1 .taken)) (c .before .before .put-line .ensures)
 
 returns-3 : tie.Need-returns-3
-returns-3 c = let e = lpc-absent (c .before .before .before .before .before .args .lpc) (c .before .before .bridge .given .1) (c .if1 .left) in (rw e (omega arith), rw e)
+returns-3 c =
+    let e = lpc-absent (c .before .before .before .before .before .args .lpc) (c .before .before .bridge .given .1) (c .if1 .left) in
+    (rw e (omega arith), rw e)
 
 pub put-lpc-spec : {M : Type 1} → statement M
 put-lpc-spec =

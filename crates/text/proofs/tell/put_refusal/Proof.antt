@@ -20,7 +20,9 @@ slice-aggregate-put-phrase-2 c = search needs
 
 put-phrase-requires : tie.Need-put-phrase-requires
 unfolding letters
-put-phrase-requires c κs = let a = c .before .before .before .before .before .before in ahead (begin (refusalLine (a .args .refusal)) (a .args .room .now) (a .args .n) (a .pre)) (refusal-split (a .args .refusal))
+put-phrase-requires c κs =
+    let a = c .before .before .before .before .before .before in
+    ahead (begin (refusalLine (a .args .refusal)) (a .args .room .now) (a .args .n) (a .pre)) (refusal-split (a .args .refusal))
 
 slice-aggregate-put-line : tie.Need-slice-aggregate-put-line
 slice-aggregate-put-line c = search needs
@@ -30,14 +32,18 @@ slice-aggregate-put-line-2 c = search needs
 
 put-line-requires : tie.Need-put-line-requires
 unfolding letters
-put-line-requires c κs = let a = c .before .before .before .before .before .before .before .before .before .before .before .before in next (begin (refusalLine (a .args .refusal)) (a .args .room .now) (a .args .n) (a .pre)) (refusal-split (a .args .refusal)) (c .before .before .before .before .before .put-phrase .ensures) .fits
+put-line-requires c κs =
+    let a = c .before .before .before .before .before .before .before .before .before .before .before .before in
+    next (begin (refusalLine (a .args .refusal)) (a .args .room .now) (a .args .n) (a .pre)) (refusal-split (a .args .refusal)) (c .before .before .before .before .before .put-phrase .ensures) .fits
 
 same-length : tie.Need-same-length
 same-length c = search needs
 
 returns : tie.Need-returns
 unfolding letters
-returns c = let a = c .before .before .before .before .before .before .before .before .before .before .before .before .before .before .before in done (next (begin (refusalLine (a .args .refusal)) (a .args .room .now) (a .args .n) (a .pre)) (refusal-split (a .args .refusal)) (c .before .before .before .before .before .before .before .before .put-phrase .ensures)) (c .before .before .put-line .ensures)
+returns c =
+    let a = c .before .before .before .before .before .before .before .before .before .before .before .before .before .before .before in
+    done (next (begin (refusalLine (a .args .refusal)) (a .args .room .now) (a .args .n) (a .pre)) (refusal-split (a .args .refusal)) (c .before .before .before .before .before .before .before .before .put-phrase .ensures)) (c .before .before .put-line .ensures)
 
 pub put-refusal-spec : {M : Type 1} → statement M
 put-refusal-spec =
