@@ -1,16 +1,18 @@
 #!/usr/bin/env python3
 """The cases that the program `vectors` runs: what is asked of which capture, and the answer that document 01 fixes.
 
-`boards/cases.py` writes crates/vectors/stdin (the questions), crates/vectors/stdout (the answers, one line each),
-boards/A.cap (board A) and crates/promises/specs/BoardA.antt (the same bytes as a list, and three neighbours);
-`boards/cases.py --check` says whether these files are what this page makes.
+`boards/cases.py` writes crates/vectors/stdin (the questions), crates/vectors/stdout (the answers, one line each), the boards of
+boards/printed.py with what is printed for each, board A as the case of the program `map`, and crates/promises/specs/BoardA.antt
+(board A and three neighbours as lists); `boards/cases.py --check` says whether these files are what these pages make.
 Labels begin with the point that they settle: a refusal number of document 01, or a rule in our words.
 """
 import pathlib
 import sys
 
+import listed
 from board import A, BASE, STRUCTURES_OF_A, bio, board, capture, core, eio, fadt, ht, image, lay, le, lio, lpc, madt, msi, rsdp
 from board import structure, summed, table
+from printed import PRINTED
 
 # The kinds of question that crates/vectors/src/main.rt knows.
 CHECK, RSDP, LOCATE, SURVEY, READ, ROUTE, TRACE, READ_BYTES = range(8)
@@ -458,52 +460,22 @@ for name, answer in [
     read_bytes("real, for C: " + name, real, answer, 2048)
 
 
-# Board A and its neighbours as lists of bytes, for the statement that proves document 01's twelve examples.
-
-
-def antt_list(data):
-    return " ∷ ".join([str(byte) for byte in data] + ["[]"])
-
-
-def antt_changes(data):
-    """A neighbour of board A by the bytes in which it differs."""
-    assert len(data) == len(A)
-    changes = "boardA"
-    for at in range(len(A)):
-        if data[at] != A[at]:
-            changes = f"(set {changes} {at} {data[at]})"
-    return changes[1:-1]
-
-
-PARTS_OF_A = [("container", "the container: header and one descriptor", 0), ("rsdpBytes", "RSDP", 30), ("xsdtBytes", "XSDT", 66),
-              ("madtHead", "MADT: header, address and flags", 118), ("core0", "CORE 0, 0, enabled", 162),
-              ("core1", "CORE 1, 1, enabled", 177), ("core2", "CORE 2, 2, disabled", 192),
-              ("lioBytes", "LIO, bytes 2 and 0, masks 0x00FFFFFF and 0", 207), ("eioBytes", "EIO, cascade 3, node 0, map 1", 230),
-              ("msiBytes", "MSI, start 64, count 192", 243), ("bioBytes", "BIO, hardware ID 0, base 64", 262),
-              ("lpcBytes", "LPC, cascade 19", 279), ("fadtBytes", "FADT, SCI 75", 294), (None, None, len(A))]
+# Board A's neighbours among document 01's twelve examples, which are proved from the boards' bytes.
 NEIGHBOURS = [("msiFrom63", "MSI start 63, count 193", put(MSI, msi(63, 193))), ("msiTo257", "MSI start 65, count 192", put(MSI, msi(65, 192))),
               ("eioAt2", "EIO cascade 2", put(EIO, eio(2, 0)))]
 
 
-def antt_boards():
-    lines = ["-- Document 01, \"Board A and its neighbours\", byte by byte: what boards/A.cap holds, and three neighbours with their sums",
-             "-- made good. boards/cases.py writes this file, and says whether it is what boards/A.cap holds.",
-             "use Prim.Native.Nat.{ℕ}", "use mathlib.Core.List.{List, [], _∷_, _++_}", "use lib.ListN.{set}"]
-    for (name, title, start), (_, _, end) in zip(PARTS_OF_A, PARTS_OF_A[1:]):
-        lines += ["", f"-- {title}", f"abbrev {name} : List ℕ", f"{name} = {antt_list(A[start:end])}"]
-    lines += ["", "unfoldable pub boardA : List ℕ", "boardA = " + " ++ ".join(name for name, _, _ in PARTS_OF_A[:-1])]
-    for name, title, data in NEIGHBOURS:
-        lines += ["", f"-- {title}", f"unfoldable pub {name} : List ℕ", f"unfolding boardA", f"{name} = {antt_changes(data)}"]
-    return "\n".join(lines) + "\n"
-
-
 ROOT = pathlib.Path(__file__).resolve().parent.parent
 FILES = {
-    "boards/A.cap": A,
-    "crates/promises/specs/BoardA.antt": antt_boards().encode(),
+    "crates/promises/specs/BoardA.antt": listed.boards(NEIGHBOURS).encode(),
+    "crates/map/stdin": PRINTED["A"][0],
+    "crates/map/stdout": PRINTED["A"][1].encode(),
     "crates/vectors/stdin": b"".join(question for question, _ in cases),
     "crates/vectors/stdout": "".join(line for _, line in cases).encode(),
 }
+for name, (data, text) in PRINTED.items():
+    FILES[f"boards/{name}.cap"] = data
+    FILES[f"boards/{name}.txt"] = text.encode()
 
 
 def main():

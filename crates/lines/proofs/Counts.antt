@@ -1,8 +1,12 @@
--- What rule 38 tells of the counts of a map.
-use Prim.Native.Nat.{ℕ, _≤_}
+-- What rule 38 tells of the counts of a map, and what a count past its array uses.
+use Prim.Native.Nat.{ℕ, _≤_, min}
 use mathlib.Core.Path.{_≡_, refl, sym, _∙_}
 use mathlib.Core.Bool.{Bool, true, false, not, _&&_, _||_, true≢false}
+use mathlib.Core.List.{List}
+use native.Mathlib.Omega.{arith, min-cases}
 use lib.Dec.{ltb}
+use lib.ListN.{length, take}
+use lib.Seq.{take-all}
 use borrow.Author.Tests.{ltb-false}
 use Rattle.words.specs.Choice.{if}
 use Rattle.kinds.specs.Ranges.{bitInBoth}
@@ -35,3 +39,10 @@ few-of-kept map h = go (tooMany map) refl
         (true≢false
         (sym (and-right (rangesKept (says map) && not (bitInBoth (says map .lio))) (isKept (firstBroken map slotPlaces 0 0)) h)
         ∙ many-broken map slotPlaces 0 0 e))
+
+-- a count that is cut to the array's length uses the same entries
+pub take-used : {A : Type 0} (array : List A) (count n : ℕ) → length array ≡ 4 → n ≡ min count 4 → take n array ≡ take count array
+take-used array count n held e =
+    min-cases count 4 (take n array ≡ take count array)
+    (λ few same. rw (e, same))
+    (λ many same. rw (e, same) (take-all 4 array (omega arith) ∙ sym (take-all count array (omega arith))))

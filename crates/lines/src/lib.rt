@@ -7,7 +7,7 @@ use kinds::Lpc;
 use kinds::Msi;
 use words::Refusal;
 
-mod routes; // where a global number arrives
+pub mod routes; // where a global number arrives
 mod traces; // what arrives at a core vector with a number
 mod quiet; // that a map breaks none of 41, 42 and 51 to 53, without a search
 mod rules; // 38 to 54: the first rule that a map breaks

@@ -1,6 +1,7 @@
 // Document 01, "Where a line arrives": owners, wired inputs, the LPC's bridge, and the arrival of a global number. Nothing
 // here asks whether the map keeps the rules: that is 61's, and comes first in every public call.
 use crate::Bridge;
+use crate::MOST;
 use crate::Map;
 use crate::Owner;
 use crate::Route;
@@ -8,7 +9,7 @@ use kinds::Bio;
 use kinds::Eio;
 use kinds::Lio;
 ghost use mathlib.Core.Path.{_≡_};
-ghost use Prim.Native.Nat.{_≤_};
+ghost use Prim.Native.Nat.{_≤_, min};
 ghost use lib.ListN.{take};
 ghost use Rattle.lines.specs.Says.{says};
 ghost use Rattle.lines.specs.Routes.{lioArrival, through, bridge, bioOwner, owner, pinArrival, arrival};
@@ -95,7 +96,27 @@ fn pin_arrival(eios: [Eio; 4], n: usize, bridge: Bridge, v: u32) -> Route
     eio_arrival(eios, n, b.node, v)
 }
 
+// How many entries of its array a count uses: one past the array uses all of it.
+pub fn used(count: u8) -> usize
+    ensures few { λ r. ⌜ r ≤ 4 ⌝ }
+    ensures { λ r. ⌜ r ≡ min count 4 ⌝ }
+{
+    if count < MOST {
+        count as usize
+    } else {
+        MOST as usize
+    }
+}
+
 impl Map {
+    // The bridge that the LPC stands behind.
+    pub fn bridge(self) -> Bridge
+        ensures { λ r. ⌜ r ≡ bridge (says self .bios) ⌝ }
+    {
+        let bios = self.bios;
+        lpc_bridge(bios, used(self.biocount))
+    }
+
     // Whose a global number is.
     pub(crate) fn owner(self, number: u32) -> Owner
         requires { ⌜ self .biocount ≤ 4 ⌝ }

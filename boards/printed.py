@@ -1,0 +1,137 @@
+"""Boards of our own, and what the map program must print for each: worked out by hand from document 01.
+
+`boards/cases.py` writes them as boards/NAME.cap and boards/NAME.txt; `boards/check` runs `./map` on them.
+"""
+from board import A, BASE, STRUCTURES_OF_A, bio, board, capture, core, eio, fadt, lay, le, lio, lpc, madt, msi, table
+
+EVERY_NODE = (1 << 64) - 1
+
+LIO, EIO, MSI, BIO, LPC = lio(2, 0, 0x00FFFFFF, 0), eio(3, 0), msi(64, 192), bio(0, 64), lpc(19)
+
+
+def refused_behind(padding):
+    """A MADT of revision 2 behind a table with `padding` bytes of body; the tables begin at place 126."""
+    tables = [table(b"SSDT", 1, bytes(padding)), madt(STRUCTURES_OF_A, revision=2), fadt()]
+    return capture([(BASE, lay(tables))])
+
+
+PRINTED = {
+    # document 01's example
+    "A": (A, """\
+map 1
+core 0 0
+core 1 1
+lio 2 16777215
+eio 0 3 1
+bio 0 64 127
+msi 64 255
+lpc 0 19
+sci 75 3 11
+"""),
+    # a line for each used half, low first; the SCI is input 16 of the LIO, in the high half
+    "two-halves": (board([core(0, 0), lio(9, 5, 0x0000FFFF, 0x00FF0000), EIO, MSI, BIO, LPC], 32), """\
+map 1
+core 0 0
+lio 9 65535
+lio 5 16711680
+eio 0 3 1
+bio 0 64 127
+msi 64 255
+lpc 0 19
+sci 32 5 16
+"""),
+    # byte 14 goes with the mask at 19; the low half is unused
+    "high-half": (board([core(0, 0), lio(7, 2, 0, 0xFFFFFFFF), EIO, MSI, BIO, LPC], 47), """\
+map 1
+core 0 0
+lio 2 4294967295
+eio 0 3 1
+bio 0 64 127
+msi 64 255
+lpc 0 19
+sci 47 2 31
+"""),
+    # both masks 0: no line, and the bytes are free
+    "no-half": (board([core(0, 0), lio(255, 255, 0, 0), EIO, MSI, BIO, LPC]), """\
+map 1
+core 0 0
+eio 0 3 1
+bio 0 64 127
+msi 64 255
+lpc 0 19
+sci 75 3 11
+"""),
+    # without a bridge every slot is free, and the SCI is a LIO input
+    "no-bridge": (board([core(0, 0), LIO, EIO, msi(0, 256)], 26), """\
+map 1
+core 0 0
+lio 2 16777215
+eio 0 3 1
+msi 0 255
+sci 26 2 10
+"""),
+    # no LPC and no MSI: neither has a line
+    "no-lpc-no-msi": (board([core(0, 0), LIO, EIO, BIO], 127), """\
+map 1
+core 0 0
+lio 2 16777215
+eio 0 3 1
+bio 0 64 127
+sci 127 3 63
+"""),
+    # kinds in the order of the document, each in table order; the LPC's bridge is the one of node 2, the smallest, and the SCI
+    # is an LPC line: input 63 of that bridge, on the EIO of node 2
+    "four-bridges": (board([
+        lpc(63), bio(7, 256), msi(200, 10), eio(9, 5), core(7, 70), bio(2, 128), eio(6, 7, 1 << 63), lio(2, 0, 0x80000001, 0),
+        core(3, 30, 0), msi(64, 1), bio(5, 64), eio(3, 3, 3), core(4294967295, 4294967294), eio(4, 2, 4), bio(3, 65472),
+        msi(255, 1), msi(100, 28),
+    ], 3), """\
+map 1
+core 7 70
+core 4294967295 4294967294
+lio 2 2147483649
+eio 5 9 1
+eio 7 6 9223372036854775808
+eio 3 3 3
+eio 2 4 4
+bio 7 256 319
+bio 2 128 191
+bio 5 64 127
+bio 3 65472 65535
+msi 200 209
+msi 64 64
+msi 255 255
+msi 100 127
+lpc 2 63
+sci 3 4 63
+"""),
+    # 20 digits
+    "every-node": (board([core(0, 0), LIO, eio(3, 0, EVERY_NODE), MSI, BIO, LPC]), """\
+map 1
+core 0 0
+lio 2 16777215
+eio 0 3 18446744073709551615
+bio 0 64 127
+msi 64 255
+lpc 0 19
+sci 75 3 11
+"""),
+    # as many processors as there can be, with numbers as long as they can be
+    "most-processors": (board([core(4294967295 - k, 1000000000 + k) for k in range(256)] + [LIO, EIO, MSI, BIO, LPC]),
+                        "map 1\n" + "".join(f"core {4294967295 - k} {1000000000 + k}\n" for k in range(256)) + """\
+lio 2 16777215
+eio 0 3 1
+bio 0 64 127
+msi 64 255
+lpc 0 19
+sci 75 3 11
+"""),
+    # refusals, with places of one digit to five
+    "empty": (b"", "refused 1 at 0\n"),
+    "refused-2-at-0": (b"tbc" + A[3:], "refused 2 at 0\n"),
+    "refused-3-at-0": (A[:3] + le(257, 2) + A[5:], "refused 3 at 0\n"),
+    "refused-6-at-18": (capture([((1 << 64) - 4, bytes(8))]), "refused 6 at 18\n"),
+    "refused-53-at-230": (board([core(0, 0), core(1, 1), core(2, 2, 0), LIO, eio(2, 0), MSI, BIO, LPC]), "refused 53 at 230\n"),
+    "refused-29-at-1162": (refused_behind(1000), "refused 29 at 1162\n"),
+    "refused-29-at-20162": (refused_behind(20000), "refused 29 at 20162\n"),
+}

@@ -1,0 +1,108 @@
+-- The text by the reading's answer, what an accepted reading tells of the processor list, and the room by its length.
+use mathlib.Core.Path.{_≡_, refl, sym, ap, _∙_}
+use mathlib.Core.Bool.{Bool, true, false}
+use mathlib.Core.List.{List, _++_}
+use Prim.Native.Nat.{ℕ, _+_, _*_, _≤_, _<_}
+use native.Mathlib.Nat.{zero-add}
+use native.Mathlib.Omega.{arith}
+use borrow.Author.Tests.{leb-true}
+use lib.ListN.{length, length-append, take, drop}
+use lib.Seq.{take-at, sets, sets-eq}
+use Rattle.words.specs.declared.Refusal.{Refusal}
+use Rattle.words.proofs.Choices.{yes-if, no-if}
+use Rattle.capture.specs.Fields.{version}
+use Rattle.capture.specs.declared.Verdict.{Verdict}
+use Rattle.capture.specs.declared.Verdict.the-variants as verdicts
+use Rattle.processors.specs.Listing.{processors, count, hasRoom, written, filled}
+use Rattle.processors.proofs.Filling.{twice-all, too-short, enough-room}
+use Rattle.reading.specs.Scan.{scan}
+use Rattle.reading.specs.Reading.{withoutMap, tableOf, readingOf, listAfter}
+use Rattle.reading.specs.declared.Answer.{Answer}
+use Rattle.reading.specs.declared.Answer.the-variants.{Read, Refused}
+use Rattle.reading.specs.declared.Reading.{Reading}
+use Rattle.reading.proofs.Laws.{reading-refused, reading-sound, answered-read, answered-60, list-sound}
+use Rattle.text.specs.Lines.{refusalLine}
+use Rattle.text.specs.Text.{mapText, lent, answerText, textOf, outcome}
+use Rattle.text.specs.declared.Written.the-variants.{Whole, NoRoom}
+
+-- one answer is not the other, and counts are told apart
+not-read : {refusal : Refusal} {n : ℕ} {X : Type 0} → _≡_ {A = Answer} (Refused refusal) (Read n) → X
+not-read e = absurd (let o : _≡_ {A = ℕ} 0 1 = cc in omega arith)
+
+same-count : {m n : ℕ} → _≡_ {A = Answer} (Read m) (Read n) → m ≡ n
+same-count e = cc
+
+-- what an accepted reading tells of the list that was lent to it
+pub record Listed (capture : List ℕ) (n : ℕ) : Type 0 where
+  pub few : 2 * n ≤ 512
+  pub inside : 2 * n ≤ length (listAfter capture lent)
+  pub front : take (2 * n) (listAfter capture lent) ≡ processors (tableOf capture)
+
+module _ (capture : List ℕ) where
+  pub text-refused : {refusal : Refusal} → readingOf capture lent .answer ≡ Refused refusal → textOf capture ≡ refusalLine refusal
+  unfolding textOf answerText
+  text-refused h = rw h
+
+  pub text-read : {n : ℕ} → readingOf capture lent .answer ≡ Read n
+      → textOf capture ≡ mapText (version capture) (processors (tableOf capture)) (readingOf capture lent .map)
+  unfolding textOf answerText
+  text-read h = rw h
+
+  written-list : {n : ℕ} → hasRoom (processors (tableOf capture)) lent ≡ true → count (tableOf capture) ≡ n
+      → listAfter capture lent ≡ filled (processors (tableOf capture)) lent → Listed capture n
+  unfolding hasRoom filled written
+  written-list {n} room e after =
+      let table = tableOf capture in
+      let entries = processors table in
+      let two = twice-all table in
+      let few = leb-true (length entries) 512 room in
+      let all : listAfter capture lent ≡ entries ++ drop (length entries) lent = after ∙ yes-if _ _ _ room in
+      let size = ap length all ∙ length-append entries (drop (length entries) lent) in
+      record {
+        few = omega arith;
+        inside = omega arith;
+        front = rw all (take-at entries (drop (length entries) lent) (2 * n) (omega arith));
+      }
+
+  by-room : {n : ℕ} (b : Bool) → hasRoom (processors (tableOf capture)) lent ≡ b → scan capture .verdict ≡ verdicts.Sound
+      → readingOf capture lent .answer ≡ Read n → Listed capture n
+  unfolding listAfter tableOf withoutMap
+  by-room true room sound h =
+      written-list room
+      (same-count (sym (ap (λ (r : Reading). r .answer) (reading-sound capture lent sound ∙ answered-read _ _ _ room)) ∙ h))
+      (list-sound capture lent _ sound)
+  by-room false room sound h =
+      not-read (sym (ap (λ (r : Reading). r .answer) (reading-sound capture lent sound ∙ answered-60 _ _ _ room)) ∙ h)
+
+  by-verdict : {n : ℕ} (v : Verdict) → scan capture .verdict ≡ v → readingOf capture lent .answer ≡ Read n → Listed capture n
+  unfolding withoutMap
+  by-verdict verdicts.Sound sound h = by-room (hasRoom (processors (tableOf capture)) lent) refl sound h
+  by-verdict (verdicts.Refused refusal) refused h =
+      not-read (sym (ap (λ (r : Reading). r .answer) (reading-refused capture lent refused)) ∙ h)
+
+  pub listed : {n : ℕ} → readingOf capture lent .answer ≡ Read n → Listed capture n
+  listed h = by-verdict (scan capture .verdict) refl h
+
+-- what is written of a map is the capture's text
+pub text-of-map : (capture : List ℕ) {n v : ℕ} {list : List ℕ} {reading : Reading} → reading ≡ readingOf capture lent
+    → list ≡ listAfter capture lent → v ≡ version capture → reading .answer ≡ Read n
+    → mapText v (take (2 * n) list) (reading .map) ≡ textOf capture
+text-of-map capture {n} e g w h =
+    let read : readingOf capture lent .answer ≡ Read n = rw e at h in
+    rw (e, g, w, listed capture read .front) (sym (text-read capture read))
+
+-- ---- a room that is too short, and one that has room
+module _ (text room : List ℕ) {n : ℕ} (e : n ≡ length text) where
+  pub no-room : length room < n → (NoRoom ≡ outcome text room) × (room ≡ filled text room)
+  unfolding outcome
+  no-room h =
+      let short = too-short text room (rw e at h) in
+      (sym (no-if _ _ _ (sym (short .0)) refl), short .1)
+
+  pub has-room : {room′ : List ℕ} → n ≤ length room → room′ ≡ sets room 0 text → (Whole n ≡ outcome text room) × (room′ ≡ filled text room)
+  unfolding outcome written
+  has-room h g =
+      let fits : length text ≤ length room = rw e at h in
+      let all : sets room 0 text ≡ text ++ drop (length text) room = rw zero-add at (sets-eq text room 0 (omega arith)) in
+      let enough = enough-room text room fits (g ∙ all) in
+      (ap Whole e ∙ sym (yes-if _ _ _ (sym (enough .0))), enough .1)

@@ -1,0 +1,5 @@
+pub mod Numerals
+pub mod Printing
+pub mod Bounds
+pub mod ByCase
+pub mod Answers

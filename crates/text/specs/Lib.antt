@@ -1,0 +1,3 @@
+pub mod Numerals
+pub mod Lines
+pub mod Text
