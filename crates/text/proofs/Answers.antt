@@ -16,7 +16,7 @@ use Rattle.capture.specs.declared.Verdict.the-variants as verdicts
 use Rattle.processors.specs.Listing.{processors, count, hasRoom, written, filled}
 use Rattle.processors.proofs.Filling.{twice-all, too-short, enough-room}
 use Rattle.reading.specs.Scan.{scan}
-use Rattle.reading.specs.Reading.{withoutMap, tableOf, readingOf, listAfter}
+use Rattle.reading.specs.Reading.{withoutMap, madtFound, readingOf, listAfter}
 use Rattle.reading.specs.declared.Answer.{Answer}
 use Rattle.reading.specs.declared.Answer.the-variants.{Read, Refused}
 use Rattle.reading.specs.declared.Reading.{Reading}
@@ -36,7 +36,7 @@ same-count e = cc
 pub record Listed (capture : List ℕ) (n : ℕ) : Type 0 where
   pub few : 2 * n ≤ 512
   pub inside : 2 * n ≤ length (listAfter capture lent)
-  pub front : take (2 * n) (listAfter capture lent) ≡ processors (tableOf capture)
+  pub front : take (2 * n) (listAfter capture lent) ≡ processors (madtFound capture)
 
 module _ (capture : List ℕ) where
   pub text-refused : {refusal : Refusal} → readingOf capture lent .answer ≡ Refused refusal → textOf capture ≡ refusalLine refusal
@@ -44,15 +44,15 @@ module _ (capture : List ℕ) where
   text-refused h = rw h
 
   pub text-read : {n : ℕ} → readingOf capture lent .answer ≡ Read n
-      → textOf capture ≡ mapText (version capture) (processors (tableOf capture)) (readingOf capture lent .map)
+      → textOf capture ≡ mapText (version capture) (processors (madtFound capture)) (readingOf capture lent .map)
   unfolding textOf answerText
   text-read h = rw h
 
-  written-list : {n : ℕ} → hasRoom (processors (tableOf capture)) lent ≡ true → count (tableOf capture) ≡ n
-      → listAfter capture lent ≡ filled (processors (tableOf capture)) lent → Listed capture n
+  written-list : {n : ℕ} → hasRoom (processors (madtFound capture)) lent ≡ true → count (madtFound capture) ≡ n
+      → listAfter capture lent ≡ filled (processors (madtFound capture)) lent → Listed capture n
   unfolding hasRoom filled written
   written-list {n} room e after =
-      let table = tableOf capture in
+      let table = madtFound capture in
       let entries = processors table in
       let two = twice-all table in
       let few = leb-true (length entries) 512 room in
@@ -64,9 +64,9 @@ module _ (capture : List ℕ) where
         front = rw all (take-at entries (drop (length entries) lent) (2 * n) (omega arith));
       }
 
-  by-room : {n : ℕ} (b : Bool) → hasRoom (processors (tableOf capture)) lent ≡ b → scan capture .verdict ≡ verdicts.Sound
+  by-room : {n : ℕ} (b : Bool) → hasRoom (processors (madtFound capture)) lent ≡ b → scan capture .verdict ≡ verdicts.Sound
       → readingOf capture lent .answer ≡ Read n → Listed capture n
-  unfolding listAfter tableOf withoutMap
+  unfolding listAfter madtFound withoutMap
   by-room true room sound h =
       written-list room
       (same-count (sym (ap (λ (r : Reading). r .answer) (reading-sound capture lent sound ∙ answered-read _ _ _ room)) ∙ h))
@@ -76,7 +76,7 @@ module _ (capture : List ℕ) where
 
   by-verdict : {n : ℕ} (v : Verdict) → scan capture .verdict ≡ v → readingOf capture lent .answer ≡ Read n → Listed capture n
   unfolding withoutMap
-  by-verdict verdicts.Sound sound h = by-room (hasRoom (processors (tableOf capture)) lent) refl sound h
+  by-verdict verdicts.Sound sound h = by-room (hasRoom (processors (madtFound capture)) lent) refl sound h
   by-verdict (verdicts.Refused refusal) refused h =
       not-read (sym (ap (λ (r : Reading). r .answer) (reading-refused capture lent refused)) ∙ h)
 

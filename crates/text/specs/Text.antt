@@ -9,7 +9,7 @@ use Rattle.lines.specs.Routes.{bridge}
 use Rattle.lines.specs.Answers.{routeOf}
 use Rattle.lines.specs.declared.Map.{Map}
 use Rattle.processors.specs.Listing.{processors, hasRoom}
-use Rattle.reading.specs.Reading.{tableOf, readingOf}
+use Rattle.reading.specs.Reading.{madtFound, readingOf}
 use Rattle.reading.specs.declared.Answer.{Answer}
 use Rattle.reading.specs.declared.Answer.the-variants.{Read, Refused}
 use Rattle.text.specs.Lines.{each, versionLine, coreLines, lioLines, eioLine, bioLine, msiLine, lpcLine, sciLine, refusalLine}
@@ -49,7 +49,7 @@ answerText (Refused refusal) text = refusalLine refusal
 unfoldable pub textOf : List ℕ → List ℕ
 textOf capture =
     answerText (readingOf capture lent .answer)
-    (mapText (version capture) (processors (tableOf capture)) (readingOf capture lent .map))
+    (mapText (version capture) (processors (madtFound capture)) (readingOf capture lent .map))
 
 -- the answer of the writing: how long the text is, or that the room is too short for it
 unfoldable pub outcome : List ℕ → List ℕ → Written
