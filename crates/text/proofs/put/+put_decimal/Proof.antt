@@ -80,7 +80,8 @@ put-decimal-put-decimal-requires : (t : ℕ) → put-decimal-lts.Need-put-decima
 put-decimal-put-decimal-requires t c κs =
     let a = c .before .before .before in
     let small : a .args .number < 10 ^ 20 = omega arith in
-    (search needs, ahead (begin (decimal (a .args .number)) (a .args .room .now) (a .args .n) (a .pre .1)) (decimal-split (a .args .number) (c .before .if1 .left) small))
+    let p = begin (decimal (a .args .number)) (a .args .room .now) (a .args .n) (a .pre .1) in
+    (search needs, ahead p (decimal-split (a .args .number) (c .before .if1 .left) small))
 
 put-decimal-cast-put-byte-2 : (t : ℕ) → put-decimal-lts.Need-cast-put-byte-2 (
   put-byte-reads.Asked,
@@ -107,7 +108,8 @@ put-decimal-put-byte-requires-2 : (t : ℕ) → put-decimal-lts.Need-put-byte-re
 put-decimal-put-byte-requires-2 t c κs =
     let a = c .before .before .before .before .before .before .before in
     let small : a .args .number < 10 ^ 20 = omega arith in
-    next (begin (decimal (a .args .number)) (a .args .room .now) (a .args .n) (a .pre .1)) (decimal-split (a .args .number) (c .before .before .before .before .before .if1 .left) small) (c .before .before .before .put-decimal .ensures) .fits
+    let p = begin (decimal (a .args .number)) (a .args .room .now) (a .args .n) (a .pre .1) in
+    next p (decimal-split (a .args .number) (c .before .before .before .before .before .if1 .left) small) (c .before .before .before .put-decimal .ensures) .fits
 
 put-decimal-same-length-2 : (t : ℕ) → put-decimal-lts.Need-same-length-2 (
   put-byte-reads.Asked,
@@ -126,7 +128,8 @@ put-decimal-returns-2 : (t : ℕ) → put-decimal-lts.Need-returns-2 (
 put-decimal-returns-2 t c =
     let a = c .before .before .before .before .before .before .before .before .before .before in
     let small : a .args .number < 10 ^ 20 = omega arith in
-    done (next (begin (decimal (a .args .number)) (a .args .room .now) (a .args .n) (a .pre .1)) (decimal-split (a .args .number) (c .before .before .before .before .before .before .before .before .if1 .left) small) (c .before .before .before .before .before .before .put-decimal .ensures)) (c .before .before .put-byte2 .ensures)
+    let p = begin (decimal (a .args .number)) (a .args .room .now) (a .args .n) (a .pre .1) in
+    done (next p (decimal-split (a .args .number) (c .before .before .before .before .before .before .before .before .if1 .left) small) (c .before .before .before .before .before .before .put-decimal .ensures)) (c .before .before .put-byte2 .ensures)
 
 pub +put-decimal-spec : {M : Type 1} → statement M
 +put-decimal-spec = close μ-put-decimal λ t. put-decimal-lts.spec (

@@ -8,12 +8,14 @@ use Rattle.text.proofs.put.put_field.Tie as tie
 put-byte-requires : tie.Need-put-byte-requires
 put-byte-requires c κs =
     let a = c .before .before in
-    ahead (begin (field (a .args .number)) (a .args .room .now) (a .args .n) (a .pre)) (field-split _)
+    let p = begin (field (a .args .number)) (a .args .room .now) (a .args .n) (a .pre) in
+    ahead p (field-split _)
 
 put-decimal-requires : tie.Need-put-decimal-requires
 put-decimal-requires c κs =
     let a = c .before .before .before .before .before .before in
-    next (begin (field (a .args .number)) (a .args .room .now) (a .args .n) (a .pre)) (field-split _) (c .before .before .before .put-byte .ensures) .fits
+    let p = begin (field (a .args .number)) (a .args .room .now) (a .args .n) (a .pre) in
+    next p (field-split _) (c .before .before .before .put-byte .ensures) .fits
 
 same-length : tie.Need-same-length
 same-length c = search needs
@@ -21,7 +23,8 @@ same-length c = search needs
 returns : tie.Need-returns
 returns c =
     let a = c .before .before .before .before .before .before .before .before .before in
-    done (next (begin (field (a .args .number)) (a .args .room .now) (a .args .n) (a .pre)) (field-split _) (c .before .before .before .before .before .before .put-byte .ensures)) (c .before .before .put-decimal .ensures)
+    let p = begin (field (a .args .number)) (a .args .room .now) (a .args .n) (a .pre) in
+    done (next p (field-split _) (c .before .before .before .before .before .before .put-byte .ensures)) (c .before .before .put-decimal .ensures)
 
 pub put-field-spec : {M : Type 1} → statement M
 put-field-spec = tie.close (tie.spec put-byte-requires put-decimal-requires same-length returns)

@@ -8,12 +8,14 @@ use Rattle.text.proofs.put.put_line.Tie as tie
 put-phrase-requires : tie.Need-put-phrase-requires
 put-phrase-requires c κs =
     let a = c .before .before .before .before in
-    ahead (begin (line (a .args .word .now) (a .args .numbers .now)) (a .args .room .now) (a .args .n) (a .pre)) (line-split _ _)
+    let p = begin (line (a .args .word .now) (a .args .numbers .now)) (a .args .room .now) (a .args .n) (a .pre) in
+    ahead p (line-split _ _)
 
 put-byte-requires : tie.Need-put-byte-requires
 put-byte-requires c κs =
     let a = c .before .before .before .before .before .before .before .before in
-    next (begin (line (a .args .word .now) (a .args .numbers .now)) (a .args .room .now) (a .args .n) (a .pre)) (line-split _ _) (c .before .before .before .put-phrase .ensures) .fits
+    let p = begin (line (a .args .word .now) (a .args .numbers .now)) (a .args .room .now) (a .args .n) (a .pre) in
+    next p (line-split _ _) (c .before .before .before .put-phrase .ensures) .fits
 
 same-length : tie.Need-same-length
 same-length c = search needs
@@ -21,7 +23,8 @@ same-length c = search needs
 returns : tie.Need-returns
 returns c =
     let a = c .before .before .before .before .before .before .before .before .before .before .before in
-    done (next (begin (line (a .args .word .now) (a .args .numbers .now)) (a .args .room .now) (a .args .n) (a .pre)) (line-split _ _) (c .before .before .before .before .before .before .put-phrase .ensures)) (c .before .before .put-byte .ensures)
+    let p = begin (line (a .args .word .now) (a .args .numbers .now)) (a .args .room .now) (a .args .n) (a .pre) in
+    done (next p (line-split _ _) (c .before .before .before .before .before .before .put-phrase .ensures)) (c .before .before .put-byte .ensures)
 
 pub put-line-spec : {M : Type 1} → statement M
 put-line-spec = tie.close (tie.spec put-phrase-requires put-byte-requires same-length returns)

@@ -22,7 +22,8 @@ put-phrase-requires : tie.Need-put-phrase-requires
 unfolding letters
 put-phrase-requires c κs =
     let a = c .before .before .before .before .before .before in
-    ahead (begin (refusalLine (a .args .refusal)) (a .args .room .now) (a .args .n) (a .pre)) (refusal-split (a .args .refusal))
+    let p = begin (refusalLine (a .args .refusal)) (a .args .room .now) (a .args .n) (a .pre) in
+    ahead p (refusal-split (a .args .refusal))
 
 slice-aggregate-put-line : tie.Need-slice-aggregate-put-line
 slice-aggregate-put-line c = search needs
@@ -34,7 +35,8 @@ put-line-requires : tie.Need-put-line-requires
 unfolding letters
 put-line-requires c κs =
     let a = c .before .before .before .before .before .before .before .before .before .before .before .before in
-    next (begin (refusalLine (a .args .refusal)) (a .args .room .now) (a .args .n) (a .pre)) (refusal-split (a .args .refusal)) (c .before .before .before .before .before .put-phrase .ensures) .fits
+    let p = begin (refusalLine (a .args .refusal)) (a .args .room .now) (a .args .n) (a .pre) in
+    next p (refusal-split (a .args .refusal)) (c .before .before .before .before .before .put-phrase .ensures) .fits
 
 same-length : tie.Need-same-length
 same-length c = search needs
@@ -43,7 +45,8 @@ returns : tie.Need-returns
 unfolding letters
 returns c =
     let a = c .before .before .before .before .before .before .before .before .before .before .before .before .before .before .before in
-    done (next (begin (refusalLine (a .args .refusal)) (a .args .room .now) (a .args .n) (a .pre)) (refusal-split (a .args .refusal)) (c .before .before .before .before .before .before .before .before .put-phrase .ensures)) (c .before .before .put-line .ensures)
+    let p = begin (refusalLine (a .args .refusal)) (a .args .room .now) (a .args .n) (a .pre) in
+    done (next p (refusal-split (a .args .refusal)) (c .before .before .before .before .before .before .before .before .put-phrase .ensures)) (c .before .before .put-line .ensures)
 
 pub put-refusal-spec : {M : Type 1} → statement M
 put-refusal-spec =
