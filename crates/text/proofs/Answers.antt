@@ -5,7 +5,7 @@ use mathlib.Core.List.{List, _++_}
 use Prim.Native.Nat.{ℕ, _+_, _*_, _≤_, _<_}
 use native.Mathlib.Nat.{zero-add}
 use native.Mathlib.Omega.{arith}
-use borrow.Author.Tests.{leb-true}
+use borrow.Author.Tests.{leb-true, le-leb, lt-leb}
 use lib.ListN.{length, length-append, take, drop}
 use lib.Seq.{take-at, sets, sets-eq}
 use Rattle.words.specs.declared.Refusal.{Refusal}
@@ -94,15 +94,14 @@ text-of-map capture {n} e g w h =
 -- ---- a room that is too short, and one that has room
 module _ (text room : List ℕ) {n : ℕ} (e : n ≡ length text) where
   pub no-room : length room < n → (NoRoom ≡ outcome text room) × (room ≡ filled text room)
-  unfolding outcome
+  unfolding outcome hasRoom
   no-room h =
-      let short = too-short text room (rw e at h) in
-      (sym (no-if _ _ _ (sym (short .0)) refl), short .1)
+      let less : length room < length text = rw e at h in
+      (sym (no-if _ _ _ (lt-leb (length text) (length room) less) refl), too-short text room n less .1)
 
   pub has-room : {room′ : List ℕ} → n ≤ length room → room′ ≡ sets room 0 text → (Whole n ≡ outcome text room) × (room′ ≡ filled text room)
-  unfolding outcome written
+  unfolding outcome hasRoom written
   has-room h g =
       let fits : length text ≤ length room = rw e at h in
       let all : sets room 0 text ≡ text ++ drop (length text) room = rw zero-add at (sets-eq text room 0 (omega arith)) in
-      let enough = enough-room text room fits (g ∙ all) in
-      (ap Whole e ∙ sym (yes-if _ _ _ (sym (enough .0))), enough .1)
+      (ap Whole e ∙ sym (yes-if _ _ _ (le-leb (length text) (length room) fits)), enough-room text room n fits refl (g ∙ all) .1)
