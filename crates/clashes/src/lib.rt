@@ -139,10 +139,10 @@ pub fn are_apart(x: Claim, y: Claim) -> bool
     !(node | number | vector | core)
 }
 
-// ---- the search, by places
+// ---- the search, by places; its steps are public, for a search of claims that are in no list
 
 // The earlier of two places.
-fn sooner_of(best: Spot, place: u32) -> Spot
+pub fn sooner_of(best: Spot, place: u32) -> Spot
     ensures { λ r. ⌜ r ≡ sooner best place ⌝ }
 {
     let Spot::At(q) = best else {
@@ -156,7 +156,7 @@ fn sooner_of(best: Spot, place: u32) -> Spot
 }
 
 // One claim more as a partner of x: it must stand before x, and the earliest counts.
-fn nearer_of(rule: u8, x: Claim, best: Spot, y: Claim) -> Spot
+pub fn nearer_of(rule: u8, x: Claim, best: Spot, y: Claim) -> Spot
     ensures { λ r. ⌜ r ≡ nearer rule x best y ⌝ }
 {
     if (y.place < x.place) & clashing(rule, x, y) {
@@ -181,7 +181,7 @@ fn partner_of(all: [Claim; 13], n: usize, rule: u8, x: Claim) -> Spot
 }
 
 // One structure more that has a partner: the first in the table counts.
-fn better_of(best: Pair, place: u32, with: Spot) -> Pair
+pub fn better_of(best: Pair, place: u32, with: Spot) -> Pair
     ensures { λ r. ⌜ r ≡ better best place with ⌝ }
 {
     let Spot::At(q) = with else {
