@@ -1,14 +1,11 @@
 // What each controller of a map claims for itself, and which claims clash: the rules 41, 42 and 51 to 53 of document 01.
 // A claim says nothing of its kind: what a structure does not claim is empty, and what is empty clashes with nothing.
-// Each rule is one test of two claims, and one search finds the structure to be named and its earliest partner.
+// Each rule is one test of two claims, and one search finds the structure to be named and its earliest partner; its steps are
+// here, and whoever has the claims goes through them.
 ghost use mathlib.Core.Path.{_≡_};
-ghost use mathlib.Core.List.{[], _∷_, _++_};
-ghost use Prim.Native.Nat.{_<_, _≤_, _+_};
-ghost use lib.ListN.{take};
-ghost use Rattle.clashes.specs.Claims.{room, listed, pushed};
-ghost use Rattle.clashes.specs.Rules.{meet, repeatsNode, sharesNumber, sharesVector, sharesCore, clash, noEio};
+ghost use Rattle.clashes.specs.Rules.{meet, repeatsNode, sharesNumber, sharesVector, sharesCore, clash};
 ghost use Rattle.clashes.specs.Apart.{apart};
-ghost use Rattle.clashes.specs.Search.{sooner, nearer, partner, better, firstClash, lonelier, firstLone};
+ghost use Rattle.clashes.specs.Search.{sooner, nearer, better};
 
 // Numbers one after the other: the first, and how many. None at all is 0, 0.
 pub struct Run {
@@ -29,12 +26,6 @@ pub struct Claim {
     pub high: u8,
 }
 
-// The claims of a map: its LIO, and at most four of each of EIO, BIO and MSI.
-pub struct Claims {
-    pub count: usize,
-    pub all: [Claim; 13],
-}
-
 // The place of a structure, if there is one.
 pub enum Spot {
     At(u32),
@@ -52,24 +43,6 @@ pub const NO_NODE: u16 = 65535;
 
 // `hub` of a claim that is on every EIO: it names none.
 pub const EVERY_EIO: u16 = NO_NODE;
-
-// How many claims there is room for.
-pub const ROOM: usize = 13;
-
-// One claim more, while there is room.
-pub fn push(claims: Claims, x: Claim) -> Claims
-    ensures exact { λ r. ⌜ r ≡ pushed claims x ⌝ }
-    ensures more { λ r. ⌜ (claims .count < room → (listed r ≡ listed claims ++ (x ∷ [])) × (r .count ≡ claims .count + 1)) ⌝ }
-{
-    let mut r = claims;
-    let n = r.count;
-    if ROOM <= n {
-        return r;
-    }
-    r.all[n] = x;
-    r.count = n + 1;
-    r
-}
 
 // ---- the rules, each a test of two claims
 
@@ -139,10 +112,10 @@ pub fn are_apart(x: Claim, y: Claim) -> bool
     !(node | number | vector | core)
 }
 
-// ---- the search, by places
+// ---- the steps of a search, by places
 
 // The earlier of two places.
-fn sooner_of(best: Spot, place: u32) -> Spot
+pub fn sooner_of(best: Spot, place: u32) -> Spot
     ensures { λ r. ⌜ r ≡ sooner best place ⌝ }
 {
     let Spot::At(q) = best else {
@@ -156,7 +129,7 @@ fn sooner_of(best: Spot, place: u32) -> Spot
 }
 
 // One claim more as a partner of x: it must stand before x, and the earliest counts.
-fn nearer_of(rule: u8, x: Claim, best: Spot, y: Claim) -> Spot
+pub fn nearer_of(rule: u8, x: Claim, best: Spot, y: Claim) -> Spot
     ensures { λ r. ⌜ r ≡ nearer rule x best y ⌝ }
 {
     if (y.place < x.place) & clashing(rule, x, y) {
@@ -165,23 +138,8 @@ fn nearer_of(rule: u8, x: Claim, best: Spot, y: Claim) -> Spot
     best
 }
 
-// The earliest structure before x that x clashes with.
-fn partner_of(all: [Claim; 13], n: usize, rule: u8, x: Claim) -> Spot
-    requires { ⌜ n ≤ room ⌝ }
-    ensures { λ r. ⌜ r ≡ partner rule x (take n all) ⌝ }
-{
-    let mut best = Spot::Nowhere;
-    let mut i = 0;
-    while i < n {
-        let y = all[i];
-        best = nearer_of(rule, x, best, y);
-        i += 1;
-    }
-    best
-}
-
 // One structure more that has a partner: the first in the table counts.
-fn better_of(best: Pair, place: u32, with: Spot) -> Pair
+pub fn better_of(best: Pair, place: u32, with: Spot) -> Pair
     ensures { λ r. ⌜ r ≡ better best place with ⌝ }
 {
     let Spot::At(q) = with else {
@@ -194,75 +152,5 @@ fn better_of(best: Pair, place: u32, with: Spot) -> Pair
         Pair::Two(place, q)
     } else {
         Pair::Two(o, w)
-    }
-}
-
-// The first structure of the table that clashes with an earlier one by a rule, and the earliest that it clashes with.
-pub fn first_clash(claims: Claims, rule: u8) -> Pair
-    ensures { λ r. ⌜ r ≡ firstClash rule (listed claims) ⌝ }
-{
-    let all = claims.all;
-    let n = counted(claims);
-    let mut best = Pair::None;
-    let mut i = 0;
-    while i < n {
-        let x = all[i];
-        best = better_of(best, x.place, partner_of(all, n, rule, x));
-        i += 1;
-    }
-    best
-}
-
-// 42: whether no claim is that of the EIO of a node.
-fn no_eio(all: [Claim; 13], n: usize, node: u16) -> bool
-    requires { ⌜ n ≤ room ⌝ }
-    ensures { λ r. ⌜ r ≡ noEio node (take n all) ⌝ }
-{
-    let mut none = true;
-    let mut i = 0;
-    while i < n {
-        let y = all[i];
-        none = none & (y.node != node);
-        i += 1;
-    }
-    none
-}
-
-// One structure more whose hub has no EIO: the first in the table counts.
-fn lonelier_of(all: [Claim; 13], n: usize, best: Spot, x: Claim) -> Spot
-    requires { ⌜ n ≤ room ⌝ }
-    ensures { λ r. ⌜ r ≡ lonelier (take n all) best x ⌝ }
-{
-    if (x.hub != NO_NODE) & no_eio(all, n, x.hub) {
-        return sooner_of(best, x.place);
-    }
-    best
-}
-
-// The first structure of the table whose hub is a node without an EIO.
-pub fn first_lone(claims: Claims) -> Spot
-    ensures { λ r. ⌜ r ≡ firstLone (listed claims) ⌝ }
-{
-    let all = claims.all;
-    let n = counted(claims);
-    let mut best = Spot::Nowhere;
-    let mut i = 0;
-    while i < n {
-        let x = all[i];
-        best = lonelier_of(all, n, best, x);
-        i += 1;
-    }
-    best
-}
-
-// How many claims are listed, at most all that there is room for.
-fn counted(claims: Claims) -> usize
-    ensures room { λ r. ⌜ r ≤ room ⌝ }
-    ensures all { λ r. ⌜ take r (claims .all) ≡ listed claims ⌝ }
-{
-    if claims.count < ROOM {
-        claims.count
-    } else {
-        ROOM
     }
 }

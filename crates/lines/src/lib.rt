@@ -10,6 +10,7 @@ use words::Refusal;
 pub mod routes; // where a global number arrives
 mod traces; // what arrives at a core vector with a number
 mod quiet; // that a map breaks none of 41, 42 and 51 to 53, without a search
+mod search; // where two structures clash, or one stands alone
 mod rules; // 38 to 54: the first rule that a map breaks
 mod asked; // 61, and the two questions
 pub mod codes; // answers as plain numbers

@@ -8,71 +8,12 @@ use crate::Places;
 use crate::Route;
 use crate::Verdict;
 use crate::routes::lpc_bridge;
-use clashes::Claims;
 use clashes::Pair;
 use clashes::Spot;
-use kinds::Bio;
-use kinds::Eio;
-use kinds::Msi;
 ghost use mathlib.Core.Path.{_≡_};
-ghost use mathlib.Core.List.{_++_};
-ghost use Prim.Native.Nat.{_≤_, _+_};
-ghost use lib.ListN.{take};
-ghost use Rattle.clashes.specs.Claims.{listed};
+ghost use Prim.Native.Nat.{_≤_};
 ghost use Rattle.lines.specs.Says.{says};
-ghost use Rattle.parts.specs.Claims.{eioClaim, bioClaim, msiClaim};
-ghost use Rattle.lines.specs.Claims.{placed, claims};
-ghost use Rattle.lines.specs.Rules.{broken, check, alone, both, spotted, noBridge, tooMany, rule40, rule41, rule42, rule43, ruleClash, rule54, orElse, isKept, verdictsFrom40, lowest, firstBroken, slotPlaces};
-
-// ---- what all structures claim
-
-// The claims of the EIO, behind those so far.
-fn add_eios(sofar: Claims, eios: [Eio; 4], n: usize, places: [u32; 4]) -> Claims
-    requires { ⌜ (n ≤ 4) × (sofar .count + n ≤ 13) ⌝ }
-    ensures { λ r. ⌜ (listed r ≡ listed sofar ++ placed eioClaim (take n eios) places) × (r .count ≡ sofar .count + n) ⌝ }
-{
-    let mut r = sofar;
-    let mut i = 0;
-    while i < n {
-        let e = eios[i];
-        let p = places[i];
-        r = clashes::push(r, parts::eio_claim(e, p));
-        i += 1;
-    }
-    r
-}
-
-// The claims of the BIO, behind those so far.
-fn add_bios(sofar: Claims, bios: [Bio; 4], n: usize, places: [u32; 4]) -> Claims
-    requires { ⌜ (n ≤ 4) × (sofar .count + n ≤ 13) ⌝ }
-    ensures { λ r. ⌜ (listed r ≡ listed sofar ++ placed bioClaim (take n bios) places) × (r .count ≡ sofar .count + n) ⌝ }
-{
-    let mut r = sofar;
-    let mut i = 0;
-    while i < n {
-        let b = bios[i];
-        let p = places[i];
-        r = clashes::push(r, parts::bio_claim(b, p));
-        i += 1;
-    }
-    r
-}
-
-// The claims of the MSI, behind those so far.
-fn add_msis(sofar: Claims, msis: [Msi; 4], n: usize, places: [u32; 4]) -> Claims
-    requires { ⌜ (n ≤ 4) × (sofar .count + n ≤ 13) ⌝ }
-    ensures { λ r. ⌜ (listed r ≡ listed sofar ++ placed msiClaim (take n msis) places) × (r .count ≡ sofar .count + n) ⌝ }
-{
-    let mut r = sofar;
-    let mut i = 0;
-    while i < n {
-        let m = msis[i];
-        let p = places[i];
-        r = clashes::push(r, parts::msi_claim(m, p));
-        i += 1;
-    }
-    r
-}
+ghost use Rattle.lines.specs.Rules.{broken, check, alone, both, spotted, noBridge, tooMany, rule40, rule43, rule54, orElse, isKept, verdictsFrom40, lowest, firstBroken, slotPlaces};
 
 // ---- verdicts
 
@@ -157,27 +98,6 @@ fn lacks_bridge(present: bool, bridge: Bridge) -> bool
     false
 }
 
-// 41: EIO repeats an earlier node.
-fn rule_41(all: Claims) -> Verdict
-    ensures { λ r. ⌜ r ≡ rule41 (listed all) ⌝ }
-{
-    alone_of(41, clashes::first_clash(all, 41))
-}
-
-// 42: BIO without an EIO of its node.
-fn rule_42(all: Claims) -> Verdict
-    ensures { λ r. ⌜ r ≡ rule42 (listed all) ⌝ }
-{
-    spot_verdict(42, clashes::first_lone(all))
-}
-
-// 51, 52 and 53: two sources, or two controllers, share what they may not.
-fn rule_clash(number: u8, all: Claims) -> Verdict
-    ensures { λ r. ⌜ r ≡ ruleClash number (listed all) ⌝ }
-{
-    both_of(number, clashes::first_clash(all, number))
-}
-
 // Places for a map that comes with none.
 pub(crate) fn slot_places() -> Places
     ensures { λ r. ⌜ r ≡ slotPlaces ⌝ }
@@ -200,27 +120,6 @@ impl Map {
         ensures { λ r. ⌜ r ≡ tooMany self ⌝ }
     {
         (MOST < self.eiocount) | (MOST < self.biocount) | (MOST < self.msicount)
-    }
-
-    // What all structures claim.
-    fn claims_of(self, places: Places) -> Claims
-        requires { ⌜ (self .eiocount ≤ 4) × (self .biocount ≤ 4) × (self .msicount ≤ 4) ⌝ }
-        ensures { λ r. ⌜ listed r ≡ claims (says self) places ⌝ }
-    {
-        let eios = self.eios;
-        let bios = self.bios;
-        let msis = self.msis;
-        let eplaces = places.eios;
-        let bplaces = places.bios;
-        let mplaces = places.msis;
-        let lio = parts::lio_claim(kinds::said_lio(self.lio), places.lio);
-        let one = Claims {
-            count: 1,
-            all: [lio; 13],
-        };
-        let two = add_eios(one, eios, self.eiocount as usize, eplaces);
-        let three = add_bios(two, bios, self.biocount as usize, bplaces);
-        add_msis(three, msis, self.msicount as usize, mplaces)
     }
 
     // 40: no LIO or no EIO. (No enabled CORE is the reading's.)
@@ -267,19 +166,18 @@ impl Map {
         or_else(self.rule_40(madt), from43)
     }
 
-    // The first broken rule from 40 on, by the search of all claims.
+    // The first broken rule from 40 on, by a search of all claims.
     fn first_by_search(self, places: Places, madt: u32, fadt: u32) -> Verdict
         requires { ⌜ (self .eiocount ≤ 4) × (self .biocount ≤ 4) × (self .msicount ≤ 4) ⌝ }
         ensures { λ r. ⌜ r ≡ lowest (verdictsFrom40 (says self) places madt fadt) ⌝ }
     {
-        let all = self.claims_of(places);
         let from54 = self.rule_54(fadt);
-        let from53 = or_else(rule_clash(53, all), from54);
-        let from52 = or_else(rule_clash(52, all), from53);
-        let from51 = or_else(rule_clash(51, all), from52);
+        let from53 = or_else(both_of(53, self.first_clash(places, 53)), from54);
+        let from52 = or_else(both_of(52, self.first_clash(places, 52)), from53);
+        let from51 = or_else(both_of(51, self.first_clash(places, 51)), from52);
         let from43 = or_else(self.rule_43(places.lpc), from51);
-        let from42 = or_else(rule_42(all), from43);
-        let from41 = or_else(rule_41(all), from42);
+        let from42 = or_else(spot_verdict(42, self.first_lone(places)), from43);
+        let from41 = or_else(alone_of(41, self.first_clash(places, 41)), from42);
         or_else(self.rule_40(madt), from41)
     }
 

@@ -18,7 +18,6 @@ use Rattle.tables.specs.Xsdt.{xsdtSignature, revision, notXsdt, wrongXsdtRevisi
 use Rattle.kinds.specs.Makers.{coreOf, lioOf, htOf, eioOf, msiOf, bioOf, lpcOf}
 use Rattle.kinds.specs.Ranges.{lioField, eioField, msiField, bioField, lpcField}
 use Rattle.kinds.specs.Used.{usedHalf, saidLio, saidLpc}
-use Rattle.clashes.specs.Claims.{pushed}
 use Rattle.clashes.specs.Folds.{fold}
 use Rattle.clashes.specs.Rules.{clash}
 use Rattle.clashes.specs.Search.{sooner, nearer, partner, better, firstClash, lonelier, firstLone}
@@ -44,7 +43,7 @@ use Rattle.promises.specs.Examples.{told, twelve, TwelveExamples, BoardA
 
 -- the scan, with all that it and the answers are computed by
 unfoldable computed : List ℕ → Scan
-unfolding if first every fold numberAt spelled total byteSum numbersFrom numbersBelow version segmentCount totalLength rsdpAddress headerSize descriptor descriptorsEnd segmentAddress segmentLength segments lengths segmentPlace holds placeIn located presentOr10 rsdpPresence afterVerdict rsdp wrongSize wrongMark wrongVersion wrongCount wrongTotal emptySegment endsPastMemory endBefore startsEarly segmentBroken segmentRules verdict isSigned names namedFrom firstNamed namedAfter secondNamed rsdPtr wrongSignature wrongRevision wrongLength wrongSums rsdpRules xsdtField structureLength brokenAt stepAt apic facp isNowhere earlier secondRule nameRules wrongMadtRevision wrongFlags bodyRules sciNumber tableOf tableNamed tableOfEntry madtOf fadtOf after ofTables ofNames ofXsdt ofRsdp survey addressAt signature tableLength isPresent cutShort wrongSum tableFound tableAt xsdtSignature revision notXsdt wrongXsdtRevision entryCount wrongBody xsdtRules entryField entries isRefused refusalOf entryRules coreOf lioOf htOf eioOf msiOf bioOf lpcOf lioField eioField msiField bioField lpcField usedHalf saidLio saidLpc pushed clash sooner nearer partner better firstClash lonelier firstLone hasBit lesser hasPin routeOf traceOf placed claims lioArrival through bridge pinArrival bioOwner owner arrivalOf arrival check alone both spotted eiosFit biosFit msisFit rangesKept noBridge lost orElse lowest verdictsFrom40 firstBroken isKept keepsRules slotTold isBridge isLpcPin pinTold landed eioTraced traced noMap noPlaces nothing withCore withLio withEio withMsi withBio withLpc pieceAt piecesFrom pieces sizeOf sizeAt isType coreFault rangeFault lioFault counted judged taking takeCore takeLio takeHt takeEio takeMsi takeBio takeLpc takeOne turnedAway afterTaking walk walked isEnabledCore entriesOf entriesIn processors countOf countIn count hasRoom written filled twins earlierTwin hasTwin repeats spot firstRepeat withoutMap answered afterScan madtFound readingOf listFrom listAfter madtBytes emptyMap turnedDown repeatRule processorRule mapRule inTurn rulesAfterWalk scanJudged afterWalk afterSurvey scan
+unfolding if first every fold numberAt spelled total byteSum numbersFrom numbersBelow version segmentCount totalLength rsdpAddress headerSize descriptor descriptorsEnd segmentAddress segmentLength segments lengths segmentPlace holds placeIn located presentOr10 rsdpPresence afterVerdict rsdp wrongSize wrongMark wrongVersion wrongCount wrongTotal emptySegment endsPastMemory endBefore startsEarly segmentBroken segmentRules verdict isSigned names namedFrom firstNamed namedAfter secondNamed rsdPtr wrongSignature wrongRevision wrongLength wrongSums rsdpRules xsdtField structureLength brokenAt stepAt apic facp isNowhere earlier secondRule nameRules wrongMadtRevision wrongFlags bodyRules sciNumber tableOf tableNamed tableOfEntry madtOf fadtOf after ofTables ofNames ofXsdt ofRsdp survey addressAt signature tableLength isPresent cutShort wrongSum tableFound tableAt xsdtSignature revision notXsdt wrongXsdtRevision entryCount wrongBody xsdtRules entryField entries isRefused refusalOf entryRules coreOf lioOf htOf eioOf msiOf bioOf lpcOf lioField eioField msiField bioField lpcField usedHalf saidLio saidLpc clash sooner nearer partner better firstClash lonelier firstLone hasBit lesser hasPin routeOf traceOf placed claims lioArrival through bridge pinArrival bioOwner owner arrivalOf arrival check alone both spotted eiosFit biosFit msisFit rangesKept noBridge lost orElse lowest verdictsFrom40 firstBroken isKept keepsRules slotTold isBridge isLpcPin pinTold landed eioTraced traced noMap noPlaces nothing withCore withLio withEio withMsi withBio withLpc pieceAt piecesFrom pieces sizeOf sizeAt isType coreFault rangeFault lioFault counted judged taking takeCore takeLio takeHt takeEio takeMsi takeBio takeLpc takeOne turnedAway afterTaking walk walked isEnabledCore entriesOf entriesIn processors countOf countIn count hasRoom written filled twins earlierTwin hasTwin repeats spot firstRepeat withoutMap answered afterScan madtFound readingOf listFrom listAfter madtBytes emptyMap turnedDown repeatRule processorRule mapRule inTurn rulesAfterWalk scanJudged afterWalk afterSurvey scan
 computed capture = scan capture
 
 -- THE PROMISES

@@ -1,9 +1,9 @@
--- `clashes::lonelier_of` counts a claim whose hub has no EIO.
+-- `Map::lonelier_of` counts a claim whose hub has no EIO.
 use borrow.Author.Needs.{needs}
 use Rattle.words.specs.Choice.{if}
 use Rattle.clashes.specs.Search.{lonelier}
-use Rattle.clashes.proofs.lonelier_of.Statement.{statement}
-use Rattle.clashes.proofs.lonelier_of.Tie as tie
+use Rattle.lines.proofs.Map.lonelier_of.Statement.{statement}
+use Rattle.lines.proofs.Map.lonelier_of.Tie as tie
 
 no-eio-requires : tie.Need-no-eio-requires
 no-eio-requires c κs = search needs
