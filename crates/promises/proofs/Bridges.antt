@@ -15,7 +15,7 @@ use Rattle.clashes.specs.Folds.{fold}
 use Rattle.parts.specs.Inputs.{lesser}
 use Rattle.lines.specs.Routes.{bridge}
 use Rattle.lines.specs.declared.Bridge.the-variants.{Is}
-use Rattle.promises.specs.Sources.{noBio}
+use Rattle.madt.specs.Adding.{noBio}
 
 -- the lesser of two is one of them, and no larger than either
 lesser-one : (b c : Bio) → (lesser b c ≡ b) ⊎ (lesser b c ≡ c)

@@ -20,7 +20,7 @@ use Rattle.lines.specs.Says.{Said}
 use Rattle.lines.specs.Claims.{placed, claims}
 use Rattle.lines.specs.Rules.{slotPlaces}
 use Rattle.lines.specs.declared.Places.{Places}
-use Rattle.promises.specs.Sources.{noEio, noBio, noMsi}
+use Rattle.madt.specs.Adding.{noEio, noBio, noMsi}
 use Rattle.promises.specs.Structures.{Structure, lio, eio, bio, msi, IsIn, placeOf, claimOf, Placed, Meet}
 use Rattle.promises.proofs.Logic.{is-bool, order}
 use Rattle.promises.proofs.Members.{each-or-one, placed-at, placed-of}

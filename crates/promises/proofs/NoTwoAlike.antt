@@ -15,7 +15,8 @@ use Rattle.lines.specs.Routes.{lioArrival, through}
 use Rattle.lines.specs.Rules.{keepsRules}
 use Rattle.lines.specs.declared.Map.{Map}
 use Rattle.lines.specs.declared.Route.the-variants.{Arrives, NoOwner, Unwired}
-use Rattle.promises.specs.Sources.{Source, input, pin, slot, noEio, eioAt, bioAt, IsSource, arrives}
+use Rattle.madt.specs.Adding.{noEio}
+use Rattle.promises.specs.Sources.{Source, input, pin, slot, eioAt, bioAt, IsSource, arrives}
 use Rattle.promises.specs.Statements.{NoTwoAlike}
 use Rattle.promises.proofs.Kept.{Good, good, eio-node, eio-core, eio-not-low, eio-not-high, bio-node, bio-msi, msi-slot}
 use Rattle.promises.proofs.Members.{finds}

@@ -20,7 +20,7 @@ use Rattle.kinds.specs.declared.Msi.{Msi}
 use Rattle.kinds.specs.declared.Lpc.{Lpc}
 use Rattle.lines.specs.Says.{Said}
 use Rattle.lines.specs.declared.Map.{Map}
-use Rattle.promises.specs.Sources.{noEio, noBio, noMsi}
+use Rattle.madt.specs.Adding.{noEio, noBio, noMsi}
 use Rattle.promises.specs.Captures.{NormalMapsEqual}
 use Rattle.promises.proofs.Logic.{order}
 

@@ -18,7 +18,8 @@ use Rattle.kinds.specs.declared.Lpc.{Lpc}
 use Rattle.clashes.proofs.Logic.{and-left, and-right}
 use Rattle.lines.specs.Says.{Said}
 use Rattle.lines.specs.Rules.{eiosFit, biosFit, msisFit, rangesKept}
-use Rattle.promises.specs.Sources.{noEio, noBio, noMsi, eioAt, bioAt, msiAt}
+use Rattle.madt.specs.Adding.{noEio, noBio, noMsi}
+use Rattle.promises.specs.Sources.{eioAt, bioAt, msiAt}
 use Rattle.promises.proofs.Members.{every-at}
 
 -- a field's number is 0 only by the test that guards it

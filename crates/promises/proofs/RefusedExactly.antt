@@ -23,7 +23,8 @@ use Rattle.lines.specs.declared.Owner.{Owner}
 use Rattle.lines.specs.declared.Owner.the-variants.{LpcInput, LioInput, BioInput, Nobody}
 use Rattle.lines.specs.declared.Route.the-variants.{Arrives, Unwired, NoOwner, Refused}
 use Rattle.lines.specs.declared.Trace.the-variants.{Nothing, BioInput as BioTold, LpcCascade, Refused as NoTrace}
-use Rattle.promises.specs.Sources.{Source, input, pin, slot, noEio, bioAt, name}
+use Rattle.madt.specs.Adding.{noEio}
+use Rattle.promises.specs.Sources.{Source, input, pin, slot, bioAt, name}
 use Rattle.promises.specs.Statements.{RefusedExactly}
 use Rattle.promises.proofs.Kept.{good}
 use Rattle.promises.proofs.Members.{found-or-not}

@@ -23,7 +23,8 @@ use Rattle.lines.specs.declared.Bridge.the-variants.{Is}
 use Rattle.lines.specs.declared.Owner.the-variants.{LpcInput, LioInput, BioInput, Nobody}
 use Rattle.lines.specs.declared.Route.the-variants.{Arrives, NoOwner, Unwired}
 use Rattle.lines.specs.declared.Trace.the-variants.{LioInput as LioTold, BioInput as BioTold, LpcCascade}
-use Rattle.promises.specs.Sources.{input, pin, noBio, bioAt, arrives}
+use Rattle.madt.specs.Adding.{noBio}
+use Rattle.promises.specs.Sources.{input, pin, bioAt, arrives}
 use Rattle.promises.specs.Statements.{LpcLinesShare, Tells, ThereAndBack}
 use Rattle.promises.proofs.Bridges.{bridge-one}
 use Rattle.promises.proofs.Kept.{Good, good, bio-number}

@@ -20,7 +20,8 @@ use Rattle.lines.specs.Answers.{traceOf}
 use Rattle.lines.specs.declared.Map.{Map}
 use Rattle.lines.specs.declared.Route.the-variants.{Arrives}
 use Rattle.lines.specs.declared.Trace.the-variants.{Nothing, LioInput, BioInput, LpcCascade, MsiSlot}
-use Rattle.promises.specs.Sources.{Source, input, pin, slot, noEio, noBio, noMsi, eioAt, bioAt, msiAt, IsSource, arrives, name}
+use Rattle.madt.specs.Adding.{noEio, noBio, noMsi}
+use Rattle.promises.specs.Sources.{Source, input, pin, slot, eioAt, bioAt, msiAt, IsSource, arrives, name}
 use Rattle.promises.specs.Statements.{TracingNames, Arrived, NothingExactly}
 use Rattle.promises.proofs.Kept.{Good, good, eio-node, eio-core, eio-not-low, eio-not-high, bio-node, bio-number, bio-msi, msi-slot}
 use Rattle.promises.proofs.Logic.{is-bool, both-bits}

@@ -29,7 +29,7 @@ use Rattle.processors.specs.declared.Repeat.the-variants.{Nowhere}
 use Rattle.reading.specs.Scan.{madtBytes, scan}
 use Rattle.reading.specs.Reading.{readingOf}
 use Rattle.reading.specs.declared.Answer.the-variants.{Read, Refused as NotRead}
-use Rattle.promises.specs.Sources.{noEio, noBio, noMsi}
+use Rattle.madt.specs.Adding.{noEio, noBio, noMsi}
 use Rattle.promises.specs.Structures.{Placed, Shared}
 use Rattle.promises.specs.Statements.{NoTwoAlike, TracingNames, NothingExactly, LpcLinesShare, ThereAndBack}
 

@@ -18,7 +18,7 @@ use Rattle.reading.specs.Scan.{scan}
 use Rattle.reading.specs.Reading.{readingOf, listAfter}
 use Rattle.reading.specs.Entries.{readResult, bytesAfter}
 use Rattle.reading.specs.declared.Answer.the-variants.{Read}
-use Rattle.promises.specs.Sources.{noEio, noBio, noMsi}
+use Rattle.madt.specs.Adding.{noEio, noBio, noMsi}
 use Rattle.promises.specs.BoardA.{boardA, msiFrom63, msiTo257, eioAt2}
 
 -- what is asked: where a number of board A arrives; what arrives at a vector of board A with a number; what becomes of a

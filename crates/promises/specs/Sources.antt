@@ -8,6 +8,7 @@ use lib.ListN.{length, getD}
 use Rattle.kinds.specs.declared.Eio.{Eio}
 use Rattle.kinds.specs.declared.Bio.{Bio}
 use Rattle.kinds.specs.declared.Msi.{Msi}
+use Rattle.madt.specs.Adding.{noEio, noBio, noMsi}
 use Rattle.parts.specs.Inputs.{wired, pins}
 use Rattle.lines.specs.Says.{Said}
 use Rattle.lines.specs.Routes.{lioArrival, through}
@@ -24,17 +25,7 @@ pub data Source : Type 0 where
   pin : ℕ → ℕ → Source
   slot : ℕ → ℕ → ℕ → Source
 
--- what stands past the end of a list
-abbrev pub noEio : Eio
-noEio = record { cascade = 0; node = 0; nodes = 0 }
-
-abbrev pub noBio : Bio
-noBio = record { node = 0; base = 0 }
-
-abbrev pub noMsi : Msi
-noMsi = record { start = 0; count = 0 }
-
--- the structure at a place of its list
+-- the structure at a place of its list; past the end of the list an unused place stands
 abbrev pub eioAt : Said → ℕ → Eio
 eioAt said e = getD (said .eios) e noEio
 
