@@ -24,10 +24,10 @@ use Rattle.processors.specs.Listing.{isEnabledCore, countOf, countIn, co
 use Rattle.processors.proofs.Cases.{if-cases}
 use Rattle.processors.proofs.Filling.{twice-all}
 
-not-zero : (n : ℕ) → not (eqb n 0) ≡ true → n ≡ 0 → ⊥
+pub not-zero : (n : ℕ) → not (eqb n 0) ≡ true → n ≡ 0 → ⊥
 not-zero n h e = let z : true ≡ false = sym h ∙ ap not (eq-eqb n 0 e) in let o : _≡_ {A = ℕ} 0 1 = cc in omega arith
 
-is-zero : (n : ℕ) → not (eqb n 0) ≡ false → n ≡ 0
+pub is-zero : (n : ℕ) → not (eqb n 0) ≡ false → n ≡ 0
 is-zero n h = eqb-true n 0 (not-false _ h)
 
 not-sound : {refusal : Refusal} {X : Type 0} → _≡_ {A = Verdict} (Refused refusal) Sound → X

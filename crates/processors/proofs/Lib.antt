@@ -4,3 +4,4 @@ pub mod Image
 pub mod Twins
 pub mod Inside
 pub mod Agreement
+pub mod AtMost256

@@ -34,7 +34,6 @@ pub mod MapRefusals
 pub mod WhyRefused
 pub mod EveryRefusal
 pub mod NormalMapsEqual
-pub mod AtMost256
 pub mod Examples
 pub mod FirstRule
 pub mod Determined

@@ -25,7 +25,7 @@ use Rattle.reading.specs.Entries.{asked, answerIn, readCode, readResult, bytesA
 use Rattle.reading.specs.declared.Answer.the-variants.{Read, Refused}
 use Rattle.reading.proofs.Laws.{asked-refused, asked-sound, in-read, in-60, list-refused, list-sound}
 use Rattle.promises.specs.Calls.{SameReading, ReadBack, TooShort, HasRead, CReading, ReadCodesApart}
-use Rattle.promises.proofs.AtMost256.{at-most-256}
+use Rattle.processors.proofs.AtMost256.{at-most-256}
 use Rattle.promises.proofs.EveryRefusal.{of-scan}
 use Rattle.promises.proofs.Scanned.{scanned}
 

@@ -27,7 +27,7 @@ pub is-zero : (n : ℕ) → not (eqb n 0) ≡ false → n ≡ 0
 is-zero n h = eqb-true n 0 (not-false _ h)
 
 -- it went through 32 to 38
-pub judged-zero : (s : List ℕ) (size fault count most : ℕ) → judged s size fault count most ≡ 0 → (fault ≡ 0) × (count < most)
+judged-zero : (s : List ℕ) (size fault count most : ℕ) → judged s size fault count most ≡ 0 → (fault ≡ 0) × (count < most)
 unfolding judged
 judged-zero s size fault count most h =
     let a = passed (wrongLength s size) 32 _ 0 h (λ e. omega arith) in

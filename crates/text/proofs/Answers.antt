@@ -1,11 +1,11 @@
 -- The text by the reading's answer, what an accepted reading tells of the processor list, and the room by its length.
 use mathlib.Core.Path.{_≡_, refl, sym, ap, _∙_}
-use mathlib.Core.Bool.{Bool, true, false}
+use mathlib.Core.Bool.{true}
 use mathlib.Core.List.{List, _++_}
 use Prim.Native.Nat.{ℕ, _+_, _*_, _≤_, _<_}
 use native.Mathlib.Nat.{zero-add}
 use native.Mathlib.Omega.{arith}
-use borrow.Author.Tests.{leb-true, le-leb, lt-leb}
+use borrow.Author.Tests.{le-leb, lt-leb}
 use lib.ListN.{length, length-append, take, drop}
 use lib.Seq.{take-at, sets, sets-eq}
 use Rattle.words.specs.declared.Refusal.{Refusal}
@@ -20,68 +20,81 @@ use Rattle.reading.specs.Reading.{withoutMap, madtFound, readingOf, listAfter}
 use Rattle.reading.specs.declared.Answer.{Answer}
 use Rattle.reading.specs.declared.Answer.the-variants.{Read, Refused}
 use Rattle.reading.specs.declared.Reading.{Reading}
-use Rattle.reading.proofs.Laws.{reading-refused, reading-sound, answered-read, answered-60, list-sound}
+use Rattle.reading.proofs.Laws.{reading-refused, reading-sound, answered-read, list-sound}
 use Rattle.text.specs.Lines.{refusalLine}
-use Rattle.text.specs.Text.{mapText, lent, answerText, textOf, outcome}
+use Rattle.text.specs.Text.{mapText, verdictText, textOf, lent, outcome}
 use Rattle.text.specs.declared.Written.the-variants.{Whole, NoRoom}
+use Rattle.text.proofs.Few.{list-long-enough}
 
--- one answer is not the other, and counts are told apart
+-- one answer is not the other, and answers of one kind tell the same
 not-read : {refusal : Refusal} {n : ℕ} {X : Type 0} → _≡_ {A = Answer} (Refused refusal) (Read n) → X
 not-read e = absurd (let o : _≡_ {A = ℕ} 0 1 = cc in omega arith)
 
 same-count : {m n : ℕ} → _≡_ {A = Answer} (Read m) (Read n) → m ≡ n
 same-count e = cc
 
--- what an accepted reading tells of the list that was lent to it
+same-refusal : {r refusal : Refusal} → _≡_ {A = Answer} (Refused r) (Refused refusal) → r ≡ refusal
+same-refusal e = cc
+
+-- what an accepted reading tells: of the map, and of the list that was lent to it
 pub record Listed (capture : List ℕ) (n : ℕ) : Type 0 where
+  pub sound : scan capture .verdict ≡ verdicts.Sound
+  pub map : readingOf capture lent .map ≡ scan capture .map
   pub few : 2 * n ≤ 512
   pub inside : 2 * n ≤ length (listAfter capture lent)
   pub front : take (2 * n) (listAfter capture lent) ≡ processors (madtFound capture)
 
 module _ (capture : List ℕ) where
+  -- a sound capture is read: the list has room
+  module _ (sound : scan capture .verdict ≡ verdicts.Sound) where
+    room : hasRoom (processors (madtFound capture)) lent ≡ true
+    unfolding hasRoom
+    room = le-leb (length (processors (madtFound capture))) 512 (list-long-enough capture sound)
+
+    read : readingOf capture lent ≡ record { answer = Read (count (madtFound capture)); map = scan capture .map }
+    unfolding madtFound
+    read = reading-sound capture lent sound ∙ answered-read _ _ _ room
+
+    after : listAfter capture lent ≡ processors (madtFound capture) ++ drop (length (processors (madtFound capture))) lent
+    unfolding listAfter filled written
+    after = list-sound capture lent _ sound ∙ yes-if _ _ _ room
+
+    sound-listed : {n : ℕ} → count (madtFound capture) ≡ n → Listed capture n
+    sound-listed {n} e =
+        let entries = processors (madtFound capture) in
+        let two = twice-all (madtFound capture) in
+        let most = list-long-enough capture sound in
+        let size = ap length after ∙ length-append entries (drop (length entries) lent) in
+        record {
+          sound = sound;
+          map = ap (λ (r : Reading). r .map) read;
+          few = omega arith;
+          inside = omega arith;
+          front = rw after (take-at entries (drop (length entries) lent) (2 * n) (omega arith));
+        }
+
+  pub listed : {n : ℕ} → readingOf capture lent .answer ≡ Read n → Listed capture n
+  unfolding withoutMap
+  listed {n} h = by-verdict (scan capture .verdict) refl
+    where
+      by-verdict : (v : Verdict) → scan capture .verdict ≡ v → Listed capture n
+      by-verdict verdicts.Sound sound = sound-listed sound (same-count (sym (ap (λ (r : Reading). r .answer) (read sound)) ∙ h))
+      by-verdict (verdicts.Refused refusal) refused = not-read (sym (ap (λ (r : Reading). r .answer) (reading-refused capture lent refused)) ∙ h)
+
+  -- the text by the reading's answer
   pub text-refused : {refusal : Refusal} → readingOf capture lent .answer ≡ Refused refusal → textOf capture ≡ refusalLine refusal
-  unfolding textOf answerText
-  text-refused h = rw h
+  unfolding textOf verdictText withoutMap
+  text-refused {refusal} h = by-verdict (scan capture .verdict) refl
+    where
+      by-verdict : (v : Verdict) → scan capture .verdict ≡ v → textOf capture ≡ refusalLine refusal
+      by-verdict verdicts.Sound sound = not-read (sym h ∙ ap (λ (r : Reading). r .answer) (read sound))
+      by-verdict (verdicts.Refused r) refused =
+          rw (refused, same-refusal (sym (ap (λ (r : Reading). r .answer) (reading-refused capture lent refused)) ∙ h))
 
   pub text-read : {n : ℕ} → readingOf capture lent .answer ≡ Read n
       → textOf capture ≡ mapText (version capture) (processors (madtFound capture)) (readingOf capture lent .map)
-  unfolding textOf answerText
-  text-read h = rw h
-
-  written-list : {n : ℕ} → hasRoom (processors (madtFound capture)) lent ≡ true → count (madtFound capture) ≡ n
-      → listAfter capture lent ≡ filled (processors (madtFound capture)) lent → Listed capture n
-  unfolding hasRoom filled written
-  written-list {n} room e after =
-      let table = madtFound capture in
-      let entries = processors table in
-      let two = twice-all table in
-      let few = leb-true (length entries) 512 room in
-      let all : listAfter capture lent ≡ entries ++ drop (length entries) lent = after ∙ yes-if _ _ _ room in
-      let size = ap length all ∙ length-append entries (drop (length entries) lent) in
-      record {
-        few = omega arith;
-        inside = omega arith;
-        front = rw all (take-at entries (drop (length entries) lent) (2 * n) (omega arith));
-      }
-
-  by-room : {n : ℕ} (b : Bool) → hasRoom (processors (madtFound capture)) lent ≡ b → scan capture .verdict ≡ verdicts.Sound
-      → readingOf capture lent .answer ≡ Read n → Listed capture n
-  unfolding listAfter madtFound withoutMap
-  by-room true room sound h =
-      written-list room
-      (same-count (sym (ap (λ (r : Reading). r .answer) (reading-sound capture lent sound ∙ answered-read _ _ _ room)) ∙ h))
-      (list-sound capture lent _ sound)
-  by-room false room sound h =
-      not-read (sym (ap (λ (r : Reading). r .answer) (reading-sound capture lent sound ∙ answered-60 _ _ _ room)) ∙ h)
-
-  by-verdict : {n : ℕ} (v : Verdict) → scan capture .verdict ≡ v → readingOf capture lent .answer ≡ Read n → Listed capture n
-  unfolding withoutMap
-  by-verdict verdicts.Sound sound h = by-room (hasRoom (processors (madtFound capture)) lent) refl sound h
-  by-verdict (verdicts.Refused refusal) refused h =
-      not-read (sym (ap (λ (r : Reading). r .answer) (reading-refused capture lent refused)) ∙ h)
-
-  pub listed : {n : ℕ} → readingOf capture lent .answer ≡ Read n → Listed capture n
-  listed h = by-verdict (scan capture .verdict) refl h
+  unfolding textOf verdictText
+  text-read h = let l = listed h in rw (l .sound, l .map)
 
 -- what is written of a map is the capture's text
 pub text-of-map : (capture : List ℕ) {n v : ℕ} {list : List ℕ} {reading : Reading} → reading ≡ readingOf capture lent

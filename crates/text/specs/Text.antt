@@ -4,14 +4,15 @@ use mathlib.Core.List.{List, [], _∷_}
 use lib.ListN.{length, replicate}
 use Rattle.words.specs.Choice.{if}
 use Rattle.capture.specs.Fields.{version}
+use Rattle.capture.specs.declared.Verdict.{Verdict}
+use Rattle.capture.specs.declared.Verdict.the-variants.{Sound, Refused}
 use Rattle.lines.specs.Says.{says}
 use Rattle.lines.specs.Routes.{bridge}
 use Rattle.lines.specs.Answers.{routeOf}
 use Rattle.lines.specs.declared.Map.{Map}
 use Rattle.processors.specs.Listing.{processors, hasRoom}
-use Rattle.reading.specs.Reading.{madtFound, readingOf}
-use Rattle.reading.specs.declared.Answer.{Answer}
-use Rattle.reading.specs.declared.Answer.the-variants.{Read, Refused}
+use Rattle.reading.specs.Scan.{scan}
+use Rattle.reading.specs.Reading.{madtFound}
 use Rattle.text.specs.Lines.{each, versionLine, coreLines, lioLines, eioLine, bioLine, msiLine, lpcLine, sciLine, refusalLine}
 use Rattle.text.specs.declared.Written.{Written}
 use Rattle.text.specs.declared.Written.the-variants.{Whole, NoRoom}
@@ -36,20 +37,19 @@ mapParts version list map =
 unfoldable pub mapText : ℕ → List ℕ → Map → List ℕ
 mapText version list map = joined (mapParts version list map)
 
--- "At most 256 CORE": the list that is lent to the reading has room for all of them
-abbrev pub lent : List ℕ
-lent = replicate 512 0
+-- the text of a verdict: that of the map where no rule is broken, or the line of the refusal
+unfoldable pub verdictText : Verdict → List ℕ → List ℕ
+verdictText Sound text = text
+verdictText (Refused refusal) text = refusalLine refusal
 
--- the text of an answer: that of the map where the capture is read, or the line of the refusal
-unfoldable pub answerText : Answer → List ℕ → List ℕ
-answerText (Read count) text = text
-answerText (Refused refusal) text = refusalLine refusal
-
--- what is printed for a capture: the reading's answer, and of an accepted one its version, its processors and its map
+-- what is printed for a capture: its version, the processors of its MADT and its map, or its refusal
 unfoldable pub textOf : List ℕ → List ℕ
 textOf capture =
-    answerText (readingOf capture lent .answer)
-    (mapText (version capture) (processors (madtFound capture)) (readingOf capture lent .map))
+    verdictText (scan capture .verdict) (mapText (version capture) (processors (madtFound capture)) (scan capture .map))
+
+-- "At most 256 CORE": the list that is lent to the reading, with two numbers for each, is never too short
+abbrev pub lent : List ℕ
+lent = replicate 512 0
 
 -- the answer of the writing: how long the text is, or that the room is too short for it
 unfoldable pub outcome : List ℕ → List ℕ → Written

@@ -9,6 +9,7 @@ ghost use Rattle.text.specs.Numerals.{decimal};
 ghost use Rattle.text.specs.Lines.{each, field, phrase, line};
 ghost use Rattle.text.specs.Text.{Fits};
 
+// A byte.
 fn put_byte(room: &mut [u8], n: usize, byte: u8) -> usize
     requires { ⌜ Fits n (byte ∷ []) ⌝ }
     ensures { λ r. ⌜ r ≡ n + length (byte ∷ []) ⌝ }
@@ -21,6 +22,7 @@ fn put_byte(room: &mut [u8], n: usize, byte: u8) -> usize
     n + 1
 }
 
+// Bytes, one behind the other.
 fn put_bytes(room: &mut [u8], n: usize, bytes: &[u8]) -> usize
     requires { ⌜ Fits n (now bytes) ⌝ }
     ensures { λ r. ⌜ r ≡ n + length (now (bytes .entry)) ⌝ }
