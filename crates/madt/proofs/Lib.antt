@@ -1,3 +1,4 @@
+pub mod Cases
 pub mod Pieces
 pub mod Taking
 pub mod Walking

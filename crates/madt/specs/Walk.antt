@@ -8,9 +8,8 @@ use Rattle.words.specs.Refusals.{refused}
 use Rattle.capture.specs.declared.Verdict.the-variants.{Sound, Refused}
 use Rattle.madt.specs.Pieces.{Piece, whole, cut, pieces}
 use Rattle.madt.specs.Adding.{nothing}
-use Rattle.madt.specs.Takes.{takeOne}
+use Rattle.madt.specs.Takes.{Taken, takeOne}
 use Rattle.madt.specs.declared.Found.{Found}
-use Rattle.madt.specs.declared.Taken.{Taken}
 use Rattle.madt.specs.declared.Walked.{Walked}
 
 -- a refusal comes with the fixed empty map and without processors

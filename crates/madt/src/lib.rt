@@ -6,9 +6,8 @@ use lines::Places;
 
 pub mod steps; // from structure to structure
 pub mod walk; // the structures in turn
-mod takes; // one structure
 mod rules; // 32 to 38 of one structure
-mod adding; // what was found, with one structure more
+mod nothing; // before the first structure
 
 // What was found: the map and the places of its structures, and how many processors are enabled and how many are not.
 pub struct Found {
@@ -16,12 +15,6 @@ pub struct Found {
     pub places: Places,
     pub enabled: u16,
     pub disabled: u16,
-}
-
-// A structure taken: 0 and what was found with it, or the number of the refusal.
-pub struct Taken {
-    pub number: u8,
-    pub found: Found,
 }
 
 // All structures taken: what was found, or the refusal and nothing.

@@ -1,9 +1,17 @@
 // The MADT's structures in turn, each through refusals 31 to 38 before the next.
 use crate::Found;
 use crate::Walked;
+use crate::nothing;
+use crate::rules;
 use crate::steps;
-use crate::takes;
 use capture::Verdict;
+use kinds::Bio;
+use kinds::Eio;
+use kinds::Lio;
+use kinds::Lpc;
+use kinds::Msi;
+use kinds::makers::Core;
+use kinds::makers::Ht;
 use tables::Table;
 ghost use mathlib.Core.Path.{_≡_};
 ghost use Prim.Native.Nat.{_<_};
@@ -21,12 +29,16 @@ fn turn_away(number: u8, place: u32) -> Walked
     }
 }
 
-// The structures of the MADT with some bytes, which stands at a place.
+// The structures of the MADT with some bytes, which stands at a place. What is found is changed where it stands, and is put
+// together at the end: it is large, and a copy for every structure would cost more than all else here.
 fn walk_table(table: &[u8], base: u16, sci: u16) -> Walked
     requires { ⌜ length (now table) < 65536 ⌝ }
     ensures { λ r. ⌜ r ≡ walked (now (table .entry)) base sci ⌝ }
 {
-    let mut found = Found::nothing(sci);
+    let mut map = nothing::no_map(sci);
+    let mut places = nothing::no_places();
+    let mut enabled: u16 = 0;
+    let mut disabled: u16 = 0;
     let mut at: usize = steps::FIRST;
     while at < table.len() {
         let place = base as u32 + at as u32;
@@ -34,14 +46,56 @@ fn walk_table(table: &[u8], base: u16, sci: u16) -> Walked
         if size == 0 {
             return turn_away(31, place);
         }
-        let taken = takes::take_one(words::part(table, at, size), place, found);
-        let number = taken.number;
+        let structure = words::part(table, at, size);
+        let number = rules::number_of(structure, enabled as usize + disabled as usize, map);
         if number != 0 {
             return turn_away(number, place);
         }
-        found = taken.found;
+        match words::byte_at(structure, steps::TYPE) {
+            Core::TYPE => {
+                let core = Core::from_bytes(structure);
+                if core.is_enabled() {
+                    enabled += 1;
+                } else {
+                    disabled += 1;
+                }
+            }
+            Lio::TYPE => {
+                map.lio = kinds::said_lio(Lio::from_bytes(structure));
+                places.lio = place;
+            }
+            Eio::TYPE => {
+                let n = map.eiocount as usize;
+                map.eios[n] = Eio::from_bytes(structure);
+                places.eios[n] = place;
+                map.eiocount = map.eiocount + 1;
+            }
+            Msi::TYPE => {
+                let n = map.msicount as usize;
+                map.msis[n] = Msi::from_bytes(structure);
+                places.msis[n] = place;
+                map.msicount = map.msicount + 1;
+            }
+            Bio::TYPE => {
+                let n = map.biocount as usize;
+                map.bios[n] = Bio::from_bytes(structure);
+                places.bios[n] = place;
+                map.biocount = map.biocount + 1;
+            }
+            Lpc::TYPE => {
+                map.lpc = Lpc::from_bytes(structure);
+                places.lpc = place;
+            }
+            0..=16 | Ht::TYPE | 24..=255 => {}
+        }
         at += size;
     }
+    let found = Found {
+        map,
+        places,
+        enabled,
+        disabled,
+    };
     let verdict = Verdict::Sound;
     Walked { verdict, found }
 }

@@ -1,11 +1,9 @@
 -- The walk of an accepted MADT counts as many enabled processors as the list holds.
 use mathlib.Core.Path.{_≡_, refl, sym, ap, _∙_}
-use mathlib.Core.Bool.{Bool, true, false, not, _&&_}
+use mathlib.Core.Bool.{Bool, true, false, _&&_}
 use mathlib.Core.List.{List, [], _∷_}
 use Prim.Native.Nat.{ℕ, _+_, _*_}
 use native.Mathlib.Omega.{arith}
-use borrow.Author.Tests.{eqb-true, eq-eqb, not-false}
-use lib.Dec.{eqb}
 use lib.ListN.{length}
 use Rattle.words.specs.declared.Refusal.{Refusal}
 use Rattle.words.proofs.Choices.{yes-if, no-if}
@@ -15,20 +13,14 @@ use Rattle.kinds.specs.Makers.{coreOf, isEnabled}
 use Rattle.madt.specs.Rules.{isType}
 use Rattle.madt.specs.Pieces.{Piece, whole, cut, pieces}
 use Rattle.madt.specs.Adding.{nothing, withCore, withLio, withEio, withMsi, withBio, withLpc}
-use Rattle.madt.specs.Takes.{taking, takeCore, takeLio, takeHt, takeEio, takeMsi, takeBio, takeLpc, takeOne}
+use Rattle.madt.specs.Takes.{Taken, taking, takeCore, takeLio, takeHt, takeEio, takeMsi, takeBio, takeLpc, takeOne}
 use Rattle.madt.specs.Walk.{turnedAway, afterTaking, walk, walked}
 use Rattle.madt.specs.declared.Found.{Found}
-use Rattle.madt.specs.declared.Taken.{Taken}
 use Rattle.madt.specs.declared.Walked.{Walked}
 use Rattle.processors.specs.Listing.{isEnabledCore, countOf, countIn, count, processors}
-use Rattle.processors.proofs.Cases.{if-cases}
+use Rattle.madt.proofs.Cases.{if-cases}
+use Rattle.madt.proofs.Taking.{is-zero, taking-number, taking-found}
 use Rattle.processors.proofs.Filling.{twice-all}
-
-pub not-zero : (n : ℕ) → not (eqb n 0) ≡ true → n ≡ 0 → ⊥
-not-zero n h e = let z : true ≡ false = sym h ∙ ap not (eq-eqb n 0 e) in let o : _≡_ {A = ℕ} 0 1 = cc in omega arith
-
-pub is-zero : (n : ℕ) → not (eqb n 0) ≡ false → n ≡ 0
-is-zero n h = eqb-true n 0 (not-false _ h)
 
 not-sound : {refusal : Refusal} {X : Type 0} → _≡_ {A = Verdict} (Refused refusal) Sound → X
 not-sound e = absurd (let o : _≡_ {A = ℕ} 0 1 = cc in omega arith)
@@ -68,9 +60,7 @@ module _ (s : List ℕ) (place : ℕ) (found : Found) where
       go false e = rw (no-if _ _ _ e refl, no-if {A = ℕ} (isType 17 s && isEnabled (coreOf s)) 1 0 (rw (t, e)) refl) (omega arith)
 
   taken-only : (rule : ℕ) (more : Found) → taking rule found more .number ≡ 0 → taking rule found more .found ≡ more
-  unfolding taking
-  taken-only rule more =
-      if-cases (λ (r : Taken). r .number ≡ 0 → r .found ≡ more) _ _ _ (λ b e. absurd (not-zero rule b e)) (λ b e. refl)
+  taken-only rule more h = taking-found found more rule (sym (taking-number found more rule) ∙ h)
 
   core-taken : isType 17 s ≡ true → takeCore s found .number ≡ 0 → countOf s + found .enabled ≡ takeCore s found .found .enabled
   unfolding takeCore

@@ -18,7 +18,7 @@ use Rattle.madt.proofs.Pieces.{pieces-end, pieces-cut, pieces-next}
 use Rattle.processors.specs.Listing.{isEnabledCore, entriesOf, entriesIn, processors, countOf, countIn, count, hasRoom, written, filled, filling}
 use Rattle.processors.specs.declared.Filled.{Filled}
 use Rattle.processors.specs.declared.Filled.the-variants.{Whole, NoRoom}
-use Rattle.processors.proofs.Cases.{if-cases}
+use Rattle.madt.proofs.Cases.{if-cases}
 
 -- what a structure adds
 module _ (s : List ℕ) where

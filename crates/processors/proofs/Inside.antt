@@ -14,7 +14,7 @@ use Rattle.madt.proofs.Pieces.{step-inside}
 use Rattle.processors.specs.Repeats.{repeats, spot, firstRepeat}
 use Rattle.processors.specs.declared.Repeat.{Repeat}
 use Rattle.processors.specs.declared.Repeat.the-variants.{At, Nowhere}
-use Rattle.processors.proofs.Cases.{if-cases}
+use Rattle.madt.proofs.Cases.{if-cases}
 
 not-at : {at : ℕ} → _≡_ {A = Repeat} Nowhere (At at) → ⊥
 not-at e = let o : _≡_ {A = ℕ} 0 1 = cc in omega arith

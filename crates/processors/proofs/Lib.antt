@@ -1,4 +1,3 @@
-pub mod Cases
 pub mod Filling
 pub mod Image
 pub mod Twins

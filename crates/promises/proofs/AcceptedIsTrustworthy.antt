@@ -19,7 +19,7 @@ use Rattle.lines.specs.Answers.{routeOf}
 use Rattle.lines.specs.declared.Route.{Route}
 use Rattle.lines.specs.declared.Route.the-variants.{Arrives, Unwired, NoOwner, Refused as NoRoute}
 use Rattle.lines.specs.declared.Map.{Map}
-use Rattle.processors.proofs.Cases.{if-cases}
+use Rattle.madt.proofs.Cases.{if-cases}
 use Rattle.reading.specs.Scan.{madtBytes, scan}
 use Rattle.reading.specs.Reading.{withoutMap, answered, afterScan, readingOf, madtFound}
 use Rattle.reading.specs.declared.Answer.{Answer}

@@ -25,7 +25,7 @@ use Rattle.lines.specs.declared.Bridge.{Bridge}
 use Rattle.lines.specs.declared.Bridge.the-variants.{Is, None as NoBio}
 use Rattle.lines.specs.declared.Verdict.{Verdict}
 use Rattle.lines.specs.declared.Verdict.the-variants.{Kept, Broken}
-use Rattle.processors.proofs.Cases.{if-cases}
+use Rattle.madt.proofs.Cases.{if-cases}
 use Rattle.promises.specs.Structures.{Structure, lio, eio, bio, msi, placeOf, claimOf}
 use Rattle.promises.proofs.Meetings.{of-member}
 use Rattle.promises.proofs.SearchNames.{search-names}

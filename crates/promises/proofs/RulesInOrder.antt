@@ -34,7 +34,7 @@ use Rattle.processors.specs.Listing.{count}
 use Rattle.processors.specs.Repeats.{firstRepeat}
 use Rattle.processors.specs.declared.Repeat.{Repeat}
 use Rattle.processors.specs.declared.Repeat.the-variants as repeats
-use Rattle.processors.proofs.Cases.{if-cases}
+use Rattle.madt.proofs.Cases.{if-cases}
 use Rattle.reading.specs.Scan.{madtBytes, turnedDown, repeatRule, processorRule, mapRule, inTurn, rulesAfterWalk, afterWalk, afterSurvey, scan}
 use Rattle.reading.proofs.Laws.{repeat-none, map-broken, turn-refused, turn-sound, scan-refused, scan-found}
 use Rattle.promises.specs.Captures.{walkOf, NothingBefore51, NotRefusedBefore51, RulesInOrder}

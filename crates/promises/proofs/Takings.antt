@@ -14,10 +14,9 @@ use Rattle.kinds.specs.Ranges.{halfFits, bitInBoth, lioField, eioField, bioFiel
 use Rattle.kinds.specs.Used.{saidLio, saidLpc}
 use Rattle.kinds.specs.declared.Lio.{Lio}
 use Rattle.madt.specs.Rules.{wrongLength, wrongVersion, rangeFault, lioFault, judged}
-use Rattle.madt.specs.Takes.{taking, takeCore, takeLio, takeHt, takeEio, takeMsi, takeBio, takeLpc, takeOne}
+use Rattle.madt.specs.Takes.{Taken, taking, takeCore, takeLio, takeHt, takeEio, takeMsi, takeBio, takeLpc, takeOne}
 use Rattle.madt.specs.declared.Found.{Found}
-use Rattle.madt.specs.declared.Taken.{Taken}
-use Rattle.processors.proofs.Cases.{if-cases}
+use Rattle.madt.proofs.Cases.{if-cases}
 use Rattle.promises.proofs.Logic.{neq}
 use Rattle.promises.proofs.Books.{LioKept, Books, later, keeps-core, keeps-lio, keeps-eio, keeps-bio, keeps-msi, keeps-lpc}
 use Rattle.promises.proofs.Unused.{half-mask, half-fits, half-again}

@@ -10,7 +10,7 @@ use Rattle.kinds.specs.Used.{noHalf, usedHalf, saidLio, saidLpc}
 use Rattle.kinds.specs.declared.Half.{Half}
 use Rattle.kinds.specs.declared.Lio.{Lio}
 use Rattle.kinds.specs.declared.Lpc.{Lpc}
-use Rattle.processors.proofs.Cases.{if-cases}
+use Rattle.madt.proofs.Cases.{if-cases}
 
 pub half-mask : (half : Half) → usedHalf half .mask ≡ half .mask
 unfolding usedHalf if

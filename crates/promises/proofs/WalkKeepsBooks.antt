@@ -21,7 +21,7 @@ use Rattle.madt.specs.Takes.{takeOne}
 use Rattle.madt.specs.Walk.{turnedAway, afterTaking, walk, walked}
 use Rattle.madt.specs.declared.Found.{Found}
 use Rattle.madt.specs.declared.Walked.{Walked}
-use Rattle.processors.proofs.Cases.{if-cases}
+use Rattle.madt.proofs.Cases.{if-cases}
 use Rattle.promises.specs.Structures.{Structure, lio, eio, bio, msi, IsIn, Placed}
 use Rattle.promises.specs.Captures.{Normal, WellKept, WalkKeepsBooks}
 use Rattle.promises.proofs.Shelves.{fits-all}

@@ -14,12 +14,11 @@ use Rattle.kinds.specs.declared.Lio.{Lio}
 use Rattle.madt.specs.Rules.{coreFault, rangeFault, lioFault, judged}
 use Rattle.madt.specs.Pieces.{Piece, whole, cut, pieces}
 use Rattle.madt.specs.Adding.{nothing}
-use Rattle.madt.specs.Takes.{taking, takeCore, takeLio, takeHt, takeEio, takeMsi, takeBio, takeLpc, takeOne}
+use Rattle.madt.specs.Takes.{Taken, taking, takeCore, takeLio, takeHt, takeEio, takeMsi, takeBio, takeLpc, takeOne}
 use Rattle.madt.specs.Walk.{turnedAway, afterTaking, walk, walked}
 use Rattle.madt.specs.declared.Found.{Found}
-use Rattle.madt.specs.declared.Taken.{Taken}
 use Rattle.madt.specs.declared.Walked.{Walked}
-use Rattle.processors.proofs.Cases.{if-cases}
+use Rattle.madt.proofs.Cases.{if-cases}
 use Rattle.promises.proofs.Logic.{neq}
 use Rattle.promises.proofs.InOrder.{InOrder, pieces-in-order}
 use Rattle.promises.proofs.Told.{Told, Named, tell}

@@ -9,7 +9,7 @@ use lib.Dec.{ltb}
 use lib.ListN.{length, length-append}
 use Rattle.words.specs.Choice.{if}
 use Rattle.words.proofs.Choices.{yes-if, no-if}
-use Rattle.processors.proofs.Cases.{if-cases}
+use Rattle.madt.proofs.Cases.{if-cases}
 use Rattle.text.specs.Numerals.{digit, digits, decimal}
 
 -- a number that is below two powers of ten has the same digits by either

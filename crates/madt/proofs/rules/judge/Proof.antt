@@ -3,7 +3,6 @@ use mathlib.Core.Path.{refl, ap, sym, _∙_}
 use Rattle.words.proofs.Choices.{yes-if, no-if}
 use borrow.Author.Tests.{eq-eqb, ne-eqb, le-leb, lt-leb}
 use mathlib.Core.Bool.{not}
-use native.Mathlib.Omega.{arith}
 use Rattle.madt.specs.Rules.{judged}
 use borrow.Author.Needs.{needs}
 use Rattle.madt.proofs.rules.judge.Statement.{statement}
@@ -14,7 +13,7 @@ wrong-length-requires c κs = search needs
 
 returns : tie.Need-returns
 unfolding judged
-returns c = (sym (yes-if _ _ _ (sym (c .before .wrong-length .ensures) ∙ c .if1 .taken)), λ h. omega arith)
+returns c = sym (yes-if _ _ _ (sym (c .before .wrong-length .ensures) ∙ c .if1 .taken))
 
 wrong-version-requires : tie.Need-wrong-version-requires
 wrong-version-requires c κs = search needs
@@ -22,36 +21,30 @@ wrong-version-requires c κs = search needs
 returns-2 : tie.Need-returns-2
 unfolding judged
 returns-2 c =
-    (sym (no-if _ _ _ (sym (c .before .before .before .wrong-length .ensures) ∙ c .before .before .if1 .left) (yes-if _ _ _ (sym (c .before .wrong-version .ensures) ∙ c .if2 .taken))), λ h. omega arith)
+    sym (no-if _ _ _ (sym (c .before .before .before .wrong-length .ensures) ∙ c .before .before .if1 .left) (yes-if _ _ _ (sym (c .before .wrong-version .ensures) ∙ c .if2 .taken)))
 
 returns-3 : tie.Need-returns-3
 unfolding judged
-returns-3 c = (
-  sym (no-if _ _ _ (sym (c .before .before .before .before .wrong-length .ensures) ∙ c .before .before .before .if1 .left)
-      (no-if _ _ _ (sym (c .before .before .wrong-version .ensures) ∙ c .before .if2 .left)
-      (yes-if _ _ _ (ap not (ne-eqb _ _ (c .if3 .taken)))))),
-  λ h. absurd (c .if3 .taken h),
-)
+returns-3 c =
+    sym (no-if _ _ _ (sym (c .before .before .before .before .wrong-length .ensures) ∙ c .before .before .before .if1 .left)
+    (no-if _ _ _ (sym (c .before .before .wrong-version .ensures) ∙ c .before .if2 .left)
+    (yes-if _ _ _ (ap not (ne-eqb _ _ (c .if3 .taken))))))
 
 returns-4 : tie.Need-returns-4
 unfolding judged
-returns-4 c = (
-  sym (no-if _ _ _ (sym (c .before .before .before .before .before .wrong-length .ensures) ∙ c .before .before .before .before .if1 .left)
-      (no-if _ _ _ (sym (c .before .before .before .wrong-version .ensures) ∙ c .before .before .if2 .left)
-      (no-if _ _ _ (ap not (eq-eqb _ _ (c .before .if3 .left)))
-      (yes-if _ _ _ (le-leb _ _ (c .if4 .taken)))))),
-  λ h. omega arith,
-)
+returns-4 c =
+    sym (no-if _ _ _ (sym (c .before .before .before .before .before .wrong-length .ensures) ∙ c .before .before .before .before .if1 .left)
+    (no-if _ _ _ (sym (c .before .before .before .wrong-version .ensures) ∙ c .before .before .if2 .left)
+    (no-if _ _ _ (ap not (eq-eqb _ _ (c .before .if3 .left)))
+    (yes-if _ _ _ (le-leb _ _ (c .if4 .taken))))))
 
 returns-5 : tie.Need-returns-5
 unfolding judged
-returns-5 c = (
-  sym (no-if _ _ _ (sym (c .before .before .before .before .before .wrong-length .ensures) ∙ c .before .before .before .before .if1 .left)
-      (no-if _ _ _ (sym (c .before .before .before .wrong-version .ensures) ∙ c .before .before .if2 .left)
-      (no-if _ _ _ (ap not (eq-eqb _ _ (c .before .if3 .left)))
-      (no-if _ _ _ (lt-leb _ _ (c .if4 .left)) refl)))),
-  λ h. c .if4 .left,
-)
+returns-5 c =
+    sym (no-if _ _ _ (sym (c .before .before .before .before .before .wrong-length .ensures) ∙ c .before .before .before .before .if1 .left)
+    (no-if _ _ _ (sym (c .before .before .before .wrong-version .ensures) ∙ c .before .before .if2 .left)
+    (no-if _ _ _ (ap not (eq-eqb _ _ (c .before .if3 .left)))
+    (no-if _ _ _ (lt-leb _ _ (c .if4 .left)) refl))))
 
 pub judge-spec : {M : Type 1} → statement M
 judge-spec =

@@ -1,8 +1,8 @@
 -- `no_places` is no places.
 use mathlib.Core.Path.{refl}
 use Rattle.madt.specs.Adding.{noPlaces}
-use Rattle.madt.proofs.adding.no_places.Statement.{statement}
-use Rattle.madt.proofs.adding.no_places.Tie as tie
+use Rattle.madt.proofs.nothing.no_places.Statement.{statement}
+use Rattle.madt.proofs.nothing.no_places.Tie as tie
 
 returns : tie.Need-returns
 unfolding noPlaces

@@ -1,8 +1,8 @@
 -- `no_map` is the map without structures.
 use mathlib.Core.Path.{refl}
 use Rattle.madt.specs.Adding.{noMap}
-use Rattle.madt.proofs.adding.no_map.Statement.{statement}
-use Rattle.madt.proofs.adding.no_map.Tie as tie
+use Rattle.madt.proofs.nothing.no_map.Statement.{statement}
+use Rattle.madt.proofs.nothing.no_map.Tie as tie
 
 returns : tie.Need-returns
 unfolding noMap
