@@ -1,19 +1,23 @@
 /*
- * Times Yasmirand against reference.c, both in this one program, and measures the stack that they need.
+ * Times Yasmirand against reference.c, both in this one program, counts the instructions that they execute, and measures
+ * the stack that they need.
  *
- *     bench BOARDS
+ *     bench BOARDS [emulated]
  *
- * A ratio is Yasmirand's time (or stack) by that of reference.c. The program ends with 0 if no row is slower than
- * reference.c and Yasmirand needs less than 4 KiB of stack.
+ * A ratio is Yasmirand's time (instructions, stack) by that of reference.c. The program ends with 0 if no row is slower
+ * than reference.c and Yasmirand needs less than 4 KiB of stack. An emulator's times are not the machine's: there no row
+ * may execute more instructions than reference.c.
  */
-#define _DEFAULT_SOURCE /* clock_gettime, ucontext */
+#define _DEFAULT_SOURCE /* clock_gettime, sigaction, ucontext */
 
+#include <signal.h>
 #include <stdbool.h>
 #include <stdio.h>
 #include <stdlib.h>
 #include <string.h>
 #include <time.h>
 #include <ucontext.h>
+#include <x86intrin.h>
 
 #include "board.h"
 #include "damage.h"
@@ -51,6 +55,27 @@ static uint64_t ask(const struct reader *reader, enum question question, const s
         return reader->trace(capture->bytes, capture->length, ASKED_VECTOR, ASKED_ARRIVAL);
     }
 }
+
+/* Readers that do nothing: what remains is what the measuring itself takes. */
+static uint64_t read_nothing(const uint8_t *capture, size_t capture_len, uint8_t *list, size_t list_len)
+{
+    (void)capture, (void)capture_len, (void)list, (void)list_len;
+    return 0;
+}
+
+static uint64_t route_nothing(const uint8_t *capture, size_t capture_len, uint32_t number)
+{
+    (void)capture, (void)capture_len, (void)number;
+    return 0;
+}
+
+static uint64_t trace_nothing(const uint8_t *capture, size_t capture_len, uint32_t vector, uint32_t number)
+{
+    (void)capture, (void)capture_len, (void)vector, (void)number;
+    return 0;
+}
+
+static const struct reader idle = {"nothing", read_nothing, route_nothing, trace_nothing};
 
 /* A board with the controllers of board A and so many processors. */
 static void start_like_board_a(struct random *random, struct board *board, uint32_t processors)
@@ -145,7 +170,7 @@ static struct times time_row(const struct row *row)
     return best;
 }
 
-/* Prints all rows; gives whether no ratio is above 1. */
+/* Prints the time of all rows; gives whether no ratio is above 1. */
 static bool time_rows(const struct row *rows, size_t count)
 {
     bool none_slower = true;
@@ -161,6 +186,48 @@ static bool time_rows(const struct row *rows, size_t count)
         none_slower = none_slower && ratio <= 1.0;
     }
     return none_slower;
+}
+
+/* ---- Instructions ---- */
+
+/* With this flag set the processor stops after each instruction, and the program is told by a signal. */
+enum { TRAP_FLAG = 0x100 };
+
+static volatile sig_atomic_t stops;
+
+static void count_stop(int signal)
+{
+    (void)signal;
+    stops = stops + 1;
+}
+
+static long count_stops(const struct row *row, const struct reader *reader)
+{
+    stops = 0;
+    __writeeflags(__readeflags() | TRAP_FLAG);
+    last_answer = ask(reader, row->question, row->capture);
+    __writeeflags(__readeflags() & ~(unsigned long long)TRAP_FLAG);
+    return stops;
+}
+
+/* Prints the executed instructions of all rows; gives whether no ratio is above 1. */
+static bool count_rows(const struct row *rows, size_t count)
+{
+    struct sigaction counting = {.sa_handler = count_stop};
+    bool none_longer = true;
+
+    sigaction(SIGTRAP, &counting, NULL);
+    for (size_t i = 0; i < count; i++) {
+        long nothing = count_stops(&rows[i], &idle);
+        long by_yasmirand = count_stops(&rows[i], &yasmirand) - nothing;
+        long by_reference = count_stops(&rows[i], &reference) - nothing;
+        double ratio = (double)by_yasmirand / (double)by_reference;
+
+        printf("instructions: %-51s %14ld %15ld %8.2f\n", rows[i].what, by_yasmirand, by_reference, ratio);
+        fflush(stdout);
+        none_longer = none_longer && ratio <= 1.0;
+    }
+    return none_longer;
 }
 
 /* ---- Stack ---- */
@@ -210,27 +277,6 @@ static size_t depth(const struct reader *reader, enum question question, const s
 
     return one > other ? one : other;
 }
-
-static uint64_t read_nothing(const uint8_t *capture, size_t capture_len, uint8_t *list, size_t list_len)
-{
-    (void)capture, (void)capture_len, (void)list, (void)list_len;
-    return 0;
-}
-
-static uint64_t route_nothing(const uint8_t *capture, size_t capture_len, uint32_t number)
-{
-    (void)capture, (void)capture_len, (void)number;
-    return 0;
-}
-
-static uint64_t trace_nothing(const uint8_t *capture, size_t capture_len, uint32_t vector, uint32_t number)
-{
-    (void)capture, (void)capture_len, (void)vector, (void)number;
-    return 0;
-}
-
-/* A reader that uses no stack: what remains is what the measuring itself uses. */
-static const struct reader idle = {"nothing", read_nothing, route_nothing, trace_nothing};
 
 /* The stack that a reader needs below its caller's for one question, at most: for the rows' captures and for many others. */
 static size_t greatest_depth(const struct reader *reader, enum question question, const struct row *rows, size_t count)
@@ -295,8 +341,10 @@ int main(int argc, char **argv)
     const size_t count = sizeof rows / sizeof rows[0];
     struct random random = random_for_case(1, 0);
 
-    if (argc != 2) {
-        fprintf(stderr, "usage: bench BOARDS\n");
+    bool emulated = argc == 3 && strcmp(argv[2], "emulated") == 0;
+
+    if (argc != 2 && !emulated) {
+        fprintf(stderr, "usage: bench BOARDS [emulated]\n");
         return 2;
     }
     load_board_a(argv[1], &a);
@@ -309,10 +357,15 @@ int main(int argc, char **argv)
             return 2;
         }
 
+    if (emulated)
+        puts("Emulated: neither the times nor their ratios are those of an x86-64 machine; the instructions are.");
+
     bool none_slower = time_rows(rows, count);
+    bool none_longer = count_rows(rows, count);
     bool under_limit = measure_stacks(rows, count);
 
-    printf("bench: %s, %s\n", none_slower ? "no row is slower than reference.c" : "a row is slower than reference.c",
+    printf("bench: %s, %s, %s\n", none_slower ? "no row is slower than reference.c" : "a row is slower than reference.c",
+           none_longer ? "no row executes more instructions" : "a row executes more instructions",
            under_limit ? "every stack is under 4 KiB" : "a stack is not under 4 KiB");
-    return none_slower && under_limit ? 0 : 1;
+    return (emulated ? none_longer : none_slower) && under_limit ? 0 : 1;
 }
