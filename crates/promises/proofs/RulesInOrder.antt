@@ -35,16 +35,16 @@ use Rattle.processors.specs.Repeats.{firstRepeat}
 use Rattle.processors.specs.declared.Repeat.{Repeat}
 use Rattle.processors.specs.declared.Repeat.the-variants as repeats
 use Rattle.processors.proofs.Cases.{if-cases}
-use Rattle.reading.specs.Scan.{madtBytes, turnedDown, repeatRule, processorRule, mapRule, inTurn, rulesAfterWalk, afterWalk, afterSurvey, scan}
+use Rattle.map_promises.proofs.Verdicts.{kept-check}
+use Rattle.map_promises.proofs.WalkKeepsBooks.{walk-keeps-books}
+use Rattle.reading.specs.Scan.{madtBytes, walkOf, turnedDown, repeatRule, processorRule, mapRule, inTurn, rulesAfterWalk, afterWalk, afterSurvey, scan}
 use Rattle.reading.proofs.Laws.{repeat-none, map-broken, turn-refused, turn-sound, scan-refused, scan-found}
-use Rattle.promises.specs.Captures.{walkOf, NothingBefore51, NotRefusedBefore51, RulesInOrder}
+use Rattle.promises.specs.Captures.{NothingBefore51, NotRefusedBefore51, RulesInOrder}
 use Rattle.promises.proofs.EveryRefusal.{walk-of-told}
 use Rattle.promises.proofs.RefusedExactlyForSharing.{enabled, of-map}
-use Rattle.promises.proofs.Scanned.{verdict-left}
+use Rattle.reading.proofs.Scanned.{verdict-left}
 use Rattle.promises.proofs.TableRefusals.{SurveyTold, survey-told}
 use Rattle.promises.proofs.Told.{Told}
-use Rattle.promises.proofs.Verdicts.{kept-check}
-use Rattle.promises.proofs.WalkKeepsBooks.{walk-keeps-books}
 
 -- ---- a verdict that gives no number below 51 broke none of the rules in it that have one
 abbrev Late : Verdict → Type 0

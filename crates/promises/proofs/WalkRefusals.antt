@@ -20,8 +20,8 @@ use Rattle.madt.specs.declared.Found.{Found}
 use Rattle.madt.specs.declared.Taken.{Taken}
 use Rattle.madt.specs.declared.Walked.{Walked}
 use Rattle.processors.proofs.Cases.{if-cases}
-use Rattle.promises.proofs.Logic.{neq}
-use Rattle.promises.proofs.InOrder.{InOrder, pieces-in-order}
+use Rattle.map_promises.proofs.Logic.{neq}
+use Rattle.map_promises.proofs.InOrder.{InOrder, pieces-in-order}
 use Rattle.promises.proofs.Told.{Told, Named, tell}
 
 -- the number of a rule, or 0 for none

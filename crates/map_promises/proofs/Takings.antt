@@ -18,9 +18,9 @@ use Rattle.madt.specs.Takes.{taking, takeCore, takeLio, takeHt, takeEio, takeMs
 use Rattle.madt.specs.declared.Found.{Found}
 use Rattle.madt.specs.declared.Taken.{Taken}
 use Rattle.processors.proofs.Cases.{if-cases}
-use Rattle.promises.proofs.Logic.{neq}
-use Rattle.promises.proofs.Books.{LioKept, Books, later, keeps-core, keeps-lio, keeps-eio, keeps-bio, keeps-msi, keeps-lpc}
-use Rattle.promises.proofs.Unused.{half-mask, half-fits, half-again}
+use Rattle.map_promises.proofs.Logic.{neq}
+use Rattle.map_promises.proofs.Books.{LioKept, Books, later, keeps-core, keeps-lio, keeps-eio, keeps-bio, keeps-msi, keeps-lpc}
+use Rattle.map_promises.proofs.Unused.{half-mask, half-fits, half-again}
 
 -- ---- what it tells that a structure was taken
 pub is-zero : (n : ℕ) → not (eqb n 0) ≡ false → n ≡ 0

@@ -1,0 +1,33 @@
+-- The map of an accepted capture keeps the rules: the walk gave each of its structures a place of its own and kept 36 to 38,
+-- no rule after the walk is broken with these places, and the places do not matter. So the C entries, which have an accepted
+-- capture, ask the rules no second time.
+use Prim.Native.Nat.{ℕ}
+use mathlib.Core.Bool.{true}
+use mathlib.Core.List.{List}
+use mathlib.Core.Path.{_≡_}
+use Rattle.capture.specs.declared.Verdict.the-variants.{Sound}
+use Rattle.lines.specs.Rules.{keepsRules}
+use Rattle.map_promises.specs.Walks.{Normal, WellKept}
+use Rattle.map_promises.proofs.Places.{places-do-not-matter}
+use Rattle.map_promises.proofs.WalkKeepsBooks.{walk-keeps-books}
+use Rattle.reading.specs.Scan.{madtBytes, walkOf, scan}
+use Rattle.reading.proofs.Scanned.{Scanned, scanned, rules-kept}
+
+-- the walk kept its books
+books : (capture : List ℕ) (s : Scanned capture) → WellKept (walkOf capture (s .t) .found .map) (walkOf capture (s .t) .found .places)
+books capture s = walk-keeps-books (madtBytes capture (s .t .madt)) (s .t .madt .place) (s .t .sci) (s .walk) .0
+
+pub accepted-is-normal : (capture : List ℕ) → scan capture .verdict ≡ Sound → Normal (scan capture .map)
+accepted-is-normal capture h =
+    let s = scanned capture h in
+    rw (s .map) (books capture s .normal)
+
+pub accepted-keeps-rules : (capture : List ℕ) → scan capture .verdict ≡ Sound → keepsRules (scan capture .map) ≡ true
+accepted-keeps-rules capture h =
+    let s = scanned capture h in
+    let t = s .t in
+    let found = walkOf capture t .found in
+    let b = books capture s in
+    rw (s .map)
+    (places-do-not-matter (found .map) (found .places) (t .madt .place) (t .fadt .place) (b .placed) .0 (b .r36) (b .r37)
+    (rules-kept (madtBytes capture (t .madt)) t found (s .rules)))
