@@ -5,8 +5,13 @@ use Prim.Native.Nat.{ℕ}
 use mathlib.Core.Bool.{true}
 use mathlib.Core.List.{List}
 use mathlib.Core.Path.{_≡_}
+use Rattle.words.proofs.Choices.{yes-if}
 use Rattle.capture.specs.declared.Verdict.the-variants.{Sound}
+use Rattle.lines.specs.Says.{says}
+use Rattle.lines.specs.Routes.{arrival}
+use Rattle.lines.specs.Traces.{traced}
 use Rattle.lines.specs.Rules.{keepsRules}
+use Rattle.lines.specs.Answers.{routeOf, traceOf}
 use Rattle.map_promises.specs.Walks.{Normal, WellKept}
 use Rattle.map_promises.proofs.Places.{places-do-not-matter}
 use Rattle.map_promises.proofs.WalkKeepsBooks.{walk-keeps-books}
@@ -31,3 +36,13 @@ accepted-keeps-rules capture h =
     rw (s .map)
     (places-do-not-matter (found .map) (found .places) (t .madt .place) (t .fadt .place) (b .placed) .0 (b .r36) (b .r37)
     (rules-kept (madtBytes capture (t .madt)) t found (s .rules)))
+
+-- a question to it has its answer without 61
+module _ (capture : List ℕ) (h : scan capture .verdict ≡ Sound) where
+  pub accepted-route : (number : ℕ) → routeOf (scan capture .map) number ≡ arrival (says (scan capture .map)) number
+  unfolding routeOf
+  accepted-route number = yes-if _ _ _ (accepted-keeps-rules capture h)
+
+  pub accepted-trace : (vector number : ℕ) → traceOf (scan capture .map) vector number ≡ traced (says (scan capture .map)) vector number
+  unfolding traceOf
+  accepted-trace vector number = yes-if _ _ _ (accepted-keeps-rules capture h)
