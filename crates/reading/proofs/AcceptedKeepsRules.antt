@@ -1,6 +1,6 @@
 -- The map of an accepted capture keeps the rules: the walk gave each of its structures a place of its own and kept 36 to 38,
 -- no rule after the walk is broken with these places, and the places do not matter. So the C entries, which have an accepted
--- capture, ask the rules no second time.
+-- capture, ask the rules no second time. And its unused places hold 0.
 use Prim.Native.Nat.{ℕ}
 use mathlib.Core.Bool.{true}
 use mathlib.Core.List.{List}
@@ -22,11 +22,13 @@ use Rattle.reading.proofs.Scanned.{Scanned, scanned, rules-kept}
 books : (capture : List ℕ) (s : Scanned capture) → WellKept (walkOf capture (s .t) .found .map) (walkOf capture (s .t) .found .places)
 books capture s = walk-keeps-books (madtBytes capture (s .t .madt)) (s .t .madt .place) (s .t .sci) (s .walk) .0
 
+-- its unused places hold 0
 pub accepted-is-normal : (capture : List ℕ) → scan capture .verdict ≡ Sound → Normal (scan capture .map)
 accepted-is-normal capture h =
     let s = scanned capture h in
     rw (s .map) (books capture s .normal)
 
+-- it keeps the rules
 pub accepted-keeps-rules : (capture : List ℕ) → scan capture .verdict ≡ Sound → keepsRules (scan capture .map) ≡ true
 accepted-keeps-rules capture h =
     let s = scanned capture h in
