@@ -1,5 +1,6 @@
 // Document 01, "Where a line arrives": owners, wired inputs, the LPC's bridge, and the arrival of a global number. Nothing
-// here asks whether the map keeps the rules: that is 61's, and comes first in every public call.
+// here asks whether the map keeps the rules: `Map::arrival` is for callers that know it, and `Map::route`, with 61 first, for
+// all others.
 use crate::Bridge;
 use crate::MOST;
 use crate::Map;
@@ -118,8 +119,7 @@ impl Map {
     }
 
     // Whose a global number is.
-    pub(crate) fn owner(self, number: u32) -> Owner
-        requires { ⌜ self .biocount ≤ 4 ⌝ }
+    fn owner(self, number: u32) -> Owner
         ensures { λ r. ⌜ r ≡ owner (says self) number ⌝ }
     {
         let bios = self.bios;
@@ -133,24 +133,19 @@ impl Map {
         if number < LIO_END {
             return Owner::LioInput(number - LIO_FIRST);
         }
-        bio_owner(bios, self.biocount as usize, number)
+        bio_owner(bios, used(self.biocount), number)
     }
 
-    // Where a global number arrives.
-    pub(crate) fn arrival(self, number: u32) -> Route
-        requires { ⌜ (self .eiocount ≤ 4) × (self .biocount ≤ 4) ⌝ }
+    // Where a global number arrives in a map that is known to keep the rules.
+    pub fn arrival(self, number: u32) -> Route
         ensures { λ r. ⌜ r ≡ arrival (says self) number ⌝ }
     {
         let eios = self.eios;
-        let bios = self.bios;
-        let n = self.eiocount as usize;
+        let n = used(self.eiocount);
         let lpc = kinds::said_lpc(self.lpc);
         let lio = kinds::said_lio(self.lio);
         match self.owner(number) {
-            Owner::LpcInput => {
-                let bridge = lpc_bridge(bios, self.biocount as usize);
-                pin_arrival(eios, n, bridge, lpc.cascade as u32)
-            }
+            Owner::LpcInput => pin_arrival(eios, n, self.bridge(), lpc.cascade as u32),
             Owner::LioInput(i) => lio_arrival(lio, i),
             Owner::BioInput(node, v) => eio_arrival(eios, n, node, v),
             Owner::Nobody => Route::NoOwner,

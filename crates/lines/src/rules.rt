@@ -147,7 +147,6 @@ impl Map {
 
     // 54: SCI_INT doesn't arrive.
     fn rule_54(self, fadt: u32) -> Verdict
-        requires { ⌜ (self .eiocount ≤ 4) × (self .biocount ≤ 4) ⌝ }
         ensures { λ r. ⌜ r ≡ rule54 (says self) fadt ⌝ }
     {
         let Route::Arrives(_, _) = self.arrival(self.sci as u32) else {

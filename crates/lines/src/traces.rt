@@ -1,9 +1,10 @@
-// Tracing back: what arrives at a core vector with a number (document 01, "Where a line arrives").
+// Tracing back: what arrives at a core vector with a number (document 01, "Where a line arrives"). Nothing here asks whether
+// the map keeps the rules: `Map::traced` is for callers that know it, and `Map::trace`, with 61 first, for all others.
 use crate::Bridge;
 use crate::Map;
 use crate::Trace;
 use crate::routes::LIO_FIRST;
-use crate::routes::lpc_bridge;
+use crate::routes::used;
 use kinds::Bio;
 use kinds::Msi;
 ghost use mathlib.Core.Path.{_≡_};
@@ -42,18 +43,16 @@ fn is_bridge(bridge: Bridge, node: u16) -> bool
 impl Map {
     // Whether input v of a BIO is the one that the LPC lines share.
     fn is_lpc_pin(self, bio: Bio, v: u32) -> bool
-        requires { ⌜ self .biocount ≤ 4 ⌝ }
         ensures { λ r. ⌜ r ≡ isLpcPin (says self) bio v ⌝ }
     {
-        let bios = self.bios;
         let lpc = kinds::said_lpc(self.lpc);
-        let bridge = lpc_bridge(bios, self.biocount as usize);
+        let bridge = self.bridge();
         lpc.present & (lpc.cascade as u32 == v) & is_bridge(bridge, bio.node)
     }
 
     // What input v of a BIO is told as.
     fn pin_told(self, bio: Bio, v: u32) -> Trace
-        requires { ⌜ (self .biocount ≤ 4) × (v < pins bio) ⌝ }
+        requires { ⌜ v < pins bio ⌝ }
         ensures { λ r. ⌜ r ≡ pinTold (says self) v bio ⌝ }
     {
         let number = (bio.base as u32) + v;
@@ -65,12 +64,11 @@ impl Map {
 
     // What lands on an extended vector of the EIO of a node.
     fn landed(self, node: u8, vector: u32) -> Trace
-        requires { ⌜ (self .biocount ≤ 4) × (self .msicount ≤ 4) ⌝ }
         ensures { λ r. ⌜ r ≡ landed (says self) node vector ⌝ }
     {
         let bios = self.bios;
         let msis = self.msis;
-        let n = self.biocount as usize;
+        let n = used(self.biocount);
         let mut i = 0;
         while i < n {
             let b = bios[i];
@@ -79,16 +77,15 @@ impl Map {
             }
             i += 1;
         }
-        slot_told(msis, self.msicount as usize, node, vector)
+        slot_told(msis, used(self.msicount), node, vector)
     }
 
     // What enters a core vector by an EIO with a number.
     fn eio_traced(self, vector: u32, number: u32) -> Trace
-        requires { ⌜ (self .eiocount ≤ 4) × (self .biocount ≤ 4) × (self .msicount ≤ 4) ⌝ }
         ensures { λ r. ⌜ r ≡ eioTraced (says self) vector number ⌝ }
     {
         let eios = self.eios;
-        let n = self.eiocount as usize;
+        let n = used(self.eiocount);
         let mut i = 0;
         while i < n {
             let e = eios[i];
@@ -100,9 +97,8 @@ impl Map {
         Trace::Nothing
     }
 
-    // What arrives at a core vector with a number.
-    pub(crate) fn traced(self, vector: u32, number: u32) -> Trace
-        requires { ⌜ (self .eiocount ≤ 4) × (self .biocount ≤ 4) × (self .msicount ≤ 4) ⌝ }
+    // What arrives at a core vector with a number in a map that is known to keep the rules.
+    pub fn traced(self, vector: u32, number: u32) -> Trace
         ensures { λ r. ⌜ r ≡ traced (says self) vector number ⌝ }
     {
         let lio = kinds::said_lio(self.lio);

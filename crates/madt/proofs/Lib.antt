@@ -1,4 +1,3 @@
-pub mod Cases
 pub mod Pieces
 pub mod Taking
 pub mod Walking

@@ -8,14 +8,13 @@ use lib.Dec.{eqb, leb}
 use borrow.Author.Tests.{eq-eqb, ne-eqb, eqb-true, not-false, leb-false}
 use Rattle.words.specs.Bytes.{byteAt}
 use Rattle.words.specs.Choice.{if}
-use Rattle.words.proofs.Choices.{yes-if, no-if, passed}
+use Rattle.words.proofs.Choices.{yes-if, no-if, passed, if-cases}
 use Rattle.kinds.specs.Makers.{coreOf, isEnabled, lioOf, eioOf, msiOf, bioOf, lpcOf}
 use Rattle.kinds.specs.Used.{saidLio}
 use Rattle.madt.specs.Adding.{withCore, withLio, withEio, withMsi, withBio, withLpc}
 use Rattle.madt.specs.Rules.{isType, wrongLength, wrongVersion, judged, byType, numberOf}
 use Rattle.madt.specs.Takes.{Taken, taking, takeCore, takeLio, takeHt, takeEio, takeMsi, takeBio, takeLpc, takeOne}
 use Rattle.madt.specs.declared.Found.{Found}
-use Rattle.madt.proofs.Cases.{if-cases}
 
 -- ---- what the type of a structure chooses
 pub type-yes : (number : ℕ) (s : List ℕ) → byteAt s 0 ≡ number → isType number s ≡ true

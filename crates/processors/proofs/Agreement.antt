@@ -6,7 +6,7 @@ use Prim.Native.Nat.{ℕ, _+_, _*_}
 use native.Mathlib.Omega.{arith}
 use lib.ListN.{length}
 use Rattle.words.specs.declared.Refusal.{Refusal}
-use Rattle.words.proofs.Choices.{yes-if, no-if}
+use Rattle.words.proofs.Choices.{yes-if, no-if, if-cases}
 use Rattle.capture.specs.declared.Verdict.{Verdict}
 use Rattle.capture.specs.declared.Verdict.the-variants.{Sound, Refused}
 use Rattle.kinds.specs.Makers.{coreOf, isEnabled}
@@ -18,7 +18,6 @@ use Rattle.madt.specs.Walk.{turnedAway, afterTaking, walk, walked}
 use Rattle.madt.specs.declared.Found.{Found}
 use Rattle.madt.specs.declared.Walked.{Walked}
 use Rattle.processors.specs.Listing.{isEnabledCore, countOf, countIn, count, processors}
-use Rattle.madt.proofs.Cases.{if-cases}
 use Rattle.madt.proofs.Taking.{is-zero, taking-number, taking-found}
 use Rattle.processors.proofs.Filling.{twice-all}
 

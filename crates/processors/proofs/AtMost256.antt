@@ -10,7 +10,7 @@ use Rattle.madt.specs.Takes.{takeOne}
 use Rattle.madt.specs.Walk.{turnedAway, afterTaking, walk, walked}
 use Rattle.madt.specs.declared.Found.{Found}
 use Rattle.madt.specs.declared.Walked.{Walked}
-use Rattle.madt.proofs.Cases.{if-cases}
+use Rattle.words.proofs.Choices.{if-cases}
 use Rattle.madt.proofs.Taking.{Few, takes-few}
 use Rattle.processors.specs.Listing.{count}
 use Rattle.processors.proofs.Agreement.{enabled-count}

@@ -11,14 +11,13 @@ use lib.ListN.{length, length-append}
 use lib.Seq.{sets, sets-eq, length-sets}
 use Rattle.words.specs.Bytes.{partAt}
 use Rattle.words.specs.Choice.{if}
-use Rattle.words.proofs.Choices.{yes-if, no-if}
+use Rattle.words.proofs.Choices.{yes-if, no-if, if-cases}
 use Rattle.kinds.specs.Makers.{coreOf}
 use Rattle.madt.specs.Pieces.{Piece, whole, cut, pieces, sizeAt}
 use Rattle.madt.proofs.Pieces.{pieces-end, pieces-cut, pieces-next}
 use Rattle.processors.specs.Listing.{isEnabledCore, entriesOf, entriesIn, processors, countOf, countIn, count, hasRoom, written, filled, filling}
 use Rattle.processors.specs.declared.Filled.{Filled}
 use Rattle.processors.specs.declared.Filled.the-variants.{Whole, NoRoom}
-use Rattle.madt.proofs.Cases.{if-cases}
 
 -- what a structure adds
 module _ (s : List ℕ) where

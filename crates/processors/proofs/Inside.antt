@@ -5,7 +5,7 @@ use Prim.Native.Nat.{ℕ, zero, suc, _+_, _<_}
 use native.Mathlib.Omega.{arith}
 use lib.ListN.{length}
 use Rattle.words.specs.Lists.{first}
-use Rattle.words.proofs.Choices.{no-if}
+use Rattle.words.proofs.Choices.{no-if, if-cases}
 use Rattle.tables.specs.Structures.{stepAt}
 use Rattle.tables.specs.declared.Step.{Step}
 use Rattle.tables.specs.declared.Step.the-variants.{End, Structure, Broken}
@@ -14,7 +14,6 @@ use Rattle.madt.proofs.Pieces.{step-inside}
 use Rattle.processors.specs.Repeats.{repeats, spot, firstRepeat}
 use Rattle.processors.specs.declared.Repeat.{Repeat}
 use Rattle.processors.specs.declared.Repeat.the-variants.{At, Nowhere}
-use Rattle.madt.proofs.Cases.{if-cases}
 
 not-at : {at : ℕ} → _≡_ {A = Repeat} Nowhere (At at) → ⊥
 not-at e = let o : _≡_ {A = ℕ} 0 1 = cc in omega arith

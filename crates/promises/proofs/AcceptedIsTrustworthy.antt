@@ -7,7 +7,7 @@ use mathlib.Core.Path.{_≡_, refl, _∙_}
 use mathlib.Core.List.{List}
 use mathlib.Core.Bool.{true, false, not, _&&_, true≢false}
 use Rattle.words.specs.declared.Refusal.{Refusal}
-use Rattle.words.proofs.Choices.{yes-if}
+use Rattle.words.proofs.Choices.{yes-if, if-cases}
 use Rattle.capture.specs.declared.Verdict.{Verdict}
 use Rattle.capture.specs.declared.Verdict.the-variants as verdicts
 use Rattle.kinds.specs.Ranges.{bitInBoth}
@@ -19,21 +19,19 @@ use Rattle.lines.specs.Answers.{routeOf}
 use Rattle.lines.specs.declared.Route.{Route}
 use Rattle.lines.specs.declared.Route.the-variants.{Arrives, Unwired, NoOwner, Refused as NoRoute}
 use Rattle.lines.specs.declared.Map.{Map}
-use Rattle.madt.proofs.Cases.{if-cases}
-use Rattle.reading.specs.Scan.{madtBytes, scan}
+use Rattle.map_promises.specs.Walks.{Normal}
+use Rattle.map_promises.proofs.NoTwoAlike.{no-two-alike}
+use Rattle.map_promises.proofs.RefusedExactly.{refused-exactly}
+use Rattle.map_promises.proofs.Tracing.{tracing-names, nothing-exactly}
+use Rattle.map_promises.proofs.ThereAndBack.{lpc-lines-share, there-and-back}
+use Rattle.map_promises.proofs.Verdicts.{check-kept, both-of-kept, each-kept, kept-yes}
+use Rattle.reading.specs.Scan.{scan}
 use Rattle.reading.specs.Reading.{withoutMap, answered, afterScan, readingOf, madtFound}
 use Rattle.reading.specs.declared.Answer.{Answer}
 use Rattle.reading.specs.declared.Answer.the-variants.{Read, Refused}
 use Rattle.reading.specs.declared.Reading.{Reading}
-use Rattle.promises.specs.Captures.{Normal, Trustworthy, AcceptedIsTrustworthy, ReadIsTrustworthy, walkOf}
-use Rattle.promises.proofs.NoTwoAlike.{no-two-alike}
-use Rattle.promises.proofs.Places.{places-do-not-matter}
-use Rattle.promises.proofs.RefusedExactly.{refused-exactly}
-use Rattle.promises.proofs.Tracing.{tracing-names, nothing-exactly}
-use Rattle.promises.proofs.ThereAndBack.{lpc-lines-share, there-and-back}
-use Rattle.promises.proofs.Verdicts.{check-kept, both-of-kept, each-kept, kept-yes}
-use Rattle.promises.proofs.Scanned.{scanned, rules-kept}
-use Rattle.promises.proofs.WalkKeepsBooks.{walk-keeps-books}
+use Rattle.reading.proofs.AcceptedKeepsRules.{accepted-is-normal, accepted-keeps-rules}
+use Rattle.promises.specs.Captures.{Trustworthy, AcceptedIsTrustworthy, ReadIsTrustworthy}
 
 -- 54: an answer that is not lost is an arrival
 not-lost : (route : Route) → lost route ≡ false → (vector : ℕ) × (number : ℕ) × (route ≡ Arrives vector number)
@@ -73,13 +71,7 @@ trustworthy map k n =
 -- THE PROMISES
 pub accepted-is-trustworthy : (capture : List ℕ) → AcceptedIsTrustworthy capture
 accepted-is-trustworthy capture h =
-    let s = scanned capture h in
-    let t = s .t in
-    let found = walkOf capture t .found in
-    let b = walk-keeps-books (madtBytes capture (t .madt)) (t .madt .place) (t .sci) (s .walk) .0 in
-    let kept = places-do-not-matter (found .map) (found .places) (t .madt .place) (t .fadt .place) (b .placed) .0 (b .r36) (b .r37)
-    (rules-kept (madtBytes capture (t .madt)) t found (s .rules)) in
-    rw (s .map) (trustworthy (found .map) kept (b .normal))
+    trustworthy (scan capture .map) (accepted-keeps-rules capture h) (accepted-is-normal capture h)
 
 refused-read : {refusal : Refusal} {count : ℕ} {X : Type 0} → _≡_ {A = Answer} (Refused refusal) (Read count) → X
 refused-read e = absurd (let o : _≡_ {A = ℕ} 0 1 = cc in omega arith)

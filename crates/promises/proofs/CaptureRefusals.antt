@@ -20,7 +20,7 @@ use Rattle.capture.specs.declared.Stretch.the-variants.{Present, Absent}
 use Rattle.capture.specs.declared.Root.{Root}
 use Rattle.capture.specs.declared.Root.the-variants as roots
 use Rattle.capture.proofs.Within.{sound-length}
-use Rattle.madt.proofs.Cases.{if-cases}
+use Rattle.words.proofs.Choices.{if-cases}
 use Rattle.promises.proofs.Told.{UpTo, Told, tell, tell-none, search-told}
 
 -- where 5 is kept, the descriptors are inside the capture

@@ -8,7 +8,7 @@ use mathlib.Core.List.{List}
 use mathlib.Core.Bool.{Bool, true, false}
 use lib.ListN.{length}
 use Rattle.words.specs.declared.Refusal.{Refusal}
-use Rattle.words.proofs.Choices.{no-if}
+use Rattle.words.proofs.Choices.{no-if, if-cases}
 use Rattle.capture.specs.declared.Verdict.{Verdict}
 use Rattle.capture.specs.declared.Verdict.the-variants as verdicts
 use Rattle.tables.specs.Survey.{survey}
@@ -28,22 +28,20 @@ use Rattle.processors.specs.Listing.{filled, count}
 use Rattle.processors.specs.Repeats.{firstRepeat}
 use Rattle.processors.specs.declared.Repeat.{Repeat}
 use Rattle.processors.specs.declared.Repeat.the-variants.{At, Nowhere}
-use Rattle.madt.proofs.Cases.{if-cases}
 use Rattle.processors.proofs.Inside.{repeat-inside}
-use Rattle.reading.specs.Scan.{madtBytes, turnedDown, repeatRule, processorRule, mapRule, rulesAfterWalk, afterWalk, afterSurvey, scan}
+use Rattle.map_promises.proofs.RefusedExactly.{refused-exactly}
+use Rattle.map_promises.proofs.WalkKeepsBooks.{walked-keeps}
+use Rattle.reading.specs.Scan.{madtBytes, walkOf, turnedDown, repeatRule, processorRule, mapRule, rulesAfterWalk, afterWalk, afterSurvey, scan}
 use Rattle.reading.specs.Reading.{listAfter}
 use Rattle.reading.specs.Entries.{routeResult, traceResult}
 use Rattle.reading.specs.declared.Answer.the-variants.{Refused}
 use Rattle.reading.proofs.Laws.{bytes-small, list-refused, list-sound, asked-refused, asked-sound}
-use Rattle.promises.specs.Captures.{walkOf}
 use Rattle.promises.specs.RefusalTable.{OfTheTable, ReadingRefusals, RefusedLeavesList, RouteRefusals, TraceRefusals, MapRefusals}
 use Rattle.promises.proofs.AcceptedIsTrustworthy.{accepted-is-trustworthy}
 use Rattle.promises.proofs.MapRefusals.{RuleTold, broken-told}
-use Rattle.promises.proofs.RefusedExactly.{refused-exactly}
-use Rattle.promises.proofs.Scanned.{verdict-left}
+use Rattle.reading.proofs.Scanned.{verdict-left}
 use Rattle.promises.proofs.TableRefusals.{SurveyTold, survey-told}
 use Rattle.promises.proofs.Told.{Told, widen, Inside, tell, tell-none, turn-told}
-use Rattle.promises.proofs.WalkKeepsBooks.{walked-keeps}
 use Rattle.promises.proofs.WhyRefused.{why-refused}
 use Rattle.promises.proofs.WalkRefusals.{walked-told}
 

@@ -41,12 +41,12 @@ use Rattle.madt.specs.declared.Found.{Found}
 use Rattle.madt.specs.declared.Walked.{Walked}
 use Rattle.processors.specs.Listing.{processors, count, hasRoom}
 use Rattle.processors.specs.Repeats.{firstRepeat}
+use Rattle.map_promises.proofs.WalkKeepsBooks.{walk-keeps-books}
 use Rattle.reading.specs.Scan.{madtBytes, turnedDown, repeatRule, processorRule, mapRule, inTurn, rulesAfterWalk, afterWalk, afterSurvey, scan}
 use Rattle.reading.specs.Reading.{withoutMap, answered, madtFound, afterScan, readingOf}
 use Rattle.reading.specs.declared.Answer.the-variants as answers
 use Rattle.promises.specs.AllRules.{rule, containerRules, placeOf, rsdpPlace, pointerRules, tableRules, indexRules, inEach, namedRules, structureRules, laterRules, xsdtOf, tablesOf, allRules, firstRefusal, FirstRuleWins, verdictOf, ListComesLast}
-use Rattle.promises.proofs.Scanned.{verdict-left}
-use Rattle.promises.proofs.WalkKeepsBooks.{walk-keeps-books}
+use Rattle.reading.proofs.Scanned.{verdict-left}
 
 -- ---- one verdict after another
 turn-turn : (a b c : Verdict) → inTurn (inTurn a b) c ≡ inTurn a (inTurn b c)

@@ -25,12 +25,12 @@ use Rattle.lines.specs.declared.Bridge.{Bridge}
 use Rattle.lines.specs.declared.Bridge.the-variants.{Is, None as NoBio}
 use Rattle.lines.specs.declared.Verdict.{Verdict}
 use Rattle.lines.specs.declared.Verdict.the-variants.{Kept, Broken}
-use Rattle.madt.proofs.Cases.{if-cases}
-use Rattle.promises.specs.Structures.{Structure, lio, eio, bio, msi, placeOf, claimOf}
-use Rattle.promises.proofs.Meetings.{of-member}
-use Rattle.promises.proofs.SearchNames.{search-names}
-use Rattle.promises.proofs.Books.{Books}
-use Rattle.promises.proofs.WalkKeepsBooks.{counted}
+use Rattle.words.proofs.Choices.{if-cases}
+use Rattle.map_promises.specs.Structures.{Structure, lio, eio, bio, msi, placeOf, claimOf}
+use Rattle.map_promises.proofs.Meetings.{of-member}
+use Rattle.map_promises.proofs.SearchNames.{search-names}
+use Rattle.map_promises.proofs.Books.{Books}
+use Rattle.map_promises.proofs.WalkKeepsBooks.{counted}
 use Rattle.promises.proofs.Told.{UpTo, Named, Inside, tell, fold-told}
 
 -- a rule that is kept, or broken with a refusal of the table

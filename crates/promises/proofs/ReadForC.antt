@@ -27,7 +27,7 @@ use Rattle.reading.proofs.Laws.{asked-refused, asked-sound, in-read, in-60, lis
 use Rattle.promises.specs.Calls.{SameReading, ReadBack, TooShort, HasRead, CReading, ReadCodesApart}
 use Rattle.processors.proofs.AtMost256.{at-most-256}
 use Rattle.promises.proofs.EveryRefusal.{of-scan}
-use Rattle.promises.proofs.Scanned.{scanned}
+use Rattle.reading.proofs.Scanned.{scanned}
 
 -- ---- the two readings
 module _ (table list : List ℕ) where

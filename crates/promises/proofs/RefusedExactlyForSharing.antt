@@ -16,16 +16,16 @@ use Rattle.lines.specs.declared.Map.{Map}
 use Rattle.lines.specs.declared.Verdict.{Verdict as Rules}
 use Rattle.lines.specs.declared.Verdict.the-variants.{Kept, Broken}
 use Rattle.processors.specs.Listing.{count}
-use Rattle.reading.specs.Scan.{madtBytes, processorRule, mapRule, rulesAfterWalk, afterSurvey, scan}
+use Rattle.map_promises.specs.Statements.{KeepsTo43, RefusedForClash}
+use Rattle.map_promises.proofs.ClashExactly.{clash-exactly}
+use Rattle.map_promises.proofs.WalkKeepsBooks.{walk-keeps-books}
+use Rattle.reading.specs.Scan.{madtBytes, walkOf, processorRule, mapRule, rulesAfterWalk, afterSurvey, scan}
 use Rattle.reading.specs.Reading.{withoutMap}
 use Rattle.reading.specs.declared.Reading.{Reading}
 use Rattle.reading.proofs.Laws.{repeat-none, turn-sound, walk-sound, scan-found, reading-refused}
-use Rattle.promises.specs.Statements.{KeepsTo43, RefusedForClash}
-use Rattle.promises.specs.Captures.{walkOf, NothingBefore51, RefusedAsClash, RefusedExactlyForSharing, ReadRefusedAsClash, ReadRefusedExactlyForSharing}
-use Rattle.promises.proofs.ClashExactly.{clash-exactly}
-use Rattle.promises.proofs.Scanned.{verdict-left}
+use Rattle.promises.specs.Captures.{NothingBefore51, RefusedAsClash, RefusedExactlyForSharing, ReadRefusedAsClash, ReadRefusedExactlyForSharing}
+use Rattle.reading.proofs.Scanned.{verdict-left}
 use Rattle.promises.proofs.WhyRefused.{why-refused}
-use Rattle.promises.proofs.WalkKeepsBooks.{walk-keeps-books}
 
 -- 40: some processor is enabled
 pub enabled : (base n : ℕ) → (n ≡ 0 → ⊥) → processorRule base n ≡ Sound

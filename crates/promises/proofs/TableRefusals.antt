@@ -32,7 +32,7 @@ use Rattle.tables.specs.declared.Entry.the-variants.{At, Nowhere}
 use Rattle.tables.specs.declared.Survey.{Survey}
 use Rattle.tables.specs.declared.Survey.the-variants.{Found, Refused}
 use Rattle.tables.proofs.Laws.{names-absent}
-use Rattle.madt.proofs.Cases.{if-cases}
+use Rattle.words.proofs.Choices.{if-cases}
 use Rattle.promises.proofs.Told.{UpTo, Told, Inside, tell, search-told}
 use Rattle.promises.proofs.CaptureRefusals.{RootTold, rsdp-told}
 

@@ -12,7 +12,7 @@ use Rattle.words.specs.declared.Refusal.{Refusal}
 use Rattle.capture.specs.declared.Verdict.{Verdict}
 use Rattle.capture.specs.declared.Verdict.the-variants.{Sound, Refused}
 use Rattle.clashes.specs.Folds.{fold}
-use Rattle.madt.proofs.Cases.{if-cases}
+use Rattle.words.proofs.Choices.{if-cases}
 use Rattle.reading.specs.Scan.{inTurn}
 use Rattle.promises.specs.RefusalTable.{isRefusalNumber, isPlaceless, OfTheTable}
 

@@ -18,9 +18,9 @@ use Rattle.madt.specs.Takes.{Taken, taking, takeCore, takeLio, takeHt, takeEio,
 use Rattle.madt.specs.Walk.{turnedAway, afterTaking, walk, walked}
 use Rattle.madt.specs.declared.Found.{Found}
 use Rattle.madt.specs.declared.Walked.{Walked}
-use Rattle.madt.proofs.Cases.{if-cases}
-use Rattle.promises.proofs.Logic.{neq}
-use Rattle.promises.proofs.InOrder.{InOrder, pieces-in-order}
+use Rattle.words.proofs.Choices.{if-cases}
+use Rattle.map_promises.proofs.Logic.{neq}
+use Rattle.map_promises.proofs.InOrder.{InOrder, pieces-in-order}
 use Rattle.promises.proofs.Told.{Told, Named, tell}
 
 -- the number of a rule, or 0 for none

@@ -10,7 +10,7 @@ use Rattle.words.specs.declared.Refusal.{Refusal}
 use Rattle.capture.specs.declared.Verdict.{Verdict}
 use Rattle.capture.specs.declared.Verdict.the-variants as verdicts
 use Rattle.processors.specs.Listing.{processors, hasRoom}
-use Rattle.madt.proofs.Cases.{if-cases}
+use Rattle.words.proofs.Choices.{if-cases}
 use Rattle.reading.specs.Scan.{scan}
 use Rattle.reading.specs.Reading.{withoutMap, answered, madtFound, afterScan, readingOf}
 use Rattle.reading.specs.declared.Answer.{Answer}

@@ -1,71 +1,31 @@
 -- What is promised of captures. Each statement stands alone; proofs/ has a theorem for it.
 use Prim.Native.Nat.{ℕ, _≤_}
-use mathlib.Core.Bool.{true, false}
+use mathlib.Core.Bool.{true}
 use mathlib.Core.List.{List}
 use mathlib.Core.Path.{_≡_}
-use lib.ListN.{length, getD}
 use Rattle.words.specs.Refusals.{refused}
 use Rattle.words.specs.declared.Refusal.{Refusal}
 use Rattle.capture.specs.declared.Verdict.the-variants.{Sound, Refused}
 use Rattle.tables.specs.Survey.{survey}
 use Rattle.tables.specs.declared.Tables.{Tables}
 use Rattle.tables.specs.declared.Survey.the-variants.{Found}
-use Rattle.kinds.specs.Ranges.{bitInBoth}
-use Rattle.kinds.specs.Used.{noHalf}
-use Rattle.lines.specs.Says.{says, Same}
+use Rattle.lines.specs.Says.{says}
 use Rattle.lines.specs.Claims.{claims}
-use Rattle.lines.specs.Rules.{tooMany, rangesKept, rule40, rule41, rule42, rule43, keepsRules}
+use Rattle.lines.specs.Rules.{rule40, rule41, rule42, rule43, keepsRules}
 use Rattle.lines.specs.Answers.{routeOf, traceOf}
 use Rattle.lines.specs.declared.Map.{Map}
-use Rattle.lines.specs.declared.Places.{Places}
 use Rattle.lines.specs.declared.Route.the-variants.{Arrives, Refused as NoRoute}
 use Rattle.lines.specs.declared.Trace.the-variants.{Refused as NoTrace}
 use Rattle.lines.specs.declared.Verdict.the-variants.{Kept}
-use Rattle.madt.specs.Walk.{walked}
-use Rattle.madt.specs.declared.Walked.{Walked}
 use Rattle.processors.specs.Listing.{count}
 use Rattle.processors.specs.Repeats.{firstRepeat}
 use Rattle.processors.specs.declared.Repeat.the-variants.{Nowhere}
-use Rattle.reading.specs.Scan.{madtBytes, scan}
+use Rattle.map_promises.specs.Structures.{Shared}
+use Rattle.map_promises.specs.Statements.{NoTwoAlike, TracingNames, NothingExactly, LpcLinesShare, ThereAndBack}
+use Rattle.map_promises.specs.Walks.{Normal}
+use Rattle.reading.specs.Scan.{madtBytes, walkOf, scan}
 use Rattle.reading.specs.Reading.{readingOf}
 use Rattle.reading.specs.declared.Answer.the-variants.{Read, Refused as NotRead}
-use Rattle.madt.specs.Adding.{noEio, noBio, noMsi}
-use Rattle.promises.specs.Structures.{Placed, Shared}
-use Rattle.promises.specs.Statements.{NoTwoAlike, TracingNames, NothingExactly, LpcLinesShare, ThereAndBack}
-
--- ---- the walk keeps its books
--- "its unused places, an unused half's byte among them, hold 0": of the four places for EIO, BIO and MSI those past the count;
--- the byte of a half with mask 0; all that an absent LIO or LPC would have
-pub record Normal (map : Map) : Type 0 where
-  pub foureios : length (map .eios) ≡ 4
-  pub fourbios : length (map .bios) ≡ 4
-  pub fourmsis : length (map .msis) ≡ 4
-  pub eios : (i : ℕ) → map .eiocount ≤ i → getD (map .eios) i noEio ≡ noEio
-  pub bios : (i : ℕ) → map .biocount ≤ i → getD (map .bios) i noBio ≡ noBio
-  pub msis : (i : ℕ) → map .msicount ≤ i → getD (map .msis) i noMsi ≡ noMsi
-  pub low : map .lio .low .mask ≡ 0 → map .lio .low .cascade ≡ 0
-  pub high : map .lio .high .mask ≡ 0 → map .lio .high .cascade ≡ 0
-  pub nolio : map .lio .present ≡ false → (map .lio .low ≡ noHalf) × (map .lio .high ≡ noHalf)
-  pub nolpc : map .lpc .present ≡ false → map .lpc .cascade ≡ 0
-
--- nothing that is unused was forgotten there: normal maps that are the same map are equal
-abbrev pub NormalMapsEqual : Map → Map → Type 0
-NormalMapsEqual map other = Normal map → Normal other → Same map other → map ≡ other
-
--- a map with the places of its structures: every structure has a place of its own, 36 to 38 are kept, unused places hold 0
-pub record WellKept (map : Map) (places : Places) : Type 0 where
-  pub placed : Placed (says map) places
-  pub r36 : rangesKept (says map) ≡ true
-  pub r37 : bitInBoth (says map .lio) ≡ false
-  pub r38 : tooMany map ≡ false
-  pub normal : Normal map
-
--- the walk of a MADT that stands at `base`, if it refuses nothing, finds such a map, with the SCI number that it was given
-abbrev pub WalkKeepsBooks : List ℕ → ℕ → ℕ → Type 0
-WalkKeepsBooks table base sci =
-    walked table base sci .verdict ≡ Sound
-    → WellKept (walked table base sci .found .map) (walked table base sci .found .places)
-    × (walked table base sci .found .map .sci ≡ sci)
 
 -- ---- demand 3: "Take any accepted capture"
 -- no rule from 1 to 54 is broken
@@ -100,10 +60,6 @@ abbrev pub ReadIsTrustworthy : List ℕ → List ℕ → Type 0
 ReadIsTrustworthy capture list = (count : ℕ) → readingOf capture list .answer ≡ Read count → Trustworthy (readingOf capture list .map)
 
 -- ---- demand 3, its last sentence
--- the walk of the MADT of the tables that were found in a capture
-abbrev pub walkOf : List ℕ → Tables → Walked
-walkOf capture t = walked (madtBytes capture (t .madt)) (t .madt .place) (t .sci)
-
 -- "A capture that breaks no earlier rule": none from 1 to 43
 pub record NothingBefore51 (capture : List ℕ) (t : Tables) : Type 0 where
   -- 1 to 30; the tables are t

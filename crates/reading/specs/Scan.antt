@@ -31,6 +31,10 @@ use Rattle.reading.specs.declared.Scan.{Scan}
 unfoldable pub madtBytes : List ℕ → Table → List ℕ
 madtBytes capture madt = partAt capture (madt .place) (madt .length)
 
+-- the walk of the MADT of the tables that were found
+abbrev pub walkOf : List ℕ → Tables → Walked
+walkOf capture t = walked (madtBytes capture (t .madt)) (t .madt .place) (t .sci)
+
 -- "no map": the fixed empty one
 unfoldable pub emptyMap : Map
 emptyMap = nothing 0 .map
@@ -76,8 +80,7 @@ afterWalk table t w = judged t (w .found .map) (inTurn (w .verdict) (rulesAfterW
 
 unfoldable pub afterSurvey : List ℕ → Survey → Scan
 afterSurvey capture (surveys.Refused refusal) = turnedDown refusal
-afterSurvey capture (surveys.Found t) =
-    afterWalk (madtBytes capture (t .madt)) t (walked (madtBytes capture (t .madt)) (t .madt .place) (t .sci))
+afterSurvey capture (surveys.Found t) = afterWalk (madtBytes capture (t .madt)) t (walkOf capture t)
 
 unfoldable pub scan : List ℕ → Scan
 scan capture = afterSurvey capture (survey capture)

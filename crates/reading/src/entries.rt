@@ -1,4 +1,5 @@
-// The C entries: plain numbers and byte slices in, one number of 64 bits out. include/yasmirand.h declares them.
+// The C entries: plain numbers and byte slices in, one number of 64 bits out. include/yasmirand.h declares them. The map of a
+// capture that the scan accepts keeps all rules (proofs/AcceptedKeepsRules), so that its answers are had without 61.
 use crate::Answer;
 use capture::Verdict;
 use lines::codes;
@@ -54,7 +55,7 @@ pub extern "C" fn yasmirand_route(capture: &[u8], number: u32) -> u64
     let map = s.map;
     match verdict {
         Verdict::Refused(refusal) => codes::refusal_code(refusal),
-        Verdict::Sound => codes::route_code(map.route(number)),
+        Verdict::Sound => codes::route_code(map.arrival(number)),
     }
 }
 
@@ -68,6 +69,6 @@ pub extern "C" fn yasmirand_trace(capture: &[u8], vector: u32, number: u32) -> u
     let map = s.map;
     match verdict {
         Verdict::Refused(refusal) => codes::refusal_code(refusal),
-        Verdict::Sound => codes::trace_code(map.trace(vector, number)),
+        Verdict::Sound => codes::trace_code(map.traced(vector, number)),
     }
 }

@@ -17,7 +17,7 @@ use Rattle.lines.specs.declared.Bridge.{Bridge}
 use Rattle.lines.specs.declared.Bridge.the-variants.{Is, None}
 use Rattle.lines.specs.declared.Route.{Route}
 use Rattle.lines.specs.declared.Route.the-variants.{Arrives, Unwired, NoOwner, Refused}
-use Rattle.madt.proofs.Cases.{if-cases}
+use Rattle.words.proofs.Choices.{if-cases}
 use Rattle.text.specs.Numerals.{letters}
 use Rattle.text.specs.Lines.{each, field, phrase, line, versionLine, coreLine, coreLines, halfLine, lioLines, eioLine, bioLine, msiLine, lpcLine, sciLine, refusalLine}
 use Rattle.text.specs.Text.{joined, mapParts, mapText, Fits}

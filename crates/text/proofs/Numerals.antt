@@ -8,8 +8,7 @@ use borrow.Author.Tests.{lt-ltb, le-ltb}
 use lib.Dec.{ltb}
 use lib.ListN.{length, length-append}
 use Rattle.words.specs.Choice.{if}
-use Rattle.words.proofs.Choices.{yes-if, no-if}
-use Rattle.madt.proofs.Cases.{if-cases}
+use Rattle.words.proofs.Choices.{yes-if, no-if, if-cases}
 use Rattle.text.specs.Numerals.{digit, digits, decimal}
 
 -- a number that is below two powers of ten has the same digits by either

@@ -17,3 +17,9 @@ pub passed {ℓ} : {A : Type ℓ} (b : Bool) (x y z : A) → if b x y ≡ z → 
 unfolding if
 passed true x y z h other = absurd (other h)
 passed false x y z h other = (refl, h)
+
+-- what holds of both answers of a choice holds of the choice
+pub if-cases : {A : Type 0} (P : A → Type 0) (b : Bool) (x y : A) → (b ≡ true → P x) → (b ≡ false → P y) → P (if b x y)
+unfolding if
+if-cases P true x y f g = f refl
+if-cases P false x y f g = g refl

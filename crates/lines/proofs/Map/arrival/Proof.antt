@@ -1,11 +1,23 @@
 -- `Map::arrival` goes by the owner.
+use mathlib.Core.Path.{_≡_}
+use lib.ListN.{length, take}
 use borrow.Author.Needs.{needs}
+use Rattle.clashes.proofs.Arrays.{length-mapped}
 use Rattle.lines.specs.Routes.{arrival, arrivalOf}
+use Rattle.lines.proofs.Counts.{take-used}
 use Rattle.lines.proofs.Map.arrival.Statement.{statement}
 use Rattle.lines.proofs.Map.arrival.Tie as tie
 
-cast-n : tie.Need-cast-n
-cast-n c = search needs
+-- the EIO that are looked at are those of the map
+eios-used : (c : tie.After-used)
+    → take (c .used .result) (c .before .before .args .self .eios) ≡ take (c .before .before .args .self .eiocount) (c .before .before .args .self .eios)
+eios-used c =
+    let map = c .before .before .args .self in
+    let held : length (map .eios) ≡ 4 = search (needs, length-mapped) in
+    take-used (map .eios) (map .eiocount) _ held (c .used .ensures .1)
+
+used-requires : tie.Need-used-requires
+used-requires c κs = search needs
 
 said-lpc-requires : tie.Need-said-lpc-requires
 said-lpc-requires c κs = search needs
@@ -19,11 +31,8 @@ owner-requires c κs = search needs
 enum-told : tie.Need-enum-told
 enum-told c = search needs
 
-cast-lpc-bridge : tie.Need-cast-lpc-bridge
-cast-lpc-bridge c = search needs
-
-lpc-bridge-requires : tie.Need-lpc-bridge-requires
-lpc-bridge-requires c κs = search needs
+bridge-requires : tie.Need-bridge-requires
+bridge-requires c κs = search needs
 
 cast-pin-arrival : tie.Need-cast-pin-arrival
 cast-pin-arrival c = search needs
@@ -49,13 +58,14 @@ enum-told-2 c = search needs
 returns : tie.Need-returns
 unfolding arrival arrivalOf
 returns c =
-    let o = c .before .before .before .before .before .before in
+    let o = c .before .before .before .before .before in
     rw (
       ← o .owner .ensures,
-      c .before .before .before .before .enum-told .given .1,
+      c .before .before .before .enum-told .given .1,
       c .pin-arrival .ensures,
-      c .before .before .lpc-bridge .ensures,
+      c .before .before .bridge .ensures,
       o .before .before .said-lpc .ensures,
+      eios-used (o .before .before .before),
     )
 
 returns-2 : tie.Need-returns-2
@@ -68,7 +78,7 @@ returns-3 : tie.Need-returns-3
 unfolding arrival arrivalOf
 returns-3 c =
     let o = c .before .before .before .before in
-    rw (← o .owner .ensures, c .before .before .node .given .1) (c .eio-arrival .ensures)
+    rw (← o .owner .ensures, c .before .before .node .given .1, c .eio-arrival .ensures, eios-used (o .before .before .before))
 
 returns-4 : tie.Need-returns-4
 unfolding arrival arrivalOf
@@ -78,13 +88,12 @@ pub arrival-spec : {M : Type 1} → statement M
 arrival-spec =
     tie.close
     (tie.spec
-    cast-n
+    used-requires
     said-lpc-requires
     said-lio-requires
     owner-requires
     enum-told
-    cast-lpc-bridge
-    lpc-bridge-requires
+    bridge-requires
     cast-pin-arrival
     pin-arrival-requires
     enum-known-i

@@ -1,5 +1,5 @@
 -- `Map::eio_traced` searches the EIO that enters a core vector.
-use mathlib.Core.Path.{_≡_, refl, _∙_}
+use mathlib.Core.Path.{_≡_, _∙_}
 use lib.Dec.{eqb}
 use lib.ListN.{length, take, drop}
 use Prim.Native.Nat.{_-_}
@@ -12,6 +12,7 @@ use Rattle.clashes.proofs.Turns.{Turn, element, next-turn, no-turn}
 use Rattle.lines.specs.Says.{says}
 use Rattle.lines.specs.Traces.{landed, eioTraced}
 use Rattle.lines.specs.declared.Trace.the-variants.{Nothing}
+use Rattle.lines.proofs.Counts.{take-used}
 use Rattle.lines.proofs.Map.eio_traced.Statement.{statement}
 use Rattle.lines.proofs.Map.eio_traced.Tie as tie
 
@@ -23,14 +24,16 @@ Inv-loop self vector number eios n i₀ i =
 abbrev μ-loop : tie.MeasureT-loop
 μ-loop self vector number eios n i₀ i = n - i
 
-cast-n : tie.Need-cast-n Inv-loop μ-loop
-cast-n c = search needs
+used-requires : tie.Need-used-requires Inv-loop μ-loop
+used-requires c κs = search needs
 
 loop-holds : tie.Need-loop-holds Inv-loop μ-loop
 unfolding eioTraced
 loop-holds c =
-    let held : length (c .before .before .args .self .eios) ≡ 4 = search (needs, length-mapped) in
-    (record { within = search needs; fits = omega arith }, record { gives = refl })
+    let map = c .before .before .args .self in
+    let held : length (map .eios) ≡ 4 = search (needs, length-mapped) in
+    let used = take-used (map .eios) (map .eiocount) _ held (c .used .ensures .1) in
+    (record { within = search needs; fits = search needs }, record { gives = rw used })
 
 mul-e : tie.Need-mul-e Inv-loop μ-loop
 mul-e c = search needs
@@ -71,7 +74,7 @@ eio-traced-spec =
     (tie.spec
     Inv-loop
     μ-loop
-    cast-n
+    used-requires
     loop-holds
     mul-e
     array-copy-out-e

@@ -7,11 +7,8 @@ use Rattle.lines.proofs.Map.is_lpc_pin.Tie as tie
 said-lpc-requires : tie.Need-said-lpc-requires
 said-lpc-requires c κs = search needs
 
-cast-lpc-bridge : tie.Need-cast-lpc-bridge
-cast-lpc-bridge c = search needs
-
-lpc-bridge-requires : tie.Need-lpc-bridge-requires
-lpc-bridge-requires c κs = search needs
+bridge-requires : tie.Need-bridge-requires
+bridge-requires c κs = search needs
 
 cast-result : tie.Need-cast-result
 cast-result c = search needs
@@ -22,15 +19,8 @@ is-bridge-requires c κs = search needs
 returns : tie.Need-returns
 unfolding isLpcPin
 returns c =
-    rw (c .is-bridge .ensures, c .before .before .before .lpc-bridge .ensures, c .before .before .before .before .before .said-lpc .ensures)
+    rw (c .is-bridge .ensures, c .before .before .before .bridge .ensures, c .before .before .before .before .said-lpc .ensures)
 
 pub is-lpc-pin-spec : {M : Type 1} → statement M
 is-lpc-pin-spec =
-    tie.close
-    (tie.spec
-    said-lpc-requires
-    cast-lpc-bridge
-    lpc-bridge-requires
-    cast-result
-    is-bridge-requires
-    returns)
+    tie.close (tie.spec said-lpc-requires bridge-requires cast-result is-bridge-requires returns)

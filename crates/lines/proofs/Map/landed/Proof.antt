@@ -1,5 +1,5 @@
 -- `Map::landed` searches the BIO of the node, then the MSI.
-use mathlib.Core.Path.{_≡_, refl, sym, _∙_}
+use mathlib.Core.Path.{_≡_, sym, _∙_, ap}
 use lib.ListN.{length, take, drop}
 use Prim.Native.Nat.{_-_}
 use native.Mathlib.Omega.{arith}
@@ -11,6 +11,7 @@ use Rattle.parts.specs.Inputs.{hasPin}
 use Rattle.parts.proofs.Inputs.{pin-small}
 use Rattle.lines.specs.Says.{says}
 use Rattle.lines.specs.Traces.{pinTold, slotTold, landed}
+use Rattle.lines.proofs.Counts.{take-used}
 use Rattle.lines.proofs.Map.landed.Statement.{statement}
 use Rattle.lines.proofs.Map.landed.Tie as tie
 
@@ -22,14 +23,16 @@ Inv-loop self node vector bios msis n i₀ i =
 abbrev μ-loop : tie.MeasureT-loop
 μ-loop self node vector bios msis n i₀ i = n - i
 
-cast-n : tie.Need-cast-n Inv-loop μ-loop
-cast-n c = search needs
+used-requires : tie.Need-used-requires Inv-loop μ-loop
+used-requires c κs = search needs
 
 loop-holds : tie.Need-loop-holds Inv-loop μ-loop
 unfolding landed
 loop-holds c =
-    let held : length (c .before .before .before .args .self .bios) ≡ 4 = search (needs, length-mapped) in
-    (record { within = search needs; fits = omega arith }, record { gives = refl })
+    let map = c .before .before .before .args .self in
+    let held : length (map .bios) ≡ 4 = search (needs, length-mapped) in
+    let used = take-used (map .bios) (map .biocount) _ held (c .used .ensures .1) in
+    (record { within = search needs; fits = search needs }, record { gives = rw used })
 
 mul-b : tie.Need-mul-b Inv-loop μ-loop
 mul-b c = search needs
@@ -41,7 +44,7 @@ has-pin-requires : tie.Need-has-pin-requires Inv-loop μ-loop
 has-pin-requires c κs = search needs
 
 pin-told-requires : tie.Need-pin-told-requires Inv-loop μ-loop
-pin-told-requires c κs = (search needs, pin-small _ _ _ (sym (c .before .has-pin .ensures) ∙ c .if1 .taken))
+pin-told-requires c κs = pin-small _ _ _ (sym (c .before .has-pin .ensures) ∙ c .if1 .taken)
 
 returns : tie.Need-returns Inv-loop μ-loop
 returns c =
@@ -62,8 +65,8 @@ loop-again c =
       search-miss (l .1) (element (l .0) _ (omega arith)) (sym (c .before .has-pin .ensures) ∙ c .if1 .left),
     )
 
-cast-slot-told : tie.Need-cast-slot-told Inv-loop μ-loop
-cast-slot-told c = search needs
+used-requires-2 : tie.Need-used-requires-2 Inv-loop μ-loop
+used-requires-2 c κs = search needs
 
 slot-told-requires : tie.Need-slot-told-requires Inv-loop μ-loop
 slot-told-requires c κs = search needs
@@ -71,7 +74,12 @@ slot-told-requires c κs = search needs
 returns-2 : tie.Need-returns-2 Inv-loop μ-loop
 returns-2 c =
     let l = c .before .before .before .loop .inv in
-    c .slot-told .ensures ∙ search-over (l .1) (no-turn (l .0) (omega arith))
+    let a = c .before .before .before .before .before .before .before .args in
+    let held : length (a .self .msis) ≡ 4 = search (needs, length-mapped) in
+    let used = take-used (a .self .msis) (a .self .msicount) _ held (c .before .used2 .ensures .1) in
+    c .slot-told .ensures
+    ∙ ap (λ msis. slotTold msis (a .node) (a .vector)) used
+    ∙ search-over (l .1) (no-turn (l .0) (omega arith))
 
 pub landed-spec : {M : Type 1} → statement M
 landed-spec =
@@ -79,7 +87,7 @@ landed-spec =
     (tie.spec
     Inv-loop
     μ-loop
-    cast-n
+    used-requires
     loop-holds
     mul-b
     array-copy-out-b
@@ -89,6 +97,6 @@ landed-spec =
     add-i
     loop-less
     loop-again
-    cast-slot-told
+    used-requires-2
     slot-told-requires
     returns-2)

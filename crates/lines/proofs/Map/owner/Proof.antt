@@ -1,9 +1,13 @@
 -- `Map::owner` goes by the global number.
+use mathlib.Core.Path.{_≡_, _∙_, ap}
+use lib.ListN.{length}
 use borrow.Author.Tests.{lt-ltb, le-ltb}
 use borrow.Author.Needs.{needs}
 use Rattle.words.specs.Choice.{if}
 use Rattle.kinds.proofs.Used.{lpc-present}
-use Rattle.lines.specs.Routes.{owner}
+use Rattle.clashes.proofs.Arrays.{length-mapped}
+use Rattle.lines.specs.Routes.{owner, bioOwner}
+use Rattle.lines.proofs.Counts.{take-used}
 use Rattle.lines.proofs.Map.owner.Statement.{statement}
 use Rattle.lines.proofs.Map.owner.Tie as tie
 
@@ -25,8 +29,8 @@ returns-3 c =
     let a = c .before .before .before .before .args in
     rw (le-ltb (a .number) 16 (c .before .if1 .left), lt-ltb (a .number) 48 (c .if3 .taken))
 
-cast-bio-owner : tie.Need-cast-bio-owner
-cast-bio-owner c = search needs
+used-requires : tie.Need-used-requires
+used-requires c κs = search needs
 
 bio-owner-requires : tie.Need-bio-owner-requires
 bio-owner-requires c κs = search needs
@@ -35,8 +39,10 @@ returns-4 : tie.Need-returns-4
 unfolding owner if
 returns-4 c =
     let a = c .before .before .before .before .before .before .args in
-    rw (le-ltb (a .number) 16 (c .before .before .before .if1 .left), le-ltb (a .number) 48 (c .before .before .if3 .left)) (c .bio-owner .ensures)
+    let held : length (a .self .bios) ≡ 4 = search (needs, length-mapped) in
+    rw (le-ltb (a .number) 16 (c .before .before .before .if1 .left), le-ltb (a .number) 48 (c .before .before .if3 .left))
+    (c .bio-owner .ensures ∙ ap (λ bios. bioOwner bios (a .number)) (take-used (a .self .bios) (a .self .biocount) _ held (c .before .used .ensures .1)))
 
 pub owner-spec : {M : Type 1} → statement M
 owner-spec =
-    tie.close (tie.spec returns returns-2 returns-3 cast-bio-owner bio-owner-requires returns-4)
+    tie.close (tie.spec returns returns-2 returns-3 used-requires bio-owner-requires returns-4)

@@ -3,7 +3,6 @@ use mathlib.Core.Path.{sym, _∙_, refl}
 use borrow.Author.Needs.{needs}
 use Rattle.words.proofs.Choices.{yes-if, no-if}
 use Rattle.lines.specs.Answers.{traceOf}
-use Rattle.lines.proofs.Counts.{counts, few-of-kept}
 use Rattle.lines.proofs.Map.trace.Statement.{statement}
 use Rattle.lines.proofs.Map.trace.Tie as tie
 
@@ -11,10 +10,7 @@ keeps-rules-requires : tie.Need-keeps-rules-requires
 keeps-rules-requires c κs = search needs
 
 traced-requires : tie.Need-traced-requires
-traced-requires c κs =
-    let m = c .before .before .args .self in
-    let r = counts m (few-of-kept m (sym (c .before .keeps-rules .ensures) ∙ c .if1 .taken)) in
-    r
+traced-requires c κs = search needs
 
 returns : tie.Need-returns
 unfolding traceOf

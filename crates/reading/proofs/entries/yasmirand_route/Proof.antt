@@ -1,9 +1,12 @@
 -- `reading::entries::yasmirand_route` is the route of the capture's map as a number, or the refusal.
 use mathlib.Core.Path.{ap, sym, _∙_}
-use Rattle.lines.specs.Answers.{routeOf, routeCode}
+use Rattle.lines.specs.Says.{says}
+use Rattle.lines.specs.Routes.{arrival}
+use Rattle.lines.specs.Answers.{routeCode}
 use Rattle.reading.specs.Entries.{routeResult}
 use Rattle.reading.specs.declared.Scan.{Scan}
 use Rattle.reading.proofs.Laws.{asked-refused, asked-sound}
+use Rattle.reading.proofs.AcceptedKeepsRules.{accepted-route}
 use borrow.Author.Needs.{needs}
 use Rattle.reading.proofs.entries.yasmirand_route.Statement.{statement}
 use Rattle.reading.proofs.entries.yasmirand_route.Tie as tie
@@ -20,8 +23,8 @@ refusal-code-requires c κs = search needs
 enum-told : tie.Need-enum-told
 enum-told c = search needs
 
-route-requires : tie.Need-route-requires
-route-requires c κs = search needs
+arrival-requires : tie.Need-arrival-requires
+arrival-requires c κs = search needs
 
 route-code-requires : tie.Need-route-code-requires
 route-code-requires c κs = search needs
@@ -38,10 +41,12 @@ unfolding routeResult
 returns-2 c =
     let s = c .before .before .before .before .before in
     let number = s .before .before .args .number in
+    let sound = ap (λ (x : Scan). x .verdict) (sym (s .scan-capture .ensures)) ∙ c .before .before .enum-told .given .1 in
     c .route-code .ensures
-    ∙ ap routeCode (c .before .route .ensures)
-    ∙ ap (λ (x : Scan). routeCode (routeOf (x .map) number)) (s .scan-capture .ensures)
-    ∙ sym (asked-sound _ _ (ap (λ (x : Scan). x .verdict) (sym (s .scan-capture .ensures)) ∙ c .before .before .enum-told .given .1))
+    ∙ ap routeCode (c .before .arrival .ensures)
+    ∙ ap (λ (x : Scan). routeCode (arrival (says (x .map)) number)) (s .scan-capture .ensures)
+    ∙ ap routeCode (sym (accepted-route _ sound number))
+    ∙ sym (asked-sound _ _ sound)
 
 pub yasmirand-route-spec : {M : Type 1} → statement M
 yasmirand-route-spec =
@@ -51,7 +56,7 @@ yasmirand-route-spec =
     enum-known-verdict
     refusal-code-requires
     enum-told
-    route-requires
+    arrival-requires
     route-code-requires
     returns
     returns-2)

@@ -1,9 +1,12 @@
 -- `reading::entries::yasmirand_trace` is the trace of the capture's map as a number, or the refusal.
 use mathlib.Core.Path.{ap, sym, _∙_}
-use Rattle.lines.specs.Answers.{traceOf, traceCode}
+use Rattle.lines.specs.Says.{says}
+use Rattle.lines.specs.Traces.{traced}
+use Rattle.lines.specs.Answers.{traceCode}
 use Rattle.reading.specs.Entries.{traceResult}
 use Rattle.reading.specs.declared.Scan.{Scan}
 use Rattle.reading.proofs.Laws.{asked-refused, asked-sound}
+use Rattle.reading.proofs.AcceptedKeepsRules.{accepted-trace}
 use borrow.Author.Needs.{needs}
 use Rattle.reading.proofs.entries.yasmirand_trace.Statement.{statement}
 use Rattle.reading.proofs.entries.yasmirand_trace.Tie as tie
@@ -20,8 +23,8 @@ refusal-code-requires c κs = search needs
 enum-told : tie.Need-enum-told
 enum-told c = search needs
 
-trace-requires : tie.Need-trace-requires
-trace-requires c κs = search needs
+traced-requires : tie.Need-traced-requires
+traced-requires c κs = search needs
 
 trace-code-requires : tie.Need-trace-code-requires
 trace-code-requires c κs = search needs
@@ -38,10 +41,12 @@ unfolding traceResult
 returns-2 c =
     let s = c .before .before .before .before .before in
     let a = s .before .before .args in
+    let sound = ap (λ (x : Scan). x .verdict) (sym (s .scan-capture .ensures)) ∙ c .before .before .enum-told .given .1 in
     c .trace-code .ensures
-    ∙ ap traceCode (c .before .trace .ensures)
-    ∙ ap (λ (x : Scan). traceCode (traceOf (x .map) (a .vector) (a .number))) (s .scan-capture .ensures)
-    ∙ sym (asked-sound _ _ (ap (λ (x : Scan). x .verdict) (sym (s .scan-capture .ensures)) ∙ c .before .before .enum-told .given .1))
+    ∙ ap traceCode (c .before .traced .ensures)
+    ∙ ap (λ (x : Scan). traceCode (traced (says (x .map)) (a .vector) (a .number))) (s .scan-capture .ensures)
+    ∙ ap traceCode (sym (accepted-trace _ sound (a .vector) (a .number)))
+    ∙ sym (asked-sound _ _ sound)
 
 pub yasmirand-trace-spec : {M : Type 1} → statement M
 yasmirand-trace-spec =
@@ -51,7 +56,7 @@ yasmirand-trace-spec =
     enum-known-verdict
     refusal-code-requires
     enum-told
-    trace-requires
+    traced-requires
     trace-code-requires
     returns
     returns-2)

@@ -14,9 +14,8 @@ use Rattle.lines.specs.declared.Map.{Map}
 use Rattle.lines.specs.declared.Verdict.{Verdict as Rules}
 use Rattle.lines.specs.declared.Verdict.the-variants as rules
 use Rattle.madt.specs.declared.Found.{Found}
-use Rattle.reading.specs.Scan.{madtBytes, turnedDown, mapRule, inTurn, rulesAfterWalk, judged, afterWalk, afterSurvey, scan}
-use Rattle.promises.specs.Captures.{Accepted, walkOf}
-use Rattle.promises.proofs.WalkKeepsBooks.{not-sound}
+use Rattle.map_promises.proofs.WalkKeepsBooks.{not-sound}
+use Rattle.reading.specs.Scan.{madtBytes, walkOf, turnedDown, mapRule, inTurn, rulesAfterWalk, judged, afterWalk, afterSurvey, scan}
 
 both-sound : (v later : Verdict) → inTurn v later ≡ Sound → (v ≡ Sound) × (later ≡ Sound)
 unfolding inTurn
@@ -55,7 +54,7 @@ pub record Scanned (capture : List ℕ) : Type 0 where
   pub map : scan capture .map ≡ walkOf capture t .found .map
   pub madt : scan capture .madt ≡ t .madt
 
-pub scanned : (capture : List ℕ) → Accepted capture → Scanned capture
+pub scanned : (capture : List ℕ) → scan capture .verdict ≡ Sound → Scanned capture
 unfolding scan afterSurvey afterWalk turnedDown
 scanned capture h = go (survey capture) refl h
   where

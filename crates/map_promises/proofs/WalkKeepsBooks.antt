@@ -21,14 +21,15 @@ use Rattle.madt.specs.Takes.{takeOne}
 use Rattle.madt.specs.Walk.{turnedAway, afterTaking, walk, walked}
 use Rattle.madt.specs.declared.Found.{Found}
 use Rattle.madt.specs.declared.Walked.{Walked}
-use Rattle.madt.proofs.Cases.{if-cases}
-use Rattle.promises.specs.Structures.{Structure, lio, eio, bio, msi, IsIn, Placed}
-use Rattle.promises.specs.Captures.{Normal, WellKept, WalkKeepsBooks}
-use Rattle.promises.proofs.Shelves.{fits-all}
-use Rattle.promises.proofs.InOrder.{InOrder, pieces-in-order}
-use Rattle.promises.proofs.Books.{Used, Books, opened, later}
-use Rattle.promises.proofs.Unused.{lio-unused, lpc-unused}
-use Rattle.promises.proofs.Takings.{is-zero, takes-keep}
+use Rattle.madt.proofs.Taking.{is-zero}
+use Rattle.words.proofs.Choices.{if-cases}
+use Rattle.map_promises.specs.Structures.{Structure, lio, eio, bio, msi, IsIn, Placed}
+use Rattle.map_promises.specs.Walks.{Normal, WellKept, WalkKeepsBooks}
+use Rattle.map_promises.proofs.Shelves.{fits-all}
+use Rattle.map_promises.proofs.InOrder.{InOrder, pieces-in-order}
+use Rattle.map_promises.proofs.Books.{Used, Books, opened, later}
+use Rattle.map_promises.proofs.Unused.{lio-unused, lpc-unused}
+use Rattle.map_promises.proofs.Takings.{takes-keep}
 
 -- ---- the walk
 pub not-sound : {refusal : Refusal} {X : Type 0} → _≡_ {A = Verdict} (Refused refusal) Sound → X

@@ -7,7 +7,7 @@ use lib.ListN.{length, getD, length-take}
 use Rattle.lines.specs.Says.{says}
 use Rattle.lines.specs.Rules.{slotPlaces}
 use Rattle.lines.specs.declared.Map.{Map}
-use Rattle.promises.specs.Structures.{Structure, lio, eio, bio, msi, IsIn, placeOf, Placed}
+use Rattle.map_promises.specs.Structures.{Structure, lio, eio, bio, msi, IsIn, placeOf, Placed}
 
 four : (a i : ℕ) → i < 4 → getD (a ∷ suc a ∷ suc (suc a) ∷ suc (suc (suc a)) ∷ []) i 0 ≡ a + i
 four a zero k = omega arith

@@ -4,13 +4,12 @@ use mathlib.Core.Bool.{Bool, true, false, true≢false}
 use borrow.Author.Tests.{eqb-true, eq-eqb}
 use lib.Dec.{eqb}
 use Rattle.words.specs.Choice.{if}
-use Rattle.words.proofs.Choices.{yes-if, no-if}
+use Rattle.words.proofs.Choices.{yes-if, no-if, if-cases}
 use Rattle.kinds.specs.Ranges.{halfFits}
 use Rattle.kinds.specs.Used.{noHalf, usedHalf, saidLio, saidLpc}
 use Rattle.kinds.specs.declared.Half.{Half}
 use Rattle.kinds.specs.declared.Lio.{Lio}
 use Rattle.kinds.specs.declared.Lpc.{Lpc}
-use Rattle.madt.proofs.Cases.{if-cases}
 
 pub half-mask : (half : Half) → usedHalf half .mask ≡ half .mask
 unfolding usedHalf if

@@ -23,9 +23,9 @@ use Rattle.lines.specs.declared.Map.{Map}
 use Rattle.lines.specs.declared.Places.{Places}
 use Rattle.madt.specs.Adding.{noMap, noPlaces, nothing, withCore, withLio, withEio, withMsi, withBio, withLpc, noEio, noBio, noMsi}
 use Rattle.madt.specs.declared.Found.{Found}
-use Rattle.madt.proofs.Cases.{if-cases}
-use Rattle.promises.specs.Structures.{Structure, lio, eio, bio, msi, placeOf}
-use Rattle.promises.proofs.Shelves.{Shelf, empty-shelf, last-or-before, one-more}
+use Rattle.words.proofs.Choices.{if-cases}
+use Rattle.map_promises.specs.Structures.{Structure, lio, eio, bio, msi, placeOf}
+use Rattle.map_promises.proofs.Shelves.{Shelf, empty-shelf, last-or-before, one-more}
 
 -- a structure is one of the map's, by the counts
 abbrev pub Used : Map → Structure → Type 0

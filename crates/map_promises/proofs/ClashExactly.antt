@@ -26,12 +26,12 @@ use Rattle.lines.specs.declared.Places.{Places}
 use Rattle.lines.specs.declared.Verdict.{Verdict}
 use Rattle.lines.specs.declared.Verdict.the-variants.{Kept, Broken}
 use Rattle.lines.proofs.Verdicts.{or-kept}
-use Rattle.promises.specs.Structures.{Placed, Shared}
-use Rattle.promises.specs.Statements.{KeepsTo43, RefusedForClash, ClashExactly}
-use Rattle.promises.proofs.Exactly.{shared-meet, meet-shared}
-use Rattle.promises.proofs.Hubs.{Hub, bio-hub}
-use Rattle.promises.proofs.Meetings.{no-meet, meet-or-none}
-use Rattle.promises.proofs.Verdicts.{check-kept, kept-check, spotted-kept}
+use Rattle.map_promises.specs.Structures.{Placed, Shared}
+use Rattle.map_promises.specs.Statements.{KeepsTo43, RefusedForClash, ClashExactly}
+use Rattle.map_promises.proofs.Exactly.{shared-meet, meet-shared}
+use Rattle.map_promises.proofs.Hubs.{Hub, bio-hub}
+use Rattle.map_promises.proofs.Meetings.{no-meet, meet-or-none}
+use Rattle.map_promises.proofs.Verdicts.{check-kept, kept-check, spotted-kept}
 
 -- an unused half says 0
 half-said : (half : Half) → usedHalf half .mask ≡ 0 → usedHalf half .cascade ≡ 0

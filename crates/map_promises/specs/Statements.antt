@@ -1,6 +1,6 @@
 -- What is promised of maps. Each statement stands alone; proofs/ has a theorem of the same name for it.
 use Prim.Native.Nat.{ℕ, _+_, _^_, _<_, _≤_}
-use mathlib.Core.Bool.{true, false, not}
+use mathlib.Core.Bool.{true, false}
 use mathlib.Core.List.{List, List·Memᴰ}
 use mathlib.Core.Logic.{_⊎_}
 use mathlib.Core.Path.{_≡_}
@@ -25,8 +25,8 @@ use Rattle.lines.specs.declared.Route.the-variants.{Arrives, Unwired, NoOwner, 
 use Rattle.lines.specs.declared.Trace.{Trace}
 use Rattle.lines.specs.declared.Trace.the-variants.{Nothing, LioInput, BioInput, LpcCascade, MsiSlot, Refused as NoTrace}
 use Rattle.lines.specs.declared.Verdict.the-variants.{Kept, Broken}
-use Rattle.promises.specs.Sources.{Source, IsSource, arrives, name}
-use Rattle.promises.specs.Structures.{Placed, Shared}
+use Rattle.map_promises.specs.Sources.{Source, IsSource, arrives, name}
+use Rattle.map_promises.specs.Structures.{Placed, Shared}
 
 -- ---- demand 3: no two lines look alike
 -- every source arrives, and "Two different sources never arrive at the same core vector with the same number"

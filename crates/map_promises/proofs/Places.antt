@@ -21,13 +21,13 @@ use Rattle.lines.specs.declared.Map.{Map}
 use Rattle.lines.specs.declared.Places.{Places}
 use Rattle.lines.specs.declared.Verdict.the-variants.{Kept}
 use Rattle.lines.proofs.Counts.{counts, few-of-kept}
-use Rattle.promises.specs.Structures.{claimOf, Placed}
-use Rattle.promises.specs.Statements.{PlacesDoNotMatter}
-use Rattle.promises.proofs.Logic.{same-bool}
-use Rattle.promises.proofs.Meetings.{same-claim, member, of-member, no-meet, meet-or-none}
-use Rattle.promises.proofs.Members.{every-mem, mem-every}
-use Rattle.promises.proofs.Slots.{slots-placed}
-use Rattle.promises.proofs.Verdicts.{check-kept, kept-check, alone-kept, none-alone, both-kept, none-both, spotted-kept, nowhere-spotted, both-of-kept, each-kept, kept-yes}
+use Rattle.map_promises.specs.Structures.{claimOf, Placed}
+use Rattle.map_promises.specs.Statements.{PlacesDoNotMatter}
+use Rattle.map_promises.proofs.Logic.{same-bool}
+use Rattle.map_promises.proofs.Meetings.{same-claim, member, of-member, no-meet, meet-or-none}
+use Rattle.map_promises.proofs.Members.{every-mem, mem-every}
+use Rattle.map_promises.proofs.Slots.{slots-placed}
+use Rattle.map_promises.proofs.Verdicts.{check-kept, kept-check, alone-kept, none-alone, both-kept, none-both, spotted-kept, nowhere-spotted, both-of-kept, each-kept, kept-yes}
 
 module _ (said : Said) (p q : Places) (op : Placed said p) (oq : Placed said q) where
   -- no clash here, no clash there

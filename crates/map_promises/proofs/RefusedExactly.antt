@@ -24,11 +24,11 @@ use Rattle.lines.specs.declared.Owner.the-variants.{LpcInput, LioInput, BioInpu
 use Rattle.lines.specs.declared.Route.the-variants.{Arrives, Unwired, NoOwner, Refused}
 use Rattle.lines.specs.declared.Trace.the-variants.{Nothing, BioInput as BioTold, LpcCascade, Refused as NoTrace}
 use Rattle.madt.specs.Adding.{noEio}
-use Rattle.promises.specs.Sources.{Source, input, pin, slot, bioAt, name}
-use Rattle.promises.specs.Statements.{RefusedExactly}
-use Rattle.promises.proofs.Kept.{good}
-use Rattle.promises.proofs.Members.{found-or-not}
-use Rattle.promises.proofs.Tracing.{told, names, source-or-nothing}
+use Rattle.map_promises.specs.Sources.{Source, input, pin, slot, bioAt, name}
+use Rattle.map_promises.specs.Statements.{RefusedExactly}
+use Rattle.map_promises.proofs.Kept.{good}
+use Rattle.map_promises.proofs.Members.{found-or-not}
+use Rattle.map_promises.proofs.Tracing.{told, names, source-or-nothing}
 
 -- an arrival and the rest are no refusals
 arrives-not : (v n : ℕ) (r : Refusal) → Arrives v n ≡ Refused r → ⊥

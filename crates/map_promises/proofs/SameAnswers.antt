@@ -13,7 +13,7 @@ use Rattle.lines.specs.Answers.{routeOf, traceOf, badMap}
 use Rattle.lines.specs.declared.Map.{Map}
 use Rattle.lines.specs.declared.Route.the-variants.{Refused}
 use Rattle.lines.specs.declared.Trace.the-variants.{Refused as NoTrace}
-use Rattle.promises.specs.Statements.{SameAnswers, RouteDetermined, TraceDetermined}
+use Rattle.map_promises.specs.Statements.{SameAnswers, RouteDetermined, TraceDetermined}
 
 -- the rules look at the counts and at what is said
 abbrev keeps : Bool → Said → Bool

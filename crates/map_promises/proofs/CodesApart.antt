@@ -5,7 +5,7 @@ use Rattle.words.specs.Refusals.{refused}
 use Rattle.lines.specs.Answers.{routeCode, traceCode}
 use Rattle.lines.specs.declared.Route.the-variants.{Arrives, Unwired, NoOwner, Refused}
 use Rattle.lines.specs.declared.Trace.the-variants.{Nothing, LioInput, BioInput, LpcCascade, MsiSlot, Refused as NoTrace}
-use Rattle.promises.specs.Statements.{RouteCodesApart, TraceCodesApart}
+use Rattle.map_promises.specs.Statements.{RouteCodesApart, TraceCodesApart}
 
 -- THE PROMISES
 pub route-codes-apart : RouteCodesApart

@@ -1,41 +1,26 @@
 -- One structure that the walk takes, after 32 to 38, keeps the books.
-use Prim.Native.Nat.{ℕ, suc, _<_}
+use Prim.Native.Nat.{ℕ, suc}
 use native.Mathlib.Omega.{arith}
 use mathlib.Core.Path.{_≡_, refl}
 use mathlib.Core.List.{List}
 use mathlib.Core.Bool.{true, false, not, _&&_}
-use borrow.Author.Tests.{eqb-true, leb-false, not-false}
-use lib.Dec.{eqb, leb}
+use borrow.Author.Tests.{eqb-true, not-false}
+use lib.Dec.{eqb}
 use Rattle.words.specs.Choice.{if}
-use Rattle.words.proofs.Choices.{passed}
+use Rattle.madt.proofs.Taking.{not-zero, is-zero, judged-zero}
+use Rattle.words.proofs.Choices.{passed, if-cases}
 use Rattle.clashes.proofs.Logic.{and-left, and-right}
 use Rattle.kinds.specs.Makers.{coreOf, lioOf, eioOf, msiOf, bioOf, lpcOf}
 use Rattle.kinds.specs.Ranges.{halfFits, bitInBoth, lioField, eioField, bioField, msiField, lpcField}
 use Rattle.kinds.specs.Used.{saidLio, saidLpc}
 use Rattle.kinds.specs.declared.Lio.{Lio}
-use Rattle.madt.specs.Rules.{wrongLength, wrongVersion, rangeFault, lioFault, judged}
+use Rattle.madt.specs.Rules.{rangeFault, lioFault}
 use Rattle.madt.specs.Takes.{Taken, taking, takeCore, takeLio, takeHt, takeEio, takeMsi, takeBio, takeLpc, takeOne}
 use Rattle.madt.specs.declared.Found.{Found}
-use Rattle.madt.proofs.Cases.{if-cases}
-use Rattle.promises.proofs.Logic.{neq}
-use Rattle.promises.proofs.Books.{LioKept, Books, later, keeps-core, keeps-lio, keeps-eio, keeps-bio, keeps-msi, keeps-lpc}
-use Rattle.promises.proofs.Unused.{half-mask, half-fits, half-again}
+use Rattle.map_promises.proofs.Books.{LioKept, Books, later, keeps-core, keeps-lio, keeps-eio, keeps-bio, keeps-msi, keeps-lpc}
+use Rattle.map_promises.proofs.Unused.{half-mask, half-fits, half-again}
 
 -- ---- what it tells that a structure was taken
-pub is-zero : (n : ℕ) → not (eqb n 0) ≡ false → n ≡ 0
-is-zero n h = eqb-true n 0 (not-false _ h)
-
--- it went through 32 to 38
-judged-zero : (s : List ℕ) (size fault count most : ℕ) → judged s size fault count most ≡ 0 → (fault ≡ 0) × (count < most)
-unfolding judged
-judged-zero s size fault count most h =
-    let a = passed (wrongLength s size) 32 _ 0 h (λ e. omega arith) in
-    let b = passed (wrongVersion s) 33 _ 0 (a .1) (λ e. omega arith) in
-    if-cases (λ (n : ℕ). n ≡ 0 → (fault ≡ 0) × (count < most)) (not (eqb fault 0)) _ _
-    (λ t e. absurd (neq fault 0 t e))
-    (λ t e. (is-zero fault t, leb-false most count (passed (leb most count) 38 0 0 e (λ z. omega arith) .0)))
-    (b .1)
-
 -- 36
 range-zero : (field : ℕ) → rangeFault field ≡ 0 → eqb field 0 ≡ true
 unfolding rangeFault
@@ -72,7 +57,7 @@ module _ {sci next : ℕ} (s : List ℕ) (found : Found) (b : Books sci next (fo
 
   kept : (rule : ℕ) (more : Found) → (rule ≡ 0 → Books sci (suc next) (more .map) (more .places)) → Keeps (taking rule found more)
   unfolding taking
-  kept rule more h = if-cases Keeps (not (eqb rule 0)) _ _ (λ t e. absurd (neq rule 0 t e)) (λ t e. h (is-zero rule t))
+  kept rule more h = if-cases Keeps (not (eqb rule 0)) _ _ (λ t e. absurd (not-zero rule t e)) (λ t e. h (is-zero rule t))
 
   core : Keeps (takeCore s found)
   unfolding takeCore

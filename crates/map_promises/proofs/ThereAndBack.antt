@@ -24,14 +24,14 @@ use Rattle.lines.specs.declared.Owner.the-variants.{LpcInput, LioInput, BioInpu
 use Rattle.lines.specs.declared.Route.the-variants.{Arrives, NoOwner, Unwired}
 use Rattle.lines.specs.declared.Trace.the-variants.{LioInput as LioTold, BioInput as BioTold, LpcCascade}
 use Rattle.madt.specs.Adding.{noBio}
-use Rattle.promises.specs.Sources.{input, pin, bioAt, arrives}
-use Rattle.promises.specs.Statements.{LpcLinesShare, Tells, ThereAndBack}
-use Rattle.promises.proofs.Bridges.{bridge-one}
-use Rattle.promises.proofs.Kept.{Good, good, bio-number}
-use Rattle.promises.proofs.Logic.{order, is-bool}
-use Rattle.promises.proofs.Members.{finds, found-or-not}
-use Rattle.promises.proofs.Ranged.{bio-fits, lpc-fits}
-use Rattle.promises.proofs.Tracing.{tracing-names}
+use Rattle.map_promises.specs.Sources.{input, pin, bioAt}
+use Rattle.map_promises.specs.Statements.{LpcLinesShare, Tells, ThereAndBack}
+use Rattle.map_promises.proofs.Bridges.{bridge-one}
+use Rattle.map_promises.proofs.Kept.{Good, good, bio-number}
+use Rattle.map_promises.proofs.Logic.{order, is-bool}
+use Rattle.map_promises.proofs.Members.{finds, found-or-not}
+use Rattle.map_promises.proofs.Ranged.{bio-fits, lpc-fits}
+use Rattle.map_promises.proofs.Tracing.{tracing-names}
 
 -- ---- whose a number is
 module _ (said : Said) where

@@ -23,14 +23,14 @@ use Rattle.lines.specs.declared.Map.{Map}
 use Rattle.lines.specs.declared.Bridge.{Bridge}
 use Rattle.lines.specs.declared.Bridge.the-variants.{Is, None}
 use Rattle.lines.proofs.Counts.{counts, few-of-kept}
-use Rattle.promises.specs.Sources.{eioAt, bioAt, msiAt}
-use Rattle.promises.specs.Structures.{lio, eio, bio, msi, claimOf, Meet}
-use Rattle.promises.proofs.Hubs.{Hub, bio-hub}
-use Rattle.promises.proofs.Logic.{order}
-use Rattle.promises.proofs.Meetings.{no-meet}
-use Rattle.promises.proofs.Ranged.{eio-fits}
-use Rattle.promises.proofs.Slots.{slots-placed}
-use Rattle.promises.proofs.Verdicts.{check-kept, alone-kept, both-kept, spotted-kept, both-of-kept, each-kept, kept-yes}
+use Rattle.map_promises.specs.Sources.{eioAt, bioAt, msiAt}
+use Rattle.map_promises.specs.Structures.{lio, eio, bio, msi, claimOf, Meet}
+use Rattle.map_promises.proofs.Hubs.{Hub, bio-hub}
+use Rattle.map_promises.proofs.Logic.{order}
+use Rattle.map_promises.proofs.Meetings.{no-meet}
+use Rattle.map_promises.proofs.Ranged.{eio-fits}
+use Rattle.map_promises.proofs.Slots.{slots-placed}
+use Rattle.map_promises.proofs.Verdicts.{check-kept, alone-kept, both-kept, spotted-kept, both-of-kept, each-kept, kept-yes}
 
 -- the rules, as facts about what is said
 pub record Good (said : Said) : Type 0 where

@@ -21,9 +21,9 @@ use Rattle.lines.specs.Claims.{placed, claims}
 use Rattle.lines.specs.Rules.{slotPlaces}
 use Rattle.lines.specs.declared.Places.{Places}
 use Rattle.madt.specs.Adding.{noEio, noBio, noMsi}
-use Rattle.promises.specs.Structures.{Structure, lio, eio, bio, msi, IsIn, placeOf, claimOf, Placed, Meet}
-use Rattle.promises.proofs.Logic.{is-bool, order}
-use Rattle.promises.proofs.Members.{each-or-one, placed-at, placed-of}
+use Rattle.map_promises.specs.Structures.{Structure, lio, eio, bio, msi, IsIn, placeOf, claimOf, Placed, Meet}
+use Rattle.map_promises.proofs.Logic.{is-bool, order}
+use Rattle.map_promises.proofs.Members.{each-or-one, placed-at, placed-of}
 
 -- a claim but for its place
 abbrev unplaced : Claim → Claim

@@ -21,8 +21,8 @@ use Rattle.kinds.specs.declared.Lpc.{Lpc}
 use Rattle.lines.specs.Says.{Said}
 use Rattle.lines.specs.declared.Map.{Map}
 use Rattle.madt.specs.Adding.{noEio, noBio, noMsi}
-use Rattle.promises.specs.Captures.{NormalMapsEqual}
-use Rattle.promises.proofs.Logic.{order}
+use Rattle.map_promises.specs.Walks.{NormalMapsEqual}
+use Rattle.map_promises.proofs.Logic.{order}
 
 -- arrays of four with the same used part, and nothing in the rest
 same-array : {A : Type 0} (none : A) (n m : ℕ) (a b : List A) → n ≡ m → length a ≡ 4 → length b ≡ 4 → take n a ≡ take m b

@@ -17,12 +17,12 @@ use Rattle.lines.specs.Says.{Said}
 use Rattle.lines.specs.Claims.{claims}
 use Rattle.lines.specs.Rules.{rangesKept}
 use Rattle.lines.specs.declared.Places.{Places}
-use Rattle.promises.specs.Sources.{eioAt, bioAt}
-use Rattle.promises.specs.Structures.{Structure, lio, eio, bio, msi, IsIn, claimOf, Placed}
-use Rattle.promises.proofs.Logic.{is-bool}
-use Rattle.promises.proofs.Members.{each-or-one, mem-every}
-use Rattle.promises.proofs.Meetings.{member, of-member}
-use Rattle.promises.proofs.Ranged.{bio-fits}
+use Rattle.map_promises.specs.Sources.{eioAt, bioAt}
+use Rattle.map_promises.specs.Structures.{Structure, lio, eio, bio, msi, IsIn, claimOf, Placed}
+use Rattle.map_promises.proofs.Logic.{is-bool}
+use Rattle.map_promises.proofs.Members.{each-or-one, mem-every}
+use Rattle.map_promises.proofs.Meetings.{member, of-member}
+use Rattle.map_promises.proofs.Ranged.{bio-fits}
 
 -- the EIO of a bridge
 abbrev pub Hub : Said → ℕ → Type 0

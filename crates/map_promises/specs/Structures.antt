@@ -10,7 +10,7 @@ use Rattle.parts.specs.Claims.{lioClaim, eioClaim, bioClaim, msiClaim}
 use Rattle.lines.specs.Says.{Said}
 use Rattle.lines.specs.Rules.{slotPlaces}
 use Rattle.lines.specs.declared.Places.{Places}
-use Rattle.promises.specs.Sources.{Source, IsSource, HasNumber, LandsOn, eioAt, bioAt, msiAt}
+use Rattle.map_promises.specs.Sources.{Source, IsSource, HasNumber, LandsOn, eioAt, bioAt, msiAt}
 
 -- the LIO; the EIO, BIO or MSI at a place of its list
 pub data Structure : Type 0 where

@@ -19,8 +19,8 @@ use Rattle.clashes.proofs.Logic.{and-left, and-right}
 use Rattle.lines.specs.Says.{Said}
 use Rattle.lines.specs.Rules.{eiosFit, biosFit, msisFit, rangesKept}
 use Rattle.madt.specs.Adding.{noEio, noBio, noMsi}
-use Rattle.promises.specs.Sources.{eioAt, bioAt, msiAt}
-use Rattle.promises.proofs.Members.{every-at}
+use Rattle.map_promises.specs.Sources.{eioAt, bioAt, msiAt}
+use Rattle.map_promises.proofs.Members.{every-at}
 
 -- a field's number is 0 only by the test that guards it
 fits-of : (t : Bool) (n : ℕ) → (n ≡ 0 → ⊥) → if t 0 n ≡ 0 → t ≡ true

@@ -17,11 +17,11 @@ use Rattle.parts.specs.Inputs.{hasBit, wired}
 use Rattle.parts.proofs.Inputs.{bit-small}
 use Rattle.lines.specs.Says.{Said}
 use Rattle.lines.specs.Rules.{rangesKept, slotPlaces}
-use Rattle.promises.specs.Sources.{Source, input, pin, slot, bioAt, msiAt, IsSource, HasNumber, LandsOn}
-use Rattle.promises.specs.Structures.{Structure, lio, eio, bio, msi, IsIn, claimOf, Meet, Enters, TwoNumber, TwoVector, TwoCore, Shared}
-use Rattle.promises.proofs.Hubs.{Hub}
-use Rattle.promises.proofs.Logic.{neq, order}
-use Rattle.promises.proofs.Ranged.{eio-fits, bio-fits, msi-fits, low-used, high-used}
+use Rattle.map_promises.specs.Sources.{Source, input, pin, slot, bioAt, msiAt, IsSource, HasNumber, LandsOn}
+use Rattle.map_promises.specs.Structures.{Structure, lio, eio, bio, msi, IsIn, claimOf, Meet, Enters, TwoNumber, TwoVector, TwoCore, Shared}
+use Rattle.map_promises.proofs.Hubs.{Hub}
+use Rattle.map_promises.proofs.Logic.{neq, order}
+use Rattle.map_promises.proofs.Ranged.{eio-fits, bio-fits, msi-fits, low-used, high-used}
 
 -- what two runs that meet say
 runs : (a b : Run) → meet a b ≡ true → (a .first < b .first + b .count) × (b .first < a .first + a .count)

@@ -21,12 +21,12 @@ use Rattle.lines.specs.declared.Map.{Map}
 use Rattle.lines.specs.declared.Route.the-variants.{Arrives}
 use Rattle.lines.specs.declared.Trace.the-variants.{Nothing, LioInput, BioInput, LpcCascade, MsiSlot}
 use Rattle.madt.specs.Adding.{noEio, noBio, noMsi}
-use Rattle.promises.specs.Sources.{Source, input, pin, slot, eioAt, bioAt, msiAt, IsSource, arrives, name}
-use Rattle.promises.specs.Statements.{TracingNames, Arrived, NothingExactly}
-use Rattle.promises.proofs.Kept.{Good, good, eio-node, eio-core, eio-not-low, eio-not-high, bio-node, bio-number, bio-msi, msi-slot}
-use Rattle.promises.proofs.Logic.{is-bool, both-bits}
-use Rattle.promises.proofs.Members.{finds, finds-none, found-or-not}
-use Rattle.promises.proofs.NoTwoAlike.{input-at, through-at, pin-at}
+use Rattle.map_promises.specs.Sources.{Source, input, pin, slot, eioAt, bioAt, msiAt, IsSource, arrives, name}
+use Rattle.map_promises.specs.Statements.{TracingNames, Arrived, NothingExactly}
+use Rattle.map_promises.proofs.Kept.{Good, good, eio-node, eio-core, eio-not-low, eio-not-high, bio-node, bio-number, bio-msi, msi-slot}
+use Rattle.map_promises.proofs.Logic.{is-bool, both-bits}
+use Rattle.map_promises.proofs.Members.{finds, finds-none, found-or-not}
+use Rattle.map_promises.proofs.NoTwoAlike.{input-at, through-at, pin-at}
 
 -- a half leads an input
 led : (half : Half) (v i : ℕ) → v ≡ half .cascade → hasBit (half .mask) i ≡ true → leads half v i ≡ true

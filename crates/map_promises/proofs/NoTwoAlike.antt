@@ -16,10 +16,10 @@ use Rattle.lines.specs.Rules.{keepsRules}
 use Rattle.lines.specs.declared.Map.{Map}
 use Rattle.lines.specs.declared.Route.the-variants.{Arrives, NoOwner, Unwired}
 use Rattle.madt.specs.Adding.{noEio}
-use Rattle.promises.specs.Sources.{Source, input, pin, slot, eioAt, bioAt, IsSource, arrives}
-use Rattle.promises.specs.Statements.{NoTwoAlike}
-use Rattle.promises.proofs.Kept.{Good, good, eio-node, eio-core, eio-not-low, eio-not-high, bio-node, bio-msi, msi-slot}
-use Rattle.promises.proofs.Members.{finds}
+use Rattle.map_promises.specs.Sources.{Source, input, pin, slot, eioAt, bioAt, IsSource, arrives}
+use Rattle.map_promises.specs.Statements.{NoTwoAlike}
+use Rattle.map_promises.proofs.Kept.{Good, good, eio-node, eio-core, eio-not-low, eio-not-high, bio-node, bio-msi, msi-slot}
+use Rattle.map_promises.proofs.Members.{finds}
 
 -- a wired input arrives at the cascade of the half that has its bit
 pub input-at : (lio : Lio) (i : ℕ) → wired lio i ≡ true

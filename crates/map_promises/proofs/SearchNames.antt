@@ -18,7 +18,7 @@ use Rattle.clashes.specs.declared.Pair.{Pair}
 use Rattle.clashes.specs.declared.Pair.the-variants.{Two, None}
 use Rattle.clashes.proofs.Logic.{and-left, and-right}
 use Rattle.clashes.proofs.Searched.{at-nowhere, two-none, hits, step, turn, spot-none}
-use Rattle.promises.specs.Statements.{FirstClash, SearchNames}
+use Rattle.map_promises.specs.Statements.{FirstClash, SearchNames}
 
 -- q is no later than the best so far
 abbrev Under : ℕ → Spot → Type 0

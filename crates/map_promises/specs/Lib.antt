@@ -1,0 +1,4 @@
+pub mod Sources
+pub mod Structures
+pub mod Statements
+pub mod Walks

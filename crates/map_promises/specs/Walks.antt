@@ -1,0 +1,50 @@
+-- What is promised of the walk of a MADT: what it finds is a map in good order. Each statement stands alone; proofs/ has a
+-- theorem of the same name for it.
+use Prim.Native.Nat.{ℕ, _≤_}
+use mathlib.Core.Bool.{true, false}
+use mathlib.Core.List.{List}
+use mathlib.Core.Path.{_≡_}
+use lib.ListN.{length, getD}
+use Rattle.capture.specs.declared.Verdict.the-variants.{Sound}
+use Rattle.kinds.specs.Ranges.{bitInBoth}
+use Rattle.kinds.specs.Used.{noHalf}
+use Rattle.lines.specs.Says.{says, Same}
+use Rattle.lines.specs.Rules.{tooMany, rangesKept}
+use Rattle.lines.specs.declared.Map.{Map}
+use Rattle.lines.specs.declared.Places.{Places}
+use Rattle.madt.specs.Walk.{walked}
+use Rattle.madt.specs.Adding.{noEio, noBio, noMsi}
+use Rattle.map_promises.specs.Structures.{Placed}
+
+-- "its unused places, an unused half's byte among them, hold 0": of the four places for EIO, BIO and MSI those past the count;
+-- the byte of a half with mask 0; all that an absent LIO or LPC would have
+pub record Normal (map : Map) : Type 0 where
+  pub foureios : length (map .eios) ≡ 4
+  pub fourbios : length (map .bios) ≡ 4
+  pub fourmsis : length (map .msis) ≡ 4
+  pub eios : (i : ℕ) → map .eiocount ≤ i → getD (map .eios) i noEio ≡ noEio
+  pub bios : (i : ℕ) → map .biocount ≤ i → getD (map .bios) i noBio ≡ noBio
+  pub msis : (i : ℕ) → map .msicount ≤ i → getD (map .msis) i noMsi ≡ noMsi
+  pub low : map .lio .low .mask ≡ 0 → map .lio .low .cascade ≡ 0
+  pub high : map .lio .high .mask ≡ 0 → map .lio .high .cascade ≡ 0
+  pub nolio : map .lio .present ≡ false → (map .lio .low ≡ noHalf) × (map .lio .high ≡ noHalf)
+  pub nolpc : map .lpc .present ≡ false → map .lpc .cascade ≡ 0
+
+-- nothing that is unused was forgotten there: normal maps that are the same map are equal
+abbrev pub NormalMapsEqual : Map → Map → Type 0
+NormalMapsEqual map other = Normal map → Normal other → Same map other → map ≡ other
+
+-- a map with the places of its structures: every structure has a place of its own, 36 to 38 are kept, unused places hold 0
+pub record WellKept (map : Map) (places : Places) : Type 0 where
+  pub placed : Placed (says map) places
+  pub r36 : rangesKept (says map) ≡ true
+  pub r37 : bitInBoth (says map .lio) ≡ false
+  pub r38 : tooMany map ≡ false
+  pub normal : Normal map
+
+-- the walk of a MADT that stands at `base`, if it refuses nothing, finds such a map, with the SCI number that it was given
+abbrev pub WalkKeepsBooks : List ℕ → ℕ → ℕ → Type 0
+WalkKeepsBooks table base sci =
+    walked table base sci .verdict ≡ Sound
+    → WellKept (walked table base sci .found .map) (walked table base sci .found .places)
+    × (walked table base sci .found .map .sci ≡ sci)

@@ -1,0 +1,50 @@
+-- The map of an accepted capture keeps the rules: the walk gave each of its structures a place of its own and kept 36 to 38,
+-- no rule after the walk is broken with these places, and the places do not matter. So the C entries, which have an accepted
+-- capture, ask the rules no second time. And its unused places hold 0.
+use Prim.Native.Nat.{ℕ}
+use mathlib.Core.Bool.{true}
+use mathlib.Core.List.{List}
+use mathlib.Core.Path.{_≡_}
+use Rattle.words.proofs.Choices.{yes-if}
+use Rattle.capture.specs.declared.Verdict.the-variants.{Sound}
+use Rattle.lines.specs.Says.{says}
+use Rattle.lines.specs.Routes.{arrival}
+use Rattle.lines.specs.Traces.{traced}
+use Rattle.lines.specs.Rules.{keepsRules}
+use Rattle.lines.specs.Answers.{routeOf, traceOf}
+use Rattle.map_promises.specs.Walks.{Normal, WellKept}
+use Rattle.map_promises.proofs.Places.{places-do-not-matter}
+use Rattle.map_promises.proofs.WalkKeepsBooks.{walk-keeps-books}
+use Rattle.reading.specs.Scan.{madtBytes, walkOf, scan}
+use Rattle.reading.proofs.Scanned.{Scanned, scanned, rules-kept}
+
+-- the walk kept its books
+books : (capture : List ℕ) (s : Scanned capture) → WellKept (walkOf capture (s .t) .found .map) (walkOf capture (s .t) .found .places)
+books capture s = walk-keeps-books (madtBytes capture (s .t .madt)) (s .t .madt .place) (s .t .sci) (s .walk) .0
+
+-- its unused places hold 0
+pub accepted-is-normal : (capture : List ℕ) → scan capture .verdict ≡ Sound → Normal (scan capture .map)
+accepted-is-normal capture h =
+    let s = scanned capture h in
+    rw (s .map) (books capture s .normal)
+
+-- it keeps the rules
+pub accepted-keeps-rules : (capture : List ℕ) → scan capture .verdict ≡ Sound → keepsRules (scan capture .map) ≡ true
+accepted-keeps-rules capture h =
+    let s = scanned capture h in
+    let t = s .t in
+    let found = walkOf capture t .found in
+    let b = books capture s in
+    rw (s .map)
+    (places-do-not-matter (found .map) (found .places) (t .madt .place) (t .fadt .place) (b .placed) .0 (b .r36) (b .r37)
+    (rules-kept (madtBytes capture (t .madt)) t found (s .rules)))
+
+-- a question to it has its answer without 61
+module _ (capture : List ℕ) (h : scan capture .verdict ≡ Sound) where
+  pub accepted-route : (number : ℕ) → routeOf (scan capture .map) number ≡ arrival (says (scan capture .map)) number
+  unfolding routeOf
+  accepted-route number = yes-if _ _ _ (accepted-keeps-rules capture h)
+
+  pub accepted-trace : (vector number : ℕ) → traceOf (scan capture .map) vector number ≡ traced (says (scan capture .map)) vector number
+  unfolding traceOf
+  accepted-trace vector number = yes-if _ _ _ (accepted-keeps-rules capture h)
