@@ -54,7 +54,7 @@ module _ (capture : List ℕ) (sound : Sound capture) where
       (eq-or-lt-of-le (le-of-suc-le-suc h))
 
   -- two stretches of at least a byte from one address are in one segment
-  one-segment : (i j address size other : ℕ) → i < segmentCount capture → j < segmentCount capture → 0 < size → 0 < other
+  pub one-segment : (i j address size other : ℕ) → i < segmentCount capture → j < segmentCount capture → 0 < size → 0 < other
       → segmentAddress capture i ≤ address → address + size ≤ segmentAddress capture i + segmentLength capture i
       → segmentAddress capture j ≤ address → address + other ≤ segmentAddress capture j + segmentLength capture j → i ≡ j
   one-segment i j address size other ci cj s o si ei sj ej =

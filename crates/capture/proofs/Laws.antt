@@ -1,5 +1,5 @@
 -- Laws of the capture's definitions.
-use mathlib.Core.Bool.{true, false}
+use mathlib.Core.Bool.{true, false, _&&_}
 use mathlib.Core.Path.{_≡_}
 use mathlib.Core.List.{List}
 use Prim.Native.Nat.{ℕ, zero, suc, _+_, _-_, _*_, _≤_, _<_}
@@ -8,15 +8,13 @@ use native.Mathlib.Omega.{arith}
 use lib.Dec.{ltb, leb}
 use borrow.Author.Tests.{le-ltb, leb-true}
 use Rattle.words.proofs.Tests.{both-left, both-right}
-use Rattle.capture.specs.Fields.{rsdpAddress, descriptor, segmentAddress, segmentLength, lengths}
+use Rattle.capture.specs.Fields.{descriptor, segmentAddress, segmentLength, lengths, segmentPlace}
 use Rattle.capture.specs.Rules.{endBefore, startsEarly, verdict}
-use Rattle.capture.specs.Presence.{holds, located, rsdpSize, presentOr10, rsdpPresence, afterVerdict, rsdp}
+use Rattle.capture.specs.Presence.{holds, placeIn, reachIn, rsdpPresence, afterVerdict, rsdp}
 use Rattle.words.specs.Bytes.{AllBytes}
 use Rattle.words.proofs.Numbers.{number-small}
-use Rattle.words.specs.Refusals.{refused}
 use Rattle.words.specs.declared.Refusal.{Refusal}
 use Rattle.capture.specs.declared.Verdict.the-variants as verdicts
-use Rattle.capture.specs.declared.Stretch.the-variants.{Present, Absent}
 use Rattle.capture.specs.declared.Root.the-variants as roots
 
 -- one segment more
@@ -60,15 +58,29 @@ pub holds-end : (capture : List ℕ) (address size i : ℕ) → holds capture ad
 unfolding holds
 holds-end capture address size i h = leb-true _ _ (both-right (leb (segmentAddress capture i) address) _ h)
 
--- the answers for the RSDP, by what was found
-pub rsdp-present : (capture : List ℕ) {place : ℕ} → located capture (rsdpAddress capture) rsdpSize ≡ Present place → rsdpPresence capture ≡ roots.At place
-unfolding rsdpPresence presentOr10
-rsdp-present capture h = rw h
+-- a segment that has the address, by its descriptor
+pub has-address : (address start size : ℕ) → (leb start address && leb (address + 1) (start + size)) ≡ true
+    → (start ≤ address) × (address < start + size)
+has-address address start size h =
+    let ends : address + 1 ≤ start + size = leb-true _ _ (both-right (leb start address) _ h) in
+    (leb-true start address (both-left _ (leb (address + 1) (start + size)) h), omega arith)
 
-pub rsdp-absent : (capture : List ℕ) → located capture (rsdpAddress capture) rsdpSize ≡ Absent → rsdpPresence capture ≡ roots.Refused (refused 10 10)
-unfolding rsdpPresence presentOr10
-rsdp-absent capture h = rw h
+-- what a segment that has the address gives, by its descriptor and its place
+pub reach-told : (capture : List ℕ) (address i : ℕ) {place start size : ℕ} → place ≡ segmentPlace capture i
+    → start ≡ segmentAddress capture i → size ≡ segmentLength capture i → start ≤ address
+    → record { place = place + (address - start); room = size - (address - start) } ≡ reachIn capture address i
+unfolding reachIn placeIn
+reach-told capture address i {place} {start} {size} here begins long low =
+    let stands : place + (address - start) ≡ segmentPlace capture i + (address - segmentAddress capture i) = omega arith in
+    let left : size - (address - start) ≡ segmentAddress capture i + segmentLength capture i - address = omega arith in
+    rw (stands, left)
 
+-- one segment more stands behind the one before it
+pub place-next : (capture : List ℕ) (i : ℕ) → segmentPlace capture (i + 1) ≡ segmentPlace capture i + segmentLength capture i
+unfolding segmentPlace
+place-next capture i = omega (arith, lengths-next capture i)
+
+-- the order of the answers for the RSDP: the verdict comes first
 pub rsdp-refused : (capture : List ℕ) {refusal : Refusal} → verdict capture ≡ verdicts.Refused refusal → rsdp capture ≡ roots.Refused refusal
 unfolding rsdp afterVerdict
 rsdp-refused capture h = rw h

@@ -11,6 +11,7 @@ use Rattle.capture.specs.declared.Verdict.{Verdict}
 use Rattle.capture.specs.declared.Verdict.the-variants as verdicts
 use Rattle.capture.specs.declared.Stretch.{Stretch}
 use Rattle.capture.specs.declared.Stretch.the-variants.{Present, Absent}
+use Rattle.capture.specs.declared.Reach.{Reach}
 use Rattle.capture.specs.declared.Root.{Root}
 use Rattle.capture.specs.declared.Root.the-variants as roots
 
@@ -26,6 +27,16 @@ placeIn capture address i = segmentPlace capture i + (address - segmentAddress c
 -- "A stretch of memory is present if it lies wholly inside one segment."
 unfoldable pub located : List ℕ → ℕ → ℕ → Stretch
 located capture address size = first (holds capture address size) (λ i. Present (placeIn capture address i)) Absent (segments capture)
+
+-- where an address of segment i stands, and how many bytes the segment has from there on
+unfoldable pub reachIn : List ℕ → ℕ → ℕ → Reach
+reachIn capture address i =
+    record { place = placeIn capture address i; room = segmentAddress capture i + segmentLength capture i - address }
+
+-- of the first segment that has the address; no room where none has it
+unfoldable pub reached : List ℕ → ℕ → Reach
+reached capture address =
+    first (holds capture address 1) (reachIn capture address) (record { place = 0; room = 0 }) (segments capture)
 
 -- "RSDP, 36 bytes"
 abbrev pub rsdpSize : ℕ

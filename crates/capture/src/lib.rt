@@ -6,7 +6,7 @@ ghost use Prim.Native.Nat.{_+_, _*_, _^_, _≤_};
 ghost use lib.Dec.{ltb, leb};
 ghost use Rattle.capture.specs.Fields.{version, segmentCount, rsdpAddress, headerSize, descriptor, descriptorsEnd, segmentAddress, segmentLength, lengths};
 ghost use Rattle.capture.specs.Rules.{wrongSize, wrongMark, wrongVersion, wrongCount, wrongTotal, emptySegment, endsPastMemory, startsEarly, segmentBroken, segmentRules, verdict};
-ghost use Rattle.capture.specs.Presence.{holds, placeIn, located, rsdpPresence, rsdp};
+ghost use Rattle.capture.specs.Presence.{holds, placeIn, located, reached, rsdpPresence, rsdp};
 use words::Refusal;
 
 // Whether a capture is sound.
@@ -19,6 +19,12 @@ pub enum Verdict {
 pub enum Stretch {
     Present(usize),
     Absent,
+}
+
+// The place of an address, and the bytes of its segment from there on.
+pub struct Reach {
+    pub place: usize,
+    pub room: u64,
 }
 
 // The place of the RSDP of a sound capture, which has at most 65,536 bytes: 16 bits hold it.
@@ -45,7 +51,9 @@ const MOST_BYTES: usize = 65536;
 
 const LAST_ADDRESS: u64 = 18446744073709551615;
 
-const RSDP_SIZE: u32 = 36;
+const RSDP_SIZE: u64 = 36;
+
+const ONE_BYTE: u32 = 1;
 
 // The capture's version, of 16 bits.
 pub fn version_of(capture: &[u8]) -> u16
@@ -280,6 +288,30 @@ pub fn locate(capture: &[u8], address: u64, size: u32) -> Stretch
     Stretch::Absent
 }
 
+// Where an address stands, and how many bytes its segment has from there on; no room where no segment has the address. In a
+// sound capture a stretch from the address is present exactly if the room is enough: one look answers for every size.
+pub fn reach_of(capture: &[u8], address: u64) -> Reach
+    ensures { λ r. ⌜ r ≡ reached (now (capture .entry)) address ⌝ }
+{
+    let n = segment_count(capture);
+    let mut place = descriptors_end(capture) as u64;
+    let mut i: u8 = 0;
+    while i < n {
+        let start = segment_address(capture, i);
+        let length = segment_length(capture, i);
+        if inside(address, ONE_BYTE, start, length) {
+            let ahead = address - start;
+            return Reach {
+                place: (place + ahead) as usize,
+                room: (length as u64) - ahead,
+            };
+        }
+        place += length as u64;
+        i += 1;
+    }
+    Reach { place: 0, room: 0 }
+}
+
 fn rsdp_address(capture: &[u8]) -> u64
     ensures { λ r. ⌜ r ≡ rsdpAddress (now (capture .entry)) ⌝ }
 {
@@ -291,10 +323,11 @@ fn locate_rsdp(capture: &[u8]) -> Root
     requires { ⌜ verdict (now capture) ≡ Verdict.Sound ⌝ }
     ensures { λ r. ⌜ r ≡ rsdpPresence (now (capture .entry)) ⌝ }
 {
-    match locate(capture, rsdp_address(capture), RSDP_SIZE) {
-        Stretch::Present(place) => Root::At(place as u16),
-        Stretch::Absent => Root::Refused(words::refuse(10, RSDP_ADDRESS as u32)),
+    let reach = reach_of(capture, rsdp_address(capture));
+    if reach.room < RSDP_SIZE {
+        return Root::Refused(words::refuse(10, RSDP_ADDRESS as u32));
     }
+    Root::At(reach.place as u16)
 }
 
 // Refusals 1 to 6, then 10: the place of the RSDP.

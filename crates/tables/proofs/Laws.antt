@@ -1,17 +1,16 @@
 -- Laws of the tables' definitions: what each answer is, by what was found.
-use mathlib.Core.Bool.{Bool, true, false, not}
+use mathlib.Core.Bool.{Bool, true, false}
 use mathlib.Core.List.{List}
-use mathlib.Core.Path.{_≡_, refl}
-use Prim.Native.Nat.{ℕ, _+_, _-_, _≤_, _<_}
+use mathlib.Core.Path.{_≡_, refl, ap, _∙_}
+use Prim.Native.Nat.{ℕ, _-_, _≤_, _<_}
 use native.Mathlib.Omega.{arith}
-use lib.Dec.{eqb, ltb}
-use borrow.Author.Tests.{le-leb, lt-leb, not-false}
+use lib.Dec.{eqb}
+use borrow.Author.Tests.{le-leb, lt-leb}
 use Rattle.words.specs.Choice.{if}
 use Rattle.words.specs.Refusals.{refused}
 use Rattle.words.specs.declared.Refusal.{Refusal}
-use Rattle.words.proofs.Choices.{yes-if, no-if}
+use Rattle.words.proofs.Choices.{yes-if, no-if, passed}
 use Rattle.words.proofs.Searches.{search-found, search-none}
-use Rattle.words.proofs.Tests.{neither-right}
 use Rattle.words.specs.Lists.{numbersBelow}
 use Rattle.capture.specs.Presence.{located, rsdp}
 use Rattle.capture.specs.declared.Root.the-variants as roots
@@ -19,11 +18,10 @@ use Rattle.capture.specs.declared.Stretch.{Stretch}
 use Rattle.capture.specs.declared.Stretch.the-variants.{Present, Absent}
 use Rattle.capture.specs.declared.Verdict.{Verdict}
 use Rattle.capture.specs.declared.Verdict.the-variants as verdicts
-use Rattle.capture.proofs.Within.{Sound, within-small, behind}
-use Rattle.tables.specs.Table.{headerSize, addressAt, signature, tableLength, isPresent, cutShort, wrongSum, tableFound, tableAt}
+use Rattle.tables.specs.Table.{headerSize, addressAt, signature, tableLength, cutShort, wrongSum, tableFound, tableAt}
 use Rattle.tables.specs.Xsdt.{entryCount, entries, entryField, entryRules, isRefused, refusalOf}
-use Rattle.tables.specs.Finder.{isSigned, names, namedFrom, firstNamed, namedAfter, secondNamed}
-use Rattle.tables.specs.Survey.{earlier, secondRule, tableOf, tableNamed, tableOfEntry, after, ofXsdt, ofRsdp, survey}
+use Rattle.tables.specs.Finder.{isSigned, names, namedFrom, firstNamed}
+use Rattle.tables.specs.Survey.{earlier, secondRule, tableOf, tableNamed, after, ofXsdt, ofRsdp, survey}
 use Rattle.tables.specs.declared.Table.{Table}
 use Rattle.tables.specs.declared.Checked.{Checked}
 use Rattle.tables.specs.declared.Checked.the-variants as checked
@@ -31,33 +29,6 @@ use Rattle.tables.specs.declared.Entry.{Entry}
 use Rattle.tables.specs.declared.Entry.the-variants.{At, Nowhere}
 use Rattle.tables.specs.declared.Survey.{Survey}
 use Rattle.tables.specs.declared.Survey.the-variants.{Refused}
-
--- a stretch, present or not
-pub present-yes : (s : Stretch) {place : ℕ} → s ≡ Present place → isPresent s ≡ true
-unfolding isPresent
-present-yes s h = rw h
-
-pub present-no : (s : Stretch) → s ≡ Absent → isPresent s ≡ false
-unfolding isPresent
-present-no s h = rw h
-
--- what is present in a sound capture has at most 16 bits of length
-pub present-small : (capture : List ℕ) (address size : ℕ) → Sound capture → isPresent (located capture address size) ≡ true → size < 65536
-unfolding isPresent
-present-small capture address size sound h = go (located capture address size) refl h
-  where
-    go : (s : Stretch) → located capture address size ≡ s → isPresent s ≡ true → size < 65536
-    go (Present place) e g =
-        let inside = within-small capture address size place sound e in
-        let past = behind capture address size place e in
-        omega arith
-    go Absent e g = absurd (let z : _≡_ {A = ℕ} 0 1 = cc in omega arith)
-
-pub whole-small : (capture : List ℕ) (address place : ℕ) → Sound capture → cutShort capture address place ≡ false → tableLength capture place < 65536
-unfolding cutShort
-whole-small capture address place sound h =
-    present-small capture address (tableLength capture place) sound
-    (not-false _ (neither-right (ltb (tableLength capture place) headerSize) _ h))
 
 -- a table, by what was found at its address
 pub table-absent : (capture : List ℕ) (field : ℕ) → located capture (addressAt capture field) headerSize ≡ Absent
@@ -82,15 +53,20 @@ unrefused-whole capture field place h g = go (cutShort capture (addressAt captur
     go true e k = absurd (let z : _≡_ {A = ℕ} 0 1 = cc in omega arith)
     go false e k = e
 
-pub named-absent : (capture : List ℕ) (field : ℕ) → located capture (addressAt capture field) headerSize ≡ Absent
-    → tableNamed capture field ≡ record { place = 0; length = 0 }
-unfolding tableNamed tableOf
-named-absent capture field h = rw h
-
-pub named-present : (capture : List ℕ) (field : ℕ) {place : ℕ} → located capture (addressAt capture field) headerSize ≡ Present place
-    → tableNamed capture field ≡ record { place = place; length = tableLength capture place }
-unfolding tableNamed tableOf
-named-present capture field h = rw h
+-- a table that went through is the one that the field names
+pub checked-stands : (capture : List ℕ) (field : ℕ) (table : Table) → tableAt capture field ≡ checked.Is table
+    → (located capture (addressAt capture field) headerSize ≡ Present (table .place)) × (tableNamed capture field ≡ table)
+unfolding tableAt tableFound tableNamed tableOf
+checked-stands capture field table h = go (located capture (addressAt capture field) headerSize) refl h
+  where
+    go : (s : Stretch) → located capture (addressAt capture field) headerSize ≡ s → tableFound capture field s ≡ checked.Is table
+        → (located capture (addressAt capture field) headerSize ≡ Present (table .place)) × (tableNamed capture field ≡ table)
+    go Absent e g = absurd (let z : _≡_ {A = ℕ} 0 1 = cc in omega arith)
+    go (Present place) e g =
+        let summed = passed _ _ _ _ g (λ r. let z : _≡_ {A = ℕ} 0 1 = cc in omega arith) .1 in
+        let is = passed _ _ _ _ summed (λ r. let z : _≡_ {A = ℕ} 0 1 = cc in omega arith) .1 in
+        let told : record { place = place; length = tableLength capture place } ≡ table = cc in
+        (e ∙ ap (λ (t : Table). Present (t .place)) told, rw e told)
 
 -- an entry's verdict
 pub entry-refused : (c : Checked) {refusal : Refusal} → c ≡ checked.Refused refusal → isRefused c ≡ true
@@ -151,15 +127,6 @@ named-counted capture xsdt letters entry h =
     let below = s .counted in
     omega arith
 
-pub second-none : (capture : List ℕ) (xsdt : Table) (letters : ℕ) → firstNamed capture xsdt letters ≡ Nowhere → secondNamed capture xsdt letters ≡ Nowhere
-unfolding secondNamed namedAfter
-second-none capture xsdt letters h = rw h
-
-pub second-some : (capture : List ℕ) (xsdt : Table) (letters : ℕ) {entry : ℕ} → firstNamed capture xsdt letters ≡ At entry
-    → secondNamed capture xsdt letters ≡ namedFrom capture xsdt letters (entry + 1)
-unfolding secondNamed namedAfter
-second-some capture xsdt letters h = rw h
-
 -- the order of the answers: a refusal ends it, and what is sound goes on
 pub after-refused : (v : Verdict) (later : Survey) {refusal : Refusal} → v ≡ verdicts.Refused refusal → after v later ≡ Refused refusal
 unfolding after
@@ -168,15 +135,6 @@ after-refused v later h = rw h
 pub after-sound : (v : Verdict) (later : Survey) → v ≡ verdicts.Sound → after v later ≡ later
 unfolding after
 after-sound v later h = rw h
-
-pub entry-nowhere : (capture : List ℕ) (xsdt : Table) (e : Entry) → e ≡ Nowhere → tableOfEntry capture xsdt e ≡ record { place = 0; length = 0 }
-unfolding tableOfEntry
-entry-nowhere capture xsdt e h = rw h
-
-pub entry-at : (capture : List ℕ) (xsdt : Table) (e : Entry) {entry : ℕ} → e ≡ At entry
-    → tableOfEntry capture xsdt e ≡ tableNamed capture (entryField xsdt entry)
-unfolding tableOfEntry
-entry-at capture xsdt e h = rw h
 
 pub xsdt-refused : (capture : List ℕ) (c : Checked) {refusal : Refusal} → c ≡ checked.Refused refusal → ofXsdt capture c ≡ Refused refusal
 unfolding ofXsdt

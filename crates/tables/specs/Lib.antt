@@ -4,3 +4,4 @@ pub mod Xsdt
 pub mod Finder
 pub mod Survey
 pub mod Structures
+pub mod Naming

@@ -53,3 +53,10 @@ tableFound capture field (Present place) =
 -- the table that the address field at a place names
 unfoldable pub tableAt : List ℕ → ℕ → Checked
 tableAt capture field = tableFound capture field (located capture (addressAt capture field) headerSize)
+
+-- 21 and 22 of a table whose header is present: its segment has `room` bytes from its place on
+unfoldable pub tableWithin : List ℕ → ℕ → ℕ → Checked
+tableWithin capture place room =
+    if (ltb (tableLength capture place) headerSize || ltb room (tableLength capture place)) (Refused (refused 21 place))
+    (if (wrongSum capture place) (Refused (refused 22 place))
+    (Is (record { place = place; length = tableLength capture place })))

@@ -1,24 +1,19 @@
 // From the RSDP to the MADT, the FADT and the SCI number: refusals 10 to 30. The checker of a table, the finder by signature
 // and the stepper over structures are written for any table. Every public function answers for any bytes.
 ghost use mathlib.Core.Path.{_≡_};
-ghost use mathlib.Core.Bool.{false};
-ghost use Prim.Native.Nat.{ℕ, _-_, _<_};
+ghost use Prim.Native.Nat.{_-_};
 ghost use Rattle.words.specs.Bytes.{partAt, byteSum};
-ghost use Rattle.capture.specs.Presence.{located};
 ghost use Rattle.capture.specs.Rules.{verdict};
 ghost use Rattle.capture.specs.declared.Verdict.the-variants.{Sound};
-ghost use Rattle.capture.specs.declared.Stretch.the-variants.{Present};
 ghost use Rattle.capture.specs.declared.Root.the-variants as roots;
 ghost use Rattle.tables.specs.Rsdp.{wrongSignature, wrongRevision, wrongLength, wrongSums, rsdpRules, xsdtField};
-ghost use Rattle.tables.specs.Table.{addressAt, signature, tableLength, isPresent, cutShort, wrongSum, tableFound, tableAt};
-ghost use Rattle.tables.specs.Xsdt.{revision, notXsdt, wrongXsdtRevision, wrongBody, entryCount, xsdtRules, entryField, entryRules, isRefused};
-ghost use Rattle.tables.specs.Finder.{names, namedFrom, firstNamed, secondNamed};
-ghost use Rattle.tables.specs.Survey.{apic, facp, isNowhere, earlier, secondRule, nameRules, wrongMadtRevision, wrongFlags, bodyRules, sciNumber, tableNamed, tableOfEntry, ofTables, ofNames, ofXsdt, ofRsdp, survey};
+ghost use Rattle.tables.specs.Table.{addressAt, signature, tableLength, tableAt, tableWithin};
+ghost use Rattle.tables.specs.Xsdt.{revision, notXsdt, wrongXsdtRevision, wrongBody, entryCount, xsdtRules, entryField, entryRules};
+ghost use Rattle.tables.specs.Survey.{apic, facp, isNowhere, earlier, secondRule, wrongMadtRevision, wrongFlags, bodyRules, sciNumber, ofTables, ofNames, ofXsdt, ofRsdp, survey};
+ghost use Rattle.tables.specs.Naming.{named, namesAfter, notNamed, oneMore};
 ghost use Rattle.tables.specs.Structures.{stepAt};
 ghost use Rattle.tables.specs.declared.Checked.the-variants.{Is};
-ghost use Rattle.tables.specs.declared.Entry.the-variants.{At};
 use capture::Root;
-use capture::Stretch;
 use capture::Verdict;
 use words::Refusal;
 
@@ -38,6 +33,19 @@ pub enum Checked {
 pub enum Entry {
     At(u16),
     Nowhere,
+}
+
+// What the XSDT's entries say of a signature: the first entry that names a table with it, that table, and the second entry.
+pub struct Named {
+    pub first: Entry,
+    pub table: Table,
+    pub second: Entry,
+}
+
+// What they say of the MADT's and of the FADT's signature, if no entry is refused.
+pub enum Names {
+    Are(Named, Named),
+    Refused(Refusal),
 }
 
 // What the layers above read from.
@@ -174,56 +182,34 @@ fn revision_of(capture: &[u8], place: u16) -> u8
     words::byte_at(capture, place as usize + REVISION)
 }
 
-fn is_present(capture: &[u8], address: u64, size: u32) -> bool
-    ensures { λ r. ⌜ r ≡ isPresent (located (now (capture .entry)) address size) ⌝ }
-{
-    match capture::locate(capture, address, size) {
-        Stretch::Present(_) => true,
-        Stretch::Absent => false,
-    }
-}
-
-// Refusal 21.
-fn cut_short(capture: &[u8], address: u64, place: u16) -> bool
-    ensures { λ r. ⌜ r ≡ cutShort (now (capture .entry)) address place ⌝ }
+// Refusals 21 and 22, of the table whose header stands at a place with so much room.
+fn check_whole(capture: &[u8], place: u16, room: u16) -> Checked
+    ensures { λ r. ⌜ r ≡ tableWithin (now (capture .entry)) place room ⌝ }
 {
     let length = length_of(capture, place);
-    (length < HEADER_SIZE) | !is_present(capture, address, length)
-}
-
-// Refusal 22.
-fn wrong_sum(capture: &[u8], place: u16) -> bool
-    ensures { λ r. ⌜ r ≡ wrongSum (now (capture .entry)) place ⌝ }
-{
-    !(sum_at(capture, place, length_of(capture, place) as usize) == 0)
-}
-
-// Refusals 21 and 22, of the table whose header stands at a place. A sound capture is small, and its tables are smaller.
-fn check_whole(capture: &[u8], field: u32, place: u16) -> Checked
-    requires { ⌜ verdict (now capture) ≡ Sound ⌝ }
-    ensures { λ r. ⌜ r ≡ tableFound (now (capture .entry)) field (Present place) ⌝ }
-{
-    if cut_short(capture, address_at(capture, field), place) {
+    if (length < HEADER_SIZE) | ((room as u32) < length) {
         return Checked::Refused(words::refuse(21, place as u32));
     }
-    if wrong_sum(capture, place) {
+    if !(sum_at(capture, place, length as usize) == 0) {
         return Checked::Refused(words::refuse(22, place as u32));
     }
     Checked::Is(Table {
         place,
-        length: length_of(capture, place) as u16,
+        length: length as u16,
     })
 }
 
-// Refusals 20 to 22, of the table that the address field at a place names.
+// Refusals 20 to 22, of the table that the address field at a place names. A sound capture is small: 16 bits hold the place and
+// the room.
 fn check_table(capture: &[u8], field: u32) -> Checked
     requires { ⌜ verdict (now capture) ≡ Sound ⌝ }
     ensures { λ r. ⌜ r ≡ tableAt (now (capture .entry)) field ⌝ }
 {
-    match capture::locate(capture, address_at(capture, field), HEADER_SIZE) {
-        Stretch::Absent => Checked::Refused(words::refuse(20, field)),
-        Stretch::Present(place) => check_whole(capture, field, place as u16),
+    let reach = capture::reach_of(capture, address_at(capture, field));
+    if reach.room < HEADER_SIZE as u64 {
+        return Checked::Refused(words::refuse(20, field));
     }
+    check_whole(capture, reach.place as u16, reach.room as u16)
 }
 
 // Refusal 23.
@@ -287,68 +273,6 @@ fn entry_field(xsdt: Table, entry: u16) -> u32
     (xsdt.place as u32) + HEADER_SIZE + ADDRESS_SIZE * (entry as u32)
 }
 
-// Refusals 20 to 22 of the entries in turn.
-fn entry_rules(capture: &[u8], xsdt: Table) -> Verdict
-    requires { ⌜ verdict (now capture) ≡ Sound ⌝ }
-    ensures { λ r. ⌜ r ≡ entryRules (now (capture .entry)) xsdt ⌝ }
-{
-    let n = entry_count(xsdt);
-    let mut entry: u16 = 0;
-    while entry < n {
-        if let Checked::Refused(refusal) = check_table(capture, entry_field(xsdt, entry)) {
-            return Verdict::Refused(refusal);
-        }
-        entry += 1;
-    }
-    Verdict::Sound
-}
-
-// Whether an entry names a table with a signature.
-fn entry_names(capture: &[u8], xsdt: Table, letters: u32, entry: u16) -> bool
-    ensures { λ r. ⌜ r ≡ names (now (capture .entry)) xsdt letters entry ⌝ }
-{
-    match capture::locate(
-        capture,
-        address_at(capture, entry_field(xsdt, entry)),
-        HEADER_SIZE,
-    ) {
-        Stretch::Absent => false,
-        Stretch::Present(place) => signature_of(capture, place) == letters,
-    }
-}
-
-// The finder: the first entry, from one on, that names a table with a signature.
-fn named_from(capture: &[u8], xsdt: Table, letters: u32, from: u16) -> Entry
-    ensures { λ r. ⌜ r ≡ namedFrom (now (capture .entry)) xsdt letters from ⌝ }
-{
-    let n = entry_count(xsdt);
-    let mut entry = from;
-    while entry < n {
-        if entry_names(capture, xsdt, letters, entry) {
-            return Entry::At(entry);
-        }
-        entry += 1;
-    }
-    Entry::Nowhere
-}
-
-fn first_named(capture: &[u8], xsdt: Table, letters: u32) -> Entry
-    ensures { λ r. ⌜ r ≡ firstNamed (now (capture .entry)) xsdt letters ⌝ }
-{
-    named_from(capture, xsdt, letters, 0)
-}
-
-// The entry after a first one that names such a table.
-fn named_after(capture: &[u8], xsdt: Table, letters: u32, first: Entry) -> Entry
-    requires { ⌜ first ≡ firstNamed (now capture) xsdt letters ⌝ }
-    ensures { λ r. ⌜ r ≡ secondNamed (now (capture .entry)) xsdt letters ⌝ }
-{
-    match first {
-        Entry::Nowhere => Entry::Nowhere,
-        Entry::At(entry) => named_from(capture, xsdt, letters, entry + 1),
-    }
-}
-
 fn is_nowhere(entry: Entry) -> bool
     ensures { λ r. ⌜ r ≡ isNowhere entry ⌝ }
 {
@@ -384,22 +308,69 @@ fn second_rule(xsdt: Table, second: Entry) -> Verdict
     }
 }
 
-// Refusals 26 and 27.
-fn name_rules(capture: &[u8], xsdt: Table, madt: Entry, fadt: Entry) -> Verdict
-    requires { ⌜ madt ≡ firstNamed (now capture) xsdt apic ⌝ }
-    requires { ⌜ fadt ≡ firstNamed (now capture) xsdt facp ⌝ }
-    ensures { λ r. ⌜ r ≡ nameRules (now (capture .entry)) xsdt ⌝ }
+// What is known of a signature before any entry was looked at.
+fn not_named() -> Named
+    ensures { λ r. ⌜ r ≡ notNamed ⌝ }
 {
-    if is_nowhere(madt) | is_nowhere(fadt) {
-        return Verdict::Refused(words::refuse(26, xsdt.place as u32));
+    Named {
+        first: Entry::Nowhere,
+        table: Table {
+            place: 0,
+            length: 0,
+        },
+        second: Entry::Nowhere,
     }
-    second_rule(
-        xsdt,
-        earlier_of(
-            named_after(capture, xsdt, APIC, madt),
-            named_after(capture, xsdt, FACP, fadt),
-        ),
-    )
+}
+
+// And after one entry more, whose table has the signature or not.
+fn noted(known: Named, signed: bool, table: Table, entry: u16) -> Named
+    ensures { λ r. ⌜ r ≡ oneMore known signed table entry ⌝ }
+{
+    if !signed {
+        return known;
+    }
+    let first = known.first;
+    if is_nowhere(first) {
+        return Named {
+            first: Entry::At(entry),
+            table,
+            second: Entry::Nowhere,
+        };
+    }
+    let second = known.second;
+    if is_nowhere(second) {
+        let kept = known.table;
+        return Named {
+            first,
+            table: kept,
+            second: Entry::At(entry),
+        };
+    }
+    known
+}
+
+// The finder, and refusals 20 to 22 of the entries in turn: each entry's table is located and summed once.
+fn find_names(capture: &[u8], xsdt: Table) -> Names
+    requires { ⌜ verdict (now capture) ≡ Sound ⌝ }
+    ensures { λ r. ⌜ r ≡ namesAfter (now (capture .entry)) xsdt (entryRules (now (capture .entry)) xsdt) ⌝ }
+{
+    let n = entry_count(xsdt);
+    let none = not_named();
+    let mut madt = none;
+    let mut fadt = none;
+    let mut entry: u16 = 0;
+    while entry < n {
+        match check_table(capture, entry_field(xsdt, entry)) {
+            Checked::Refused(refusal) => return Names::Refused(refusal),
+            Checked::Is(table) => {
+                let letters = signature_of(capture, table.place as usize);
+                madt = noted(madt, letters == APIC, table, entry);
+                fadt = noted(fadt, letters == FACP, table, entry);
+            }
+        }
+        entry += 1;
+    }
+    Names::Are(madt, fadt)
 }
 
 // How strict rule 29 is.
@@ -441,40 +412,6 @@ fn sci_number(capture: &[u8], fadt: Table) -> u16
     words::u16_at(capture, fadt.place as usize + FADT_SCI)
 }
 
-// The table that an address field names, which went through 20 to 22: it is not summed again.
-fn table_named(capture: &[u8], field: u32) -> Table
-    requires { ⌜ verdict (now capture) ≡ Sound ⌝ }
-    requires { ⌜ isRefused (tableAt (now capture) field) ≡ false ⌝ }
-    ensures { λ r. ⌜ r ≡ tableNamed (now (capture .entry)) field ⌝ }
-{
-    match capture::locate(capture, address_at(capture, field), HEADER_SIZE) {
-        Stretch::Absent => Table {
-            place: 0,
-            length: 0,
-        },
-        Stretch::Present(place) => Table {
-            place: place as u16,
-            length: length_of(capture, place as u16) as u16,
-        },
-    }
-}
-
-// The table that an entry names, whose entries went through 20 to 22.
-fn table_of_entry(capture: &[u8], xsdt: Table, named: Entry) -> Table
-    requires { ⌜ verdict (now capture) ≡ Sound ⌝ }
-    requires { ⌜ entryRules (now capture) xsdt ≡ Sound ⌝ }
-    requires { ⌜ ((entry : ℕ) → named ≡ At entry → entry < entryCount xsdt) ⌝ }
-    ensures { λ r. ⌜ r ≡ tableOfEntry (now (capture .entry)) xsdt named ⌝ }
-{
-    match named {
-        Entry::Nowhere => Table {
-            place: 0,
-            length: 0,
-        },
-        Entry::At(entry) => table_named(capture, entry_field(xsdt, entry)),
-    }
-}
-
 // Refusals 28 to 30, and what is found.
 fn survey_tables(capture: &[u8], madt: Table, fadt: Table) -> Survey
     ensures { λ r. ⌜ r ≡ ofTables (now (capture .entry)) madt fadt ⌝ }
@@ -490,20 +427,21 @@ fn survey_tables(capture: &[u8], madt: Table, fadt: Table) -> Survey
 }
 
 // Refusals 26 and 27, and what comes after.
-fn survey_names(capture: &[u8], xsdt: Table) -> Survey
-    requires { ⌜ verdict (now capture) ≡ Sound ⌝ }
-    requires { ⌜ entryRules (now capture) xsdt ≡ Sound ⌝ }
+fn survey_names(capture: &[u8], xsdt: Table, madt: Named, fadt: Named) -> Survey
+    requires { ⌜ madt ≡ named (now capture) xsdt apic ⌝ }
+    requires { ⌜ fadt ≡ named (now capture) xsdt facp ⌝ }
     ensures { λ r. ⌜ r ≡ ofNames (now (capture .entry)) xsdt ⌝ }
 {
-    let madt = first_named(capture, xsdt, APIC);
-    let fadt = first_named(capture, xsdt, FACP);
-    match name_rules(capture, xsdt, madt, fadt) {
+    let first_madt = madt.first;
+    let first_fadt = fadt.first;
+    if is_nowhere(first_madt) | is_nowhere(first_fadt) {
+        return Survey::Refused(words::refuse(26, xsdt.place as u32));
+    }
+    let second_madt = madt.second;
+    let second_fadt = fadt.second;
+    match second_rule(xsdt, earlier_of(second_madt, second_fadt)) {
         Verdict::Refused(refusal) => Survey::Refused(refusal),
-        Verdict::Sound => survey_tables(
-            capture,
-            table_of_entry(capture, xsdt, madt),
-            table_of_entry(capture, xsdt, fadt),
-        ),
+        Verdict::Sound => survey_tables(capture, madt.table, fadt.table),
     }
 }
 
@@ -514,9 +452,9 @@ fn survey_xsdt(capture: &[u8], xsdt: Table) -> Survey
 {
     match xsdt_rules(capture, xsdt) {
         Verdict::Refused(refusal) => Survey::Refused(refusal),
-        Verdict::Sound => match entry_rules(capture, xsdt) {
-            Verdict::Refused(refusal) => Survey::Refused(refusal),
-            Verdict::Sound => survey_names(capture, xsdt),
+        Verdict::Sound => match find_names(capture, xsdt) {
+            Names::Refused(refusal) => Survey::Refused(refusal),
+            Names::Are(madt, fadt) => survey_names(capture, xsdt, madt, fadt),
         },
     }
 }

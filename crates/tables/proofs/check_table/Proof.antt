@@ -1,53 +1,64 @@
--- `tables::check_table` gives 20 first. A place in a sound capture has 16 bits.
-use mathlib.Core.Path.{ap, sym, _∙_}
+-- `tables::check_table` gives 20 first.
+use mathlib.Core.Path.{_≡_, ap, sym, _∙_}
 use native.Mathlib.Omega.{arith}
-use Rattle.capture.proofs.Within.{within-small}
+use Rattle.capture.specs.Presence.{reached}
+use Rattle.tables.specs.Table.{addressAt}
 use Rattle.tables.specs.declared.Checked.the-variants.{Refused}
-use Rattle.tables.proofs.Laws.{table-absent, table-present}
+use Rattle.tables.proofs.Whole.{table-20, table-within, place-small, room-small}
 use borrow.Author.Needs.{needs}
 use Rattle.tables.proofs.check_table.Statement.{statement}
 use Rattle.tables.proofs.check_table.Tie as tie
 
+-- what was found at the table's address
+there : (c : tie.After-reach-of)
+    → c .reach-of .result ≡ reached (c .before .before .before .args .capture .now) (addressAt (c .before .before .before .args .capture .now) (c .before .before .before .args .field))
+there c = c .reach-of .ensures ∙ ap (reached _) (c .before .address-at .ensures)
+
 address-at-requires : tie.Need-address-at-requires
 address-at-requires c κs = search needs
 
-locate-requires : tie.Need-locate-requires
-locate-requires c κs = search needs
+reach-of-requires : tie.Need-reach-of-requires
+reach-of-requires c κs = search needs
 
-enum-told : tie.Need-enum-told
-enum-told c = search needs
+cast-if1 : tie.Need-cast-if1
+cast-if1 c = search needs
 
 refuse-requires : tie.Need-refuse-requires
 refuse-requires c κs = search needs
 
-enum-known-place : tie.Need-enum-known-place
-enum-known-place c = search needs
+returns : tie.Need-returns
+returns c =
+    let r = c .before .before .before in
+    ap Refused (c .refuse .ensures) ∙ sym (table-20 _ _ (r .before .before .before .pre) (there r) (omega arith))
 
 cast-check-whole : tie.Need-cast-check-whole
 cast-check-whole c =
-    let l = c .before .before .before in
-    let s = l .before .before .before in
-    omega (arith, within-small (s .args .capture .now) (l .before .address-at .result) 36 (c .before .place .given .0 .0) (s .pre) (sym (l .locate .ensures) ∙ c .before .place .given .1))
+    let r = c .before .before .before in
+    omega (arith, place-small _ _ (r .before .before .before .pre) (there r) (omega arith))
+
+cast-check-whole-2 : tie.Need-cast-check-whole-2
+cast-check-whole-2 c =
+    let r = c .before .before .before .before in
+    omega (arith, room-small _ _ (r .before .before .before .pre) (there r) (omega arith))
 
 check-whole-requires : tie.Need-check-whole-requires
 check-whole-requires c κs = search needs
 
-returns : tie.Need-returns
-returns c = ap Refused (c .refuse .ensures) ∙ sym (table-absent _ _ (cc))
-
 returns-2 : tie.Need-returns-2
-returns-2 c = c .check-whole .ensures ∙ sym (table-present _ _ (cc))
+returns-2 c =
+    let r = c .before .before .before .before .before in
+    c .check-whole .ensures ∙ sym (table-within _ _ (r .before .before .before .pre) (there r) (omega arith))
 
 pub check-table-spec : {M : Type 1} → statement M
 check-table-spec =
     tie.close
     (tie.spec
     address-at-requires
-    locate-requires
-    enum-told
+    reach-of-requires
+    cast-if1
     refuse-requires
-    enum-known-place
-    cast-check-whole
-    check-whole-requires
     returns
+    cast-check-whole
+    cast-check-whole-2
+    check-whole-requires
     returns-2)

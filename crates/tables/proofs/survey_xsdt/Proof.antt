@@ -2,6 +2,7 @@
 use mathlib.Core.Path.{sym, _∙_}
 use Rattle.tables.specs.Survey.{ofXsdt}
 use Rattle.tables.proofs.Laws.{after-refused, after-sound}
+use Rattle.tables.proofs.Naming.{refused-told, are-told}
 use borrow.Author.Needs.{needs}
 use Rattle.tables.proofs.survey_xsdt.Statement.{statement}
 use Rattle.tables.proofs.survey_xsdt.Tie as tie
@@ -15,17 +16,19 @@ enum-known-refusal c = search needs
 enum-told : tie.Need-enum-told
 enum-told c = search needs
 
-entry-rules-requires : tie.Need-entry-rules-requires
-entry-rules-requires c κs = search needs
+find-names-requires : tie.Need-find-names-requires
+find-names-requires c κs = search needs
 
 enum-known-refusal-2 : tie.Need-enum-known-refusal-2
 enum-known-refusal-2 c = search needs
 
-enum-told-2 : tie.Need-enum-told-2
-enum-told-2 c = search needs
+enum-known-madt : tie.Need-enum-known-madt
+enum-known-madt c = search needs
 
 survey-names-requires : tie.Need-survey-names-requires
-survey-names-requires c κs = (search needs, cc)
+survey-names-requires c κs =
+    let told = are-told _ _ _ (sym (c .before .before .before .find-names .ensures) ∙ c .before .madt .given .1) in
+    (told .1, told .2)
 
 returns : tie.Need-returns
 unfolding ofXsdt
@@ -34,19 +37,19 @@ returns c = sym (after-refused _ _ (sym (c .before .before .before .xsdt-rules .
 returns-2 : tie.Need-returns-2
 unfolding ofXsdt
 returns-2 c =
-    let e = c .before .before .before in
-    let x = e .before .before .before in
-    sym (after-sound _ _ (sym (x .xsdt-rules .ensures) ∙ e .before .enum-told .given .1)
-    ∙ after-refused _ _ (sym (e .entry-rules .ensures) ∙ c .before .refusal2 .given .1))
+    let n = c .before .before .before in
+    let x = n .before .before .before in
+    sym (after-sound _ _ (sym (x .xsdt-rules .ensures) ∙ n .before .enum-told .given .1)
+    ∙ after-refused _ _ (refused-told _ _ _ (sym (n .find-names .ensures) ∙ c .before .refusal2 .given .1)))
 
 returns-3 : tie.Need-returns-3
 unfolding ofXsdt
 returns-3 c =
-    let e = c .before .before .before in
-    let x = e .before .before .before in
+    let n = c .before .before .before .before in
+    let x = n .before .before .before in
     c .survey-names .ensures
-    ∙ sym (after-sound _ _ (sym (x .xsdt-rules .ensures) ∙ e .before .enum-told .given .1)
-    ∙ after-sound _ _ (sym (e .entry-rules .ensures) ∙ c .before .enum-told2 .given .1))
+    ∙ sym (after-sound _ _ (sym (x .xsdt-rules .ensures) ∙ n .before .enum-told .given .1)
+    ∙ after-sound _ _ (are-told _ _ _ (sym (n .find-names .ensures) ∙ c .before .before .madt .given .1) .0))
 
 pub survey-xsdt-spec : {M : Type 1} → statement M
 survey-xsdt-spec =
@@ -55,9 +58,9 @@ survey-xsdt-spec =
     xsdt-rules-requires
     enum-known-refusal
     enum-told
-    entry-rules-requires
+    find-names-requires
     enum-known-refusal-2
-    enum-told-2
+    enum-known-madt
     survey-names-requires
     returns
     returns-2
