@@ -8,9 +8,8 @@ use mathlib.Core.Bool.{true, false, not}
 use borrow.Author.Tests.{le-ltb}
 use lib.Dec.{eqb}
 use lib.ListN.{length, length-take}
-use Rattle.words.specs.declared.Refusal.{Refusal}
-use Rattle.capture.specs.declared.Verdict.{Verdict}
-use Rattle.capture.specs.declared.Verdict.the-variants.{Sound, Refused}
+use Rattle.capture.specs.declared.Verdict.the-variants.{Sound}
+use Rattle.capture.proofs.Verdicts.{not-sound}
 use Rattle.lines.specs.Says.{says}
 use Rattle.lines.specs.Rules.{eiosFit, biosFit, msisFit, rangesKept, tooMany}
 use Rattle.lines.specs.declared.Map.{Map}
@@ -32,9 +31,6 @@ use Rattle.map_promises.proofs.Unused.{lio-unused, lpc-unused}
 use Rattle.map_promises.proofs.Takings.{takes-keep}
 
 -- ---- the walk
-pub not-sound : {refusal : Refusal} {X : Type 0} → _≡_ {A = Verdict} (Refused refusal) Sound → X
-not-sound e = absurd (let o : _≡_ {A = ℕ} 0 1 = cc in omega arith)
-
 module _ (base until sci : ℕ) where
   abbrev Kept : Walked → Type 0
   Kept w = w .verdict ≡ Sound → Books sci (base + until) (w .found .map) (w .found .places)

@@ -5,10 +5,9 @@ use mathlib.Core.List.{List, [], _∷_}
 use Prim.Native.Nat.{ℕ, _+_, _*_}
 use native.Mathlib.Omega.{arith}
 use lib.ListN.{length}
-use Rattle.words.specs.declared.Refusal.{Refusal}
 use Rattle.words.proofs.Choices.{yes-if, no-if, if-cases}
-use Rattle.capture.specs.declared.Verdict.{Verdict}
-use Rattle.capture.specs.declared.Verdict.the-variants.{Sound, Refused}
+use Rattle.capture.specs.declared.Verdict.the-variants.{Sound}
+use Rattle.capture.proofs.Verdicts.{not-sound}
 use Rattle.kinds.specs.Makers.{coreOf, isEnabled}
 use Rattle.madt.specs.Rules.{isType}
 use Rattle.madt.specs.Pieces.{Piece, whole, cut, pieces}
@@ -20,9 +19,6 @@ use Rattle.madt.specs.declared.Walked.{Walked}
 use Rattle.processors.specs.Listing.{isEnabledCore, countOf, countIn, count, processors}
 use Rattle.madt.proofs.Taking.{is-zero, taking-number, taking-found}
 use Rattle.processors.proofs.Filling.{twice-all}
-
-not-sound : {refusal : Refusal} {X : Type 0} → _≡_ {A = Verdict} (Refused refusal) Sound → X
-not-sound e = absurd (let o : _≡_ {A = ℕ} 0 1 = cc in omega arith)
 
 module _ (s : List ℕ) (place : ℕ) (found : Found) where
   keeps : (rule : ℕ) (more : Found) → more .enabled ≡ found .enabled → taking rule found more .found .enabled ≡ found .enabled

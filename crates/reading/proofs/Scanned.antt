@@ -14,7 +14,7 @@ use Rattle.lines.specs.declared.Map.{Map}
 use Rattle.lines.specs.declared.Verdict.{Verdict as Rules}
 use Rattle.lines.specs.declared.Verdict.the-variants as rules
 use Rattle.madt.specs.declared.Found.{Found}
-use Rattle.map_promises.proofs.WalkKeepsBooks.{not-sound}
+use Rattle.capture.proofs.Verdicts.{not-sound}
 use Rattle.reading.specs.Scan.{madtBytes, walkOf, turnedDown, mapRule, inTurn, rulesAfterWalk, judged, afterWalk, afterSurvey, scan}
 
 both-sound : (v later : Verdict) → inTurn v later ≡ Sound → (v ≡ Sound) × (later ≡ Sound)

@@ -7,6 +7,7 @@ use lib.ListN.{length}
 use Rattle.words.specs.declared.Refusal.{Refusal}
 use Rattle.capture.specs.declared.Verdict.{Verdict}
 use Rattle.capture.specs.declared.Verdict.the-variants.{Sound, Refused}
+use Rattle.capture.proofs.Verdicts.{not-sound}
 use Rattle.madt.specs.Walk.{walked}
 use Rattle.madt.specs.declared.Found.{Found}
 use Rattle.madt.specs.declared.Walked.{Walked}
@@ -27,9 +28,6 @@ fits : (table : List ℕ) → count table ≤ 256 → length (processors table) 
 fits table few = let two = twice-all table in omega arith
 
 -- ---- the table of an accepted capture
-not-sound : {refusal : Refusal} {X : Type 0} → _≡_ {A = Verdict} (Refused refusal) Sound → X
-not-sound e = absurd (let o : _≡_ {A = ℕ} 0 1 = cc in omega arith)
-
 refused-not : (refusal : Refusal) {r : Scan} {X : Type 0} → r ≡ turnedDown refusal → r .verdict ≡ Sound → X
 unfolding turnedDown
 refused-not refusal e h = not-sound (ap (λ (x : Scan). x .verdict) (sym e) ∙ h)
