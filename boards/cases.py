@@ -15,7 +15,7 @@ from board import structure, summed, table
 from printed import PRINTED
 
 # The kinds of question that crates/vectors/src/main.rt knows.
-CHECK, RSDP, LOCATE, SURVEY, READ, ROUTE, TRACE, READ_BYTES = range(8)
+CHECK, RSDP, REACH, SURVEY, READ, ROUTE, TRACE, READ_BYTES = range(8)
 TOP = 1 << 64
 cases = []
 
@@ -35,8 +35,8 @@ def find_rsdp(label, data, answer):
     ask(RSDP, label, data, answer)
 
 
-def locate(label, data, address, size, answer):
-    ask(LOCATE, label, data, answer, address, size)
+def reach(label, data, address, answer):
+    ask(REACH, label, data, answer, address)
 
 
 def survey(label, data, answer):
@@ -113,29 +113,26 @@ check("6: third overlaps the first only", zeros((BASE, 8), (BASE + 4096, 8), (BA
 check("6: broken in the 16th", zeros(*[(BASE + 8 * k, 8) for k in range(15)], (BASE, 8)), refused(6, 198))
 check("6: first segment at address 0", zeros((0, 8)), "sound")
 
-# A stretch is present if it lies wholly inside one segment.
+# A stretch is present if it lies wholly inside one segment: if the segment of its first byte has room for it.
 PAIR = zeros((BASE, 508), (BASE + 508, 100), (BASE + 700, 10))
-locate("whole first segment", PAIR, BASE, 508, "present at 54")
-locate("first byte", PAIR, BASE, 1, "present at 54")
-locate("last byte", PAIR, BASE + 507, 1, "present at 561")
-locate("one byte before the first", PAIR, BASE - 1, 1, "absent")
-locate("one byte too long, into a touching segment", PAIR, BASE, 509, "absent")
-locate("across two touching segments", PAIR, BASE + 472, 72, "absent")
-locate("first byte of the second segment", PAIR, BASE + 508, 1, "present at 562")
-locate("whole second segment", PAIR, BASE + 508, 100, "present at 562")
-locate("across a gap", PAIR, BASE + 600, 101, "absent")
-locate("in the gap", PAIR, BASE + 650, 4, "absent")
-locate("end of the third segment", PAIR, BASE + 704, 6, "present at 666")
-locate("past the last byte", PAIR, BASE + 710, 1, "absent")
-locate("address 0", PAIR, 0, 36, "absent")
-locate("longest stretch", PAIR, BASE, 0xFFFFFFFF, "absent")
+reach("first byte", PAIR, BASE, "at 54, room 508")
+reach("within the first segment", PAIR, BASE + 472, "at 526, room 36")
+reach("last byte", PAIR, BASE + 507, "at 561, room 1")
+reach("one byte before the first", PAIR, BASE - 1, "nowhere")
+reach("first byte of a touching segment", PAIR, BASE + 508, "at 562, room 100")
+reach("last byte before a gap", PAIR, BASE + 607, "at 661, room 1")
+reach("first byte of the gap", PAIR, BASE + 608, "nowhere")
+reach("in the gap", PAIR, BASE + 650, "nowhere")
+reach("within the third segment", PAIR, BASE + 704, "at 666, room 6")
+reach("past the last byte", PAIR, BASE + 710, "nowhere")
+reach("address 0, and no segment there", PAIR, 0, "nowhere")
 TOPMOST = zeros((0, 16), (TOP - 16, 16))
-locate("last byte of memory", TOPMOST, TOP - 1, 1, "present at 73")
-locate("past 2^64, with 16 bytes at 0", TOPMOST, TOP - 8, 16, "absent")
-locate("past 2^64, longest", TOPMOST, TOP - 1, 0xFFFFFFFF, "absent")
-locate("no bytes at the end of a segment", TOPMOST, 16, 0, "present at 58")
-locate("any bytes: 255 segments of no capture", b"\xff" * 40, BASE, 36, "absent")
-locate("any bytes: none at all", b"", BASE, 0, "absent")
+reach("address 0 of a segment", TOPMOST, 0, "at 42, room 16")
+reach("the end of a segment", TOPMOST, 16, "nowhere")
+reach("last byte of memory", TOPMOST, TOP - 1, "at 73, room 1")
+reach("up to 2^64, with 16 bytes at 0", TOPMOST, TOP - 8, "at 66, room 8")
+reach("any bytes: 255 segments of no capture", b"\xff" * 40, BASE, "nowhere")
+reach("any bytes: none at all", b"", BASE, "nowhere")
 
 # Refusal 10: the RSDP's presence, after 1 to 6.
 find_rsdp("10: board A", A, "RSDP at 30")

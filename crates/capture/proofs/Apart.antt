@@ -14,9 +14,8 @@ use Rattle.words.proofs.Searches.{search-none}
 use Rattle.words.proofs.Tests.{neither-right}
 use Rattle.capture.specs.Fields.{segmentCount, descriptor, segmentAddress, segmentLength, segments}
 use Rattle.capture.specs.Rules.{emptySegment, endsPastMemory, startsEarly, endBefore, segmentBroken, segmentRules}
-use Rattle.capture.specs.Presence.{placeIn, located}
+use Rattle.capture.specs.Presence.{Present, placeIn, located}
 use Rattle.capture.specs.declared.Verdict.the-variants as verdicts
-use Rattle.capture.specs.declared.Stretch.the-variants.{Present}
 use Rattle.capture.proofs.Laws.{holds-start, holds-end}
 use Rattle.capture.proofs.Within.{Sound, sound-segments, located-held, held-place}
 

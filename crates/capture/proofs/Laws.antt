@@ -59,9 +59,9 @@ unfolding holds
 holds-end capture address size i h = leb-true _ _ (both-right (leb (segmentAddress capture i) address) _ h)
 
 -- a segment that has the address, by its descriptor
-pub has-address : (address start size : ℕ) → (leb start address && leb (address + 1) (start + size)) ≡ true
+pub has-start-and-end : (address start size : ℕ) → (leb start address && leb (address + 1) (start + size)) ≡ true
     → (start ≤ address) × (address < start + size)
-has-address address start size h =
+has-start-and-end address start size h =
     let ends : address + 1 ≤ start + size = leb-true _ _ (both-right (leb start address) _ h) in
     (leb-true start address (both-left _ (leb (address + 1) (start + size)) h), omega arith)
 

@@ -10,10 +10,8 @@ use Rattle.words.specs.Lists.{first, numbersBelow}
 use Rattle.words.specs.Refusals.{refused}
 use Rattle.words.proofs.Searches.{Hit, search-found, search-none}
 use Rattle.capture.specs.Fields.{segmentCount, rsdpAddress, segmentAddress, segmentLength, segments}
-use Rattle.capture.specs.Presence.{holds, placeIn, located, reachIn, reached, rsdpSize, presentOr10, rsdpPresence}
+use Rattle.capture.specs.Presence.{Stretch, Present, Absent, holds, placeIn, located, reachIn, reached, rsdpSize, presentOr10, rsdpPresence}
 use Rattle.capture.specs.declared.Reach.{Reach}
-use Rattle.capture.specs.declared.Stretch.{Stretch}
-use Rattle.capture.specs.declared.Stretch.the-variants.{Present, Absent}
 use Rattle.capture.specs.declared.Root.the-variants as roots
 use Rattle.capture.proofs.Laws.{holds-start, holds-end}
 use Rattle.capture.proofs.Within.{Sound, located-held, within-small}

@@ -9,11 +9,14 @@ use Rattle.capture.specs.Fields.{rsdpAddress, segmentAddress, segmentLen
 use Rattle.capture.specs.Rules.{verdict}
 use Rattle.capture.specs.declared.Verdict.{Verdict}
 use Rattle.capture.specs.declared.Verdict.the-variants as verdicts
-use Rattle.capture.specs.declared.Stretch.{Stretch}
-use Rattle.capture.specs.declared.Stretch.the-variants.{Present, Absent}
 use Rattle.capture.specs.declared.Reach.{Reach}
 use Rattle.capture.specs.declared.Root.{Root}
 use Rattle.capture.specs.declared.Root.the-variants as roots
+
+-- a stretch of memory: present at a place of the capture, or absent
+pub data Stretch : Type 0 where
+  Present : ℕ → Stretch
+  Absent : Stretch
 
 -- the stretch "lies wholly inside" segment i
 unfoldable pub holds : List ℕ → ℕ → ℕ → ℕ → Bool

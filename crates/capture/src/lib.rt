@@ -1,24 +1,18 @@
 // The capture: what the bench is handed. Whether it is sound (refusals 1 to 6), where a stretch of memory stands in it,
 // and whether the RSDP is there (refusal 10). Every function answers for any bytes.
 ghost use mathlib.Core.Path.{_≡_};
-ghost use mathlib.Core.Bool.{true, _&&_};
+ghost use mathlib.Core.Bool.{_&&_};
 ghost use Prim.Native.Nat.{_+_, _*_, _^_, _≤_};
 ghost use lib.Dec.{ltb, leb};
 ghost use Rattle.capture.specs.Fields.{version, segmentCount, rsdpAddress, headerSize, descriptor, descriptorsEnd, segmentAddress, segmentLength, lengths};
 ghost use Rattle.capture.specs.Rules.{wrongSize, wrongMark, wrongVersion, wrongCount, wrongTotal, emptySegment, endsPastMemory, startsEarly, segmentBroken, segmentRules, verdict};
-ghost use Rattle.capture.specs.Presence.{holds, placeIn, located, reached, rsdpPresence, rsdp};
+ghost use Rattle.capture.specs.Presence.{reached, rsdpPresence, rsdp};
 use words::Refusal;
 
 // Whether a capture is sound.
 pub enum Verdict {
     Sound,
     Refused(Refusal),
-}
-
-// Whether a stretch of memory is present, and at which place.
-pub enum Stretch {
-    Present(usize),
-    Absent,
 }
 
 // The place of an address, and the bytes of its segment from there on.
@@ -52,8 +46,6 @@ const MOST_BYTES: usize = 65536;
 const LAST_ADDRESS: u64 = 18446744073709551615;
 
 const RSDP_SIZE: u64 = 36;
-
-const ONE_BYTE: u32 = 1;
 
 // The capture's version, of 16 bits.
 pub fn version_of(capture: &[u8]) -> u16
@@ -238,54 +230,11 @@ pub fn check(capture: &[u8]) -> Verdict
     check_segments(capture)
 }
 
-// Whether one stretch lies wholly inside another. Differences are taken, since a sum may pass 2^64.
-fn inside(address: u64, size: u32, start: u64, length: u32) -> bool
-    ensures { λ r. ⌜ r ≡ (leb start address && leb (address + size) (start + length)) ⌝ }
+// Whether a segment has an address.
+fn has_address(start: u64, length: u32, address: u64) -> bool
+    ensures { λ r. ⌜ r ≡ (leb start address && leb (address + 1) (start + length)) ⌝ }
 {
-    if address < start {
-        return false;
-    }
-    let ahead = address - start;
-    if (length as u64) < ahead {
-        return false;
-    }
-    size as u64 <= (length as u64) - ahead
-}
-
-// Whether segment i holds a stretch.
-fn segment_holds(capture: &[u8], address: u64, size: u32, i: u8) -> bool
-    ensures { λ r. ⌜ r ≡ holds (now (capture .entry)) address size i ⌝ }
-{
-    inside(
-        address,
-        size,
-        segment_address(capture, i),
-        segment_length(capture, i),
-    )
-}
-
-// The place of an address that segment i holds.
-fn place_in(capture: &[u8], address: u64, size: u32, i: u8) -> usize
-    requires { ⌜ holds (now capture) address size i ≡ true ⌝ }
-    ensures { λ r. ⌜ r ≡ placeIn (now (capture .entry)) address i ⌝ }
-{
-    let before = (descriptors_end(capture) as u64) + lengths_of(capture, i);
-    (before + (address - segment_address(capture, i))) as usize
-}
-
-// The place of `size` bytes of memory at `address`: they lie wholly inside one segment, or nowhere.
-pub fn locate(capture: &[u8], address: u64, size: u32) -> Stretch
-    ensures { λ r. ⌜ r ≡ located (now (capture .entry)) address size ⌝ }
-{
-    let n = segment_count(capture);
-    let mut i: u8 = 0;
-    while i < n {
-        if segment_holds(capture, address, size, i) {
-            return Stretch::Present(place_in(capture, address, size, i));
-        }
-        i += 1;
-    }
-    Stretch::Absent
+    (start <= address) & before_end(address, start, length)
 }
 
 // Where an address stands, and how many bytes its segment has from there on; no room where no segment has the address. In a
@@ -299,7 +248,7 @@ pub fn reach_of(capture: &[u8], address: u64) -> Reach
     while i < n {
         let start = segment_address(capture, i);
         let length = segment_length(capture, i);
-        if inside(address, ONE_BYTE, start, length) {
+        if has_address(start, length, address) {
             let ahead = address - start;
             return Reach {
                 place: (place + ahead) as usize,

@@ -12,11 +12,9 @@ use Rattle.words.specs.Refusals.{refused}
 use Rattle.words.proofs.Tests.{neither-left}
 use Rattle.capture.specs.Fields.{segmentCount, totalLength, headerSize, descriptor, descriptorsEnd, segments, lengths, rsdpAddress}
 use Rattle.capture.specs.Rules.{wrongTotal, segmentBroken, segmentRules, verdict}
-use Rattle.capture.specs.Presence.{located, rsdpSize, presentOr10, rsdpPresence, afterVerdict, rsdp}
+use Rattle.capture.specs.Presence.{Stretch, Present, Absent, located, rsdpSize, presentOr10, rsdpPresence, afterVerdict, rsdp}
 use Rattle.capture.specs.declared.Verdict.{Verdict}
 use Rattle.capture.specs.declared.Verdict.the-variants.{Sound, Refused}
-use Rattle.capture.specs.declared.Stretch.{Stretch}
-use Rattle.capture.specs.declared.Stretch.the-variants.{Present, Absent}
 use Rattle.capture.specs.declared.Root.{Root}
 use Rattle.capture.specs.declared.Root.the-variants as roots
 use Rattle.capture.proofs.Within.{sound-length}

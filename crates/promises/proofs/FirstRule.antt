@@ -11,11 +11,9 @@ use Rattle.words.specs.Refusals.{refused}
 use Rattle.words.specs.declared.Refusal.{Refusal}
 use Rattle.capture.specs.Fields.{rsdpAddress, segments}
 use Rattle.capture.specs.Rules.{segmentRules, verdict}
-use Rattle.capture.specs.Presence.{located, rsdpSize, presentOr10, rsdpPresence, afterVerdict, rsdp}
+use Rattle.capture.specs.Presence.{Stretch, Present, Absent, located, rsdpSize, presentOr10, rsdpPresence, afterVerdict, rsdp}
 use Rattle.capture.specs.declared.Root.{Root}
 use Rattle.capture.specs.declared.Root.the-variants as roots
-use Rattle.capture.specs.declared.Stretch.{Stretch}
-use Rattle.capture.specs.declared.Stretch.the-variants.{Present, Absent}
 use Rattle.capture.specs.declared.Verdict.{Verdict}
 use Rattle.capture.specs.declared.Verdict.the-variants.{Sound, Refused}
 use Rattle.tables.specs.Rsdp.{rsdpRules, xsdtField}

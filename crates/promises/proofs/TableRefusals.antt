@@ -10,11 +10,9 @@ use lib.ListN.{length}
 use Rattle.words.specs.Lists.{numbersBelow}
 use Rattle.words.proofs.Tests.{neither-left, neither-right}
 use Rattle.capture.specs.Fields.{rsdpAddress}
-use Rattle.capture.specs.Presence.{located, rsdpSize, rsdp}
+use Rattle.capture.specs.Presence.{Stretch, Present, Absent, located, rsdpSize, rsdp}
 use Rattle.capture.specs.declared.Root.{Root}
 use Rattle.capture.specs.declared.Root.the-variants as roots
-use Rattle.capture.specs.declared.Stretch.{Stretch}
-use Rattle.capture.specs.declared.Stretch.the-variants.{Present, Absent}
 use Rattle.capture.specs.declared.Verdict.{Verdict}
 use Rattle.capture.specs.declared.Verdict.the-variants as verdicts
 use Rattle.capture.proofs.Within.{Sound, passes, within, behind, rsdp-of-sound, rsdp-located, rsdp-within}

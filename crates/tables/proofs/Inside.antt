@@ -9,11 +9,9 @@ use lib.ListN.{length}
 use borrow.Author.Tests.{ltb-false, not-false}
 use Rattle.words.specs.Refusals.{refused}
 use Rattle.words.proofs.Tests.{neither-left, neither-right}
-use Rattle.capture.specs.Presence.{located, rsdp}
+use Rattle.capture.specs.Presence.{Stretch, Present, Absent, located, rsdp}
 use Rattle.capture.specs.declared.Root.{Root}
 use Rattle.capture.specs.declared.Root.the-variants as roots
-use Rattle.capture.specs.declared.Stretch.{Stretch}
-use Rattle.capture.specs.declared.Stretch.the-variants.{Present, Absent}
 use Rattle.capture.specs.declared.Verdict.{Verdict}
 use Rattle.capture.specs.declared.Verdict.the-variants as verdicts
 use Rattle.capture.proofs.Within.{Sound, passes, within, rsdp-of-sound}

@@ -12,10 +12,8 @@ use Rattle.words.specs.declared.Refusal.{Refusal}
 use Rattle.words.proofs.Choices.{yes-if, no-if, passed}
 use Rattle.words.proofs.Searches.{search-found, search-none}
 use Rattle.words.specs.Lists.{numbersBelow}
-use Rattle.capture.specs.Presence.{located, rsdp}
+use Rattle.capture.specs.Presence.{Stretch, Present, Absent, located, rsdp}
 use Rattle.capture.specs.declared.Root.the-variants as roots
-use Rattle.capture.specs.declared.Stretch.{Stretch}
-use Rattle.capture.specs.declared.Stretch.the-variants.{Present, Absent}
 use Rattle.capture.specs.declared.Verdict.{Verdict}
 use Rattle.capture.specs.declared.Verdict.the-variants as verdicts
 use Rattle.tables.specs.Table.{headerSize, addressAt, signature, tableLength, cutShort, wrongSum, tableFound, tableAt}

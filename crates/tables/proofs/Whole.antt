@@ -8,9 +8,8 @@ use native.Mathlib.Omega.{arith}
 use lib.Dec.{ltb}
 use borrow.Author.Tests.{ltb-true, ltb-false}
 use Rattle.words.specs.Refusals.{refused}
-use Rattle.capture.specs.Presence.{located, reached}
+use Rattle.capture.specs.Presence.{Present, Absent, located, reached}
 use Rattle.capture.specs.declared.Reach.{Reach}
-use Rattle.capture.specs.declared.Stretch.the-variants.{Present, Absent}
 use Rattle.capture.proofs.Room.{room-present, room-absent}
 use Rattle.capture.proofs.Within.{Sound, within-small, behind}
 use Rattle.tables.specs.Table.{headerSize, addressAt, tableLength, isPresent, cutShort, tableFound, tableAt, tableWithin}

@@ -5,9 +5,7 @@ use mathlib.Core.Bool.{Bool, false}
 use mathlib.Core.List.{List}
 use lib.Dec.{eqb}
 use Rattle.words.specs.Lists.{first, numbersFrom}
-use Rattle.capture.specs.Presence.{located}
-use Rattle.capture.specs.declared.Stretch.{Stretch}
-use Rattle.capture.specs.declared.Stretch.the-variants.{Present, Absent}
+use Rattle.capture.specs.Presence.{Stretch, Present, Absent, located}
 use Rattle.tables.specs.Table.{headerSize, addressAt, signature, tableLength}
 use Rattle.tables.specs.Xsdt.{entryCount, entryField}
 use Rattle.tables.specs.declared.Table.{Table}

@@ -8,11 +8,9 @@ use lib.Dec.{eqb, leb, ltb}
 use Rattle.words.specs.Bytes.{numberAt, spelled}
 use Rattle.words.specs.Choice.{if}
 use Rattle.words.specs.Refusals.{refused}
-use Rattle.capture.specs.Presence.{located, rsdp}
+use Rattle.capture.specs.Presence.{Stretch, Present, Absent, located, rsdp}
 use Rattle.capture.specs.declared.Root.{Root}
 use Rattle.capture.specs.declared.Root.the-variants as roots
-use Rattle.capture.specs.declared.Stretch.{Stretch}
-use Rattle.capture.specs.declared.Stretch.the-variants.{Present, Absent}
 use Rattle.capture.specs.declared.Verdict.{Verdict}
 use Rattle.capture.specs.declared.Verdict.the-variants as verdicts
 use Rattle.tables.specs.Rsdp.{rsdpRules, xsdtField}

@@ -6,9 +6,7 @@ use lib.Dec.{eqb, ltb}
 use Rattle.words.specs.Bytes.{numberAt, partAt, byteSum}
 use Rattle.words.specs.Choice.{if}
 use Rattle.words.specs.Refusals.{refused}
-use Rattle.capture.specs.Presence.{located}
-use Rattle.capture.specs.declared.Stretch.{Stretch}
-use Rattle.capture.specs.declared.Stretch.the-variants.{Present, Absent}
+use Rattle.capture.specs.Presence.{Stretch, Present, Absent, located}
 use Rattle.tables.specs.declared.Checked.{Checked}
 use Rattle.tables.specs.declared.Checked.the-variants.{Is, Refused}
 

@@ -4,7 +4,6 @@
 // A question is a head of 92 bytes and then the capture. The head: a label in 64 bytes, the kind of question (32 bits), the
 // capture's length (32 bits), two numbers of 64 bits that some kinds ask about, and the label's length (32 bits).
 use capture::Root;
-use capture::Stretch;
 use capture::Verdict;
 use libc::STDIN_FILENO;
 use libc::STDOUT_FILENO;
@@ -34,7 +33,7 @@ const CHECK: u32 = 0;
 
 const RSDP: u32 = 1;
 
-const LOCATE: u32 = 2;
+const REACH: u32 = 2;
 
 const SURVEY: u32 = 3;
 
@@ -95,11 +94,14 @@ fn answer_rsdp(bytes: &[u8]) {
     }
 }
 
-fn answer_locate(bytes: &[u8], address: u64, size: u32) {
-    match capture::locate(bytes, address, size) {
-        Stretch::Present(place) => say_number(b"present at ", place as u64),
-        Stretch::Absent => say(b"absent"),
+fn answer_reach(bytes: &[u8], address: u64) {
+    let reach = capture::reach_of(bytes, address);
+    if reach.room == 0 {
+        say(b"nowhere");
+        return;
     }
+    say_number(b"at ", reach.place as u64);
+    say_number(b", room ", reach.room);
 }
 
 fn say_tables(t: Tables) {
@@ -219,11 +221,7 @@ fn answer(head: &[u8], bytes: &[u8]) {
     match kind {
         CHECK => answer_check(bytes),
         RSDP => answer_rsdp(bytes),
-        LOCATE => answer_locate(
-            bytes,
-            words::u64_at(head, FIRST),
-            words::u32_at(head, SECOND),
-        ),
+        REACH => answer_reach(bytes, words::u64_at(head, FIRST)),
         SURVEY => answer_survey(bytes),
         READ => answer_read(bytes, words::u32_at(head, FIRST) as usize),
         ROUTE => answer_route(bytes, words::u32_at(head, FIRST)),

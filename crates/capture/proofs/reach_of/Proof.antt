@@ -6,7 +6,7 @@ use Rattle.words.specs.Lists.{numbersFrom}
 use Rattle.words.proofs.Searches.{search-start, Searching, search-hit, search-miss, search-over, next-number, no-number}
 use Rattle.capture.specs.Fields.{lengths, segmentPlace, segments}
 use Rattle.capture.specs.Presence.{holds, reachIn, reached}
-use Rattle.capture.proofs.Laws.{has-address, reach-told, place-next}
+use Rattle.capture.proofs.Laws.{has-start-and-end, reach-told, place-next}
 use borrow.Author.Needs.{needs}
 use Rattle.capture.proofs.reach_of.Statement.{statement}
 use Rattle.capture.proofs.reach_of.Tie as tie
@@ -31,7 +31,7 @@ abbrev address : tie.Then1 Inv-loop μ-loop → ℕ
 address c = c .before .before .before .before .before .before .before .before .before .args .address
 
 has : (c : tie.Then1 Inv-loop μ-loop) → (start c ≤ address c) × (address c < start c + size c)
-has c = has-address (address c) (start c) (size c) (sym (c .before .inside .ensures) ∙ c .if1 .taken)
+has c = has-start-and-end (address c) (start c) (size c) (sym (c .before .has-address .ensures) ∙ c .if1 .taken)
 
 segment-count-requires : tie.Need-segment-count-requires Inv-loop μ-loop
 segment-count-requires c κs = search needs
@@ -52,8 +52,8 @@ segment-address-requires c κs = search needs
 segment-length-requires : tie.Need-segment-length-requires Inv-loop μ-loop
 segment-length-requires c κs = search needs
 
-inside-requires : tie.Need-inside-requires Inv-loop μ-loop
-inside-requires c κs = search needs
+has-address-requires : tie.Need-has-address-requires Inv-loop μ-loop
+has-address-requires c κs = search needs
 
 sub-ahead : tie.Need-sub-ahead Inv-loop μ-loop
 sub-ahead c = omega (arith, has c)
@@ -105,7 +105,7 @@ reach-of-spec =
     loop-holds
     segment-address-requires
     segment-length-requires
-    inside-requires
+    has-address-requires
     sub-ahead
     add-t12
     cast-t14

@@ -1,0 +1,14 @@
+-- `capture::has_address` compares with both ends.
+use native.Mathlib.Numerals.{add-one}
+use borrow.Author.Needs.{needs}
+use Rattle.capture.proofs.has_address.Statement.{statement}
+use Rattle.capture.proofs.has_address.Tie as tie
+
+before-end-requires : tie.Need-before-end-requires
+before-end-requires c κs = search needs
+
+returns : tie.Need-returns
+returns c = rw (c .before-end .ensures, add-one)
+
+pub has-address-spec : {M : Type 1} → statement M
+has-address-spec = tie.close (tie.spec before-end-requires returns)
