@@ -2,10 +2,10 @@
 // and whether the RSDP is there (refusal 10). Every function answers for any bytes.
 ghost use mathlib.Core.Path.{_≡_};
 ghost use mathlib.Core.Bool.{_&&_};
-ghost use Prim.Native.Nat.{_+_, _*_, _^_, _≤_};
+ghost use Prim.Native.Nat.{_+_, _^_};
 ghost use lib.Dec.{ltb, leb};
 ghost use Rattle.capture.specs.Fields.{version, segmentCount, rsdpAddress, headerSize, descriptor, descriptorsEnd, segmentAddress, segmentLength, lengths};
-ghost use Rattle.capture.specs.Rules.{wrongSize, wrongMark, wrongVersion, wrongCount, wrongTotal, emptySegment, endsPastMemory, startsEarly, segmentBroken, segmentRules, verdict};
+ghost use Rattle.capture.specs.Rules.{wrongSize, wrongMark, wrongVersion, wrongCount, wrongTotal, startsEarly, segmentBroken, segmentRules, verdict};
 ghost use Rattle.capture.specs.Presence.{reached, rsdpPresence, rsdp};
 use words::Refusal;
 

@@ -1,7 +1,7 @@
 -- Two claims that are apart clash by no rule, whichever of them comes first.
 use Prim.Native.Nat.{ℕ}
-use mathlib.Core.Path.{_≡_, refl, sym, _∙_}
-use mathlib.Core.Bool.{Bool, true, false, not, _||_, true≢false}
+use mathlib.Core.Path.{_≡_, sym, _∙_}
+use mathlib.Core.Bool.{Bool, true, false, _||_, true≢false}
 use borrow.Author.Tests.{not-true}
 use lib.Dec.{eqb}
 use Rattle.words.specs.Choice.{if}

@@ -8,7 +8,6 @@ use lib.Dec.{eqb, ltb}
 use Rattle.words.specs.Bytes.{byteAt, numberAt}
 use Rattle.kinds.specs.declared.makers.Core.{Core}
 use Rattle.kinds.specs.declared.makers.Ht.{Ht}
-use Rattle.kinds.specs.declared.Half.{Half}
 use Rattle.kinds.specs.declared.Lio.{Lio}
 use Rattle.kinds.specs.declared.Eio.{Eio}
 use Rattle.kinds.specs.declared.Msi.{Msi}

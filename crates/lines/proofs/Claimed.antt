@@ -3,7 +3,7 @@ use Prim.Native.Nat.{ℕ, _+_, _≤_, _<_}
 use native.Mathlib.Omega.{arith}
 use mathlib.Core.Path.{_≡_, refl}
 use mathlib.Core.List.{List, [], _∷_, _++_}
-use lib.ListN.{length, take, drop, length-append, length-take, drop-of-length-le}
+use lib.ListN.{length, drop, length-append, length-take, drop-of-length-le}
 use Rattle.clashes.specs.declared.Claim.{Claim}
 use Rattle.parts.specs.Claims.{lioClaim, eioClaim, bioClaim, msiClaim}
 use Rattle.lines.specs.Says.{Said, says}

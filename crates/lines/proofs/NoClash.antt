@@ -7,18 +7,16 @@ use mathlib.Core.Logic.{_⊎_, inl, inr, ⊎-elim}
 use mathlib.Core.List.{List, [], _∷_, _++_, List·Memᴰ, List·Memᴰ·head, List·Memᴰ·not-nil, List·Memᴰ·cases-cons, List·Memᴰ·append-cases, List·Memᴰ·eq-of-singleton}
 use mathlib.Core.Bool.{Bool, true, false, not, _&&_, _||_, and-false, and-assoc, true≢false}
 use borrow.Author.Tests.{le-ltb, not-true}
-use lib.Dec.{eqb, ltb}
+use lib.Dec.{eqb}
 use lib.ListN.{length}
 use Rattle.words.specs.Lists.{every}
 use Rattle.kinds.specs.declared.Eio.{Eio}
 use Rattle.kinds.specs.declared.Bio.{Bio}
-use Rattle.kinds.specs.declared.Msi.{Msi}
 use Rattle.clashes.specs.Rules.{noNode, clash, noEio, lone}
 use Rattle.clashes.specs.Apart.{apart}
-use Rattle.clashes.specs.Search.{firstClash, firstLone}
+use Rattle.clashes.specs.Search.{firstClash}
 use Rattle.clashes.specs.declared.Claim.{Claim}
 use Rattle.clashes.specs.declared.Pair.the-variants.{None}
-use Rattle.clashes.specs.declared.Spot.the-variants.{Nowhere}
 use Rattle.clashes.proofs.Logic.{and-left, and-right, is-false}
 use Rattle.clashes.proofs.Apart.{apart-clash, apart-clash-back}
 use Rattle.clashes.proofs.Searched.{hits, quiet as none-hits, lone-none}
@@ -28,7 +26,6 @@ use Rattle.lines.specs.Claims.{placed, claims}
 use Rattle.lines.specs.Quiet.{farFrom, stillEach, noEioOf, eiosQuiet, biosQuiet, msisQuiet, quiet}
 use Rattle.lines.specs.Rules.{rule40, rule43, rule54, alone as aloneRule, both, spotted, orElse, lowest, verdictsFrom40}
 use Rattle.lines.specs.declared.Places.{Places}
-use Rattle.lines.specs.declared.Verdict.{Verdict}
 use Rattle.lines.proofs.Verdicts.{or-kept}
 
 -- ---- lists of claims without a clash

@@ -40,11 +40,3 @@ both-bits a b i z p q =
     let e : bitAnd a b / 2 ^ i % 2 ≡ 1 = rw (and-shr, and-mod (a / 2 ^ i) (b / 2 ^ i) 1, x, y) in
     let w : _≡_ {A = ℕ} 0 1 = rw (z, zero-div) at e in
     omega arith
-
--- no bit in an empty mask
-pub no-bit : (mask i : ℕ) → hasBit mask i ≡ true → mask ≡ 0 → ⊥
-unfolding hasBit
-no-bit mask i p z =
-    let x : mask / 2 ^ i % 2 ≡ 1 = eqb-true _ _ (and-right (ltb i 32) (eqb (mask / 2 ^ i % 2) 1) p) in
-    let w : _≡_ {A = ℕ} 0 1 = rw (z, zero-div) at x in
-    omega arith

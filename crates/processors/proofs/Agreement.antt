@@ -2,9 +2,8 @@
 use mathlib.Core.Path.{_≡_, refl, sym, ap, _∙_}
 use mathlib.Core.Bool.{Bool, true, false, _&&_}
 use mathlib.Core.List.{List, [], _∷_}
-use Prim.Native.Nat.{ℕ, _+_, _*_}
+use Prim.Native.Nat.{ℕ, _+_}
 use native.Mathlib.Omega.{arith}
-use lib.ListN.{length}
 use Rattle.words.proofs.Choices.{yes-if, no-if, if-cases}
 use Rattle.capture.specs.declared.Verdict.the-variants.{Sound}
 use Rattle.capture.proofs.Verdicts.{not-sound}
@@ -18,7 +17,6 @@ use Rattle.madt.specs.declared.Found.{Found}
 use Rattle.madt.specs.declared.Walked.{Walked}
 use Rattle.processors.specs.Listing.{isEnabledCore, countOf, countIn, count, processors}
 use Rattle.madt.proofs.Taking.{is-zero, taking-number, taking-found}
-use Rattle.processors.proofs.Filling.{twice-all}
 
 module _ (s : List ℕ) (place : ℕ) (found : Found) where
   keeps : (rule : ℕ) (more : Found) → more .enabled ≡ found .enabled → taking rule found more .found .enabled ≡ found .enabled
@@ -93,8 +91,3 @@ pub enabled-count : (table : List ℕ) (base sci : ℕ) → walked table base sc
     → walked table base sci .found .enabled ≡ count table
 unfolding walked count nothing
 enabled-count table base sci h = let all = walk-count base (pieces table 44) (nothing sci) h in omega arith
-
--- and the list has two entries for each
-pub enabled-entries : (table : List ℕ) (base sci : ℕ) → walked table base sci .verdict ≡ Sound
-    → length (processors table) ≡ 2 * (walked table base sci .found .enabled)
-enabled-entries table base sci h = rw (enabled-count table base sci h) (twice-all table)

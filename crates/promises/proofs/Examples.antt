@@ -38,8 +38,11 @@ use Rattle.processors.specs.Repeats.{twins, earlierTwin, hasTwin, repeats, spot
 use Rattle.reading.specs.Entries.{asked, answerIn, readCode, readResult, bytesAfter}
 use Rattle.reading.specs.Reading.{withoutMap, answered, afterScan, madtFound, readingOf, listFrom, listAfter}
 use Rattle.reading.specs.Scan.{madtBytes, emptyMap, turnedDown, repeatRule, processorRule, mapRule, inTurn, rulesAfterWalk, judged as scanJudged, afterWalk, afterSurvey, scan}
+use Rattle.text.specs.Numerals.{letters, digits, decimal}
+use Rattle.text.specs.Lines.{each, field, phrase, line, versionLine, coreLine, coreLines, halfLine, lioLines, eioLine, bioLine, msiLine, lpcLine, sciLine}
+use Rattle.text.specs.Text.{mapParts, mapText, verdictText, textOf}
 use Rattle.promises.specs.BoardA.{boardA, msiFrom63, msiTo257, eioAt2}
-use Rattle.promises.specs.Examples.{told, twelve, TwelveExamples, BoardAIsRead}
+use Rattle.promises.specs.Examples.{told, twelve, TwelveExamples, BoardAIsRead, BoardAIsPrinted}
 
 -- the scan, with all that it and the answers are computed by
 unfoldable computed : List ℕ → Scan
@@ -54,3 +57,7 @@ twelve-examples = refl
 pub board-a-is-read : BoardAIsRead
 unfolding boardA computed fourBytes image asked answerIn readCode readResult bytesAfter
 board-a-is-read = record { accepted = refl; reading = refl; list = refl; result = refl; bytes = refl }
+
+pub board-a-is-printed : BoardAIsPrinted
+unfolding boardA computed textOf verdictText mapText mapParts each field phrase line versionLine coreLine coreLines halfLine lioLines eioLine bioLine msiLine lpcLine sciLine letters digits decimal
+board-a-is-printed = refl

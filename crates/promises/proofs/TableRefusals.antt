@@ -4,8 +4,7 @@ use native.Mathlib.Omega.{arith}
 use mathlib.Core.Path.{_≡_, refl, sym, _∙_}
 use mathlib.Core.List.{List}
 use mathlib.Core.Bool.{true, false, not, _||_, true≢false}
-use borrow.Author.Tests.{ltb-false, not-false}
-use lib.Dec.{leb, ltb}
+use lib.Dec.{leb}
 use lib.ListN.{length}
 use Rattle.words.specs.Lists.{numbersBelow}
 use Rattle.words.proofs.Tests.{neither-left, neither-right}
@@ -16,9 +15,8 @@ use Rattle.capture.specs.declared.Root.the-variants as roots
 use Rattle.capture.specs.declared.Verdict.{Verdict}
 use Rattle.capture.specs.declared.Verdict.the-variants as verdicts
 use Rattle.capture.proofs.Within.{Sound, passes, within, behind, rsdp-of-sound, rsdp-located, rsdp-within}
-use Rattle.capture.proofs.Apart.{one-place}
 use Rattle.tables.specs.Rsdp.{rsdpRules, xsdtField}
-use Rattle.tables.specs.Table.{headerSize, addressAt, tableLength, isPresent, cutShort, tableFound, tableAt}
+use Rattle.tables.specs.Table.{headerSize, addressAt, tableFound, tableAt}
 use Rattle.tables.specs.Xsdt.{entryCount, entryField, entries, xsdtRules, isRefused, refusalOf, entryRules}
 use Rattle.tables.specs.Finder.{names, namedFrom, firstNamed, namedAfter, secondNamed}
 use Rattle.tables.specs.Survey.{apic, facp, isNowhere, earlier, secondRule, nameRules, bodyRules, tableOf, tableNamed, tableOfEntry, madtOf, fadtOf, after, ofTables, ofNames, ofXsdt, ofRsdp, survey}
@@ -30,6 +28,7 @@ use Rattle.tables.specs.declared.Entry.the-variants.{At, Nowhere}
 use Rattle.tables.specs.declared.Survey.{Survey}
 use Rattle.tables.specs.declared.Survey.the-variants.{Found, Refused}
 use Rattle.tables.proofs.Laws.{names-absent}
+use Rattle.tables.proofs.Inside.{whole-inside}
 use Rattle.words.proofs.Choices.{if-cases}
 use Rattle.promises.proofs.Told.{UpTo, Told, Inside, tell, search-told}
 use Rattle.promises.proofs.CaptureRefusals.{RootTold, rsdp-told}
@@ -49,23 +48,6 @@ rsdp-rules-told capture place l =
 abbrev CheckedTold : List ℕ → Checked → Type 0
 CheckedTold capture (checked.Refused r) = UpTo 30 capture r
 CheckedTold capture (checked.Is table) = (0 < table .place) × (36 ≤ table .length) × (table .place + table .length ≤ length capture)
-
-present-at : (s : Stretch) → isPresent s ≡ true → (place : ℕ) × (s ≡ Present place)
-unfolding isPresent
-present-at (Present place) h = (place, refl)
-present-at Absent h = absurd (let z : _≡_ {A = ℕ} 0 1 = cc in omega arith)
-
-whole-inside : (capture : List ℕ) (address place : ℕ) → Sound capture → located capture address headerSize ≡ Present place
-    → cutShort capture address place ≡ false
-    → (0 < place) × (36 ≤ tableLength capture place) × (place + tableLength capture place ≤ length capture)
-unfolding cutShort
-whole-inside capture address place sound h whole =
-    let size = tableLength capture place in
-    let long = ltb-false size headerSize (neither-left _ (not (isPresent (located capture address size))) whole) in
-    let there = present-at (located capture address size) (not-false _ (neither-right (ltb size headerSize) _ whole)) in
-    let same = one-place capture sound address headerSize size place (there .0) (omega arith) (omega arith) h (there .1) in
-    let ends = within capture address size (there .0) sound (there .1) in
-    (omega (arith, behind capture address headerSize place h), long, omega arith)
 
 table-told : (capture : List ℕ) (field : ℕ) → Sound capture → Inside capture field → CheckedTold capture (tableAt capture field)
 unfolding tableAt tableFound

@@ -18,6 +18,8 @@ use Rattle.reading.specs.Scan.{scan}
 use Rattle.reading.specs.Reading.{readingOf, listAfter}
 use Rattle.reading.specs.Entries.{readResult, bytesAfter}
 use Rattle.reading.specs.declared.Answer.the-variants.{Read}
+use Rattle.text.specs.Numerals.{letters}
+use Rattle.text.specs.Text.{textOf}
 use Rattle.madt.specs.Adding.{noEio, noBio, noMsi}
 use Rattle.promises.specs.BoardA.{boardA, msiFrom63, msiTo257, eioAt2}
 
@@ -104,3 +106,9 @@ pub record BoardAIsRead : Type 0 where
   pub result : readResult boardA (replicate 17 oldByte) ≡ 2
   pub bytes : bytesAfter boardA (replicate 17 oldByte)
       ≡ 0 ∷ 0 ∷ 0 ∷ 0 ∷ 0 ∷ 0 ∷ 0 ∷ 0 ∷ 1 ∷ 0 ∷ 0 ∷ 0 ∷ 1 ∷ 0 ∷ 0 ∷ 0 ∷ oldByte ∷ []
+
+-- ---- what is printed for board A: document 01's nine lines
+abbrev pub BoardAIsPrinted : Type 0
+BoardAIsPrinted =
+    textOf boardA
+    ≡ letters "map 1\ncore 0 0\ncore 1 1\nlio 2 16777215\neio 0 3 1\nbio 0 64 127\nmsi 64 255\nlpc 0 19\nsci 75 3 11\n"

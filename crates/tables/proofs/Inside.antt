@@ -2,7 +2,7 @@
 use mathlib.Core.Bool.{true, false, not}
 use mathlib.Core.List.{List}
 use mathlib.Core.Path.{_≡_, refl}
-use Prim.Native.Nat.{ℕ, _+_, _≤_}
+use Prim.Native.Nat.{ℕ, _+_, _≤_, _<_}
 use native.Mathlib.Omega.{arith}
 use lib.Dec.{ltb}
 use lib.ListN.{length}
@@ -14,7 +14,7 @@ use Rattle.capture.specs.declared.Root.{Root}
 use Rattle.capture.specs.declared.Root.the-variants as roots
 use Rattle.capture.specs.declared.Verdict.{Verdict}
 use Rattle.capture.specs.declared.Verdict.the-variants as verdicts
-use Rattle.capture.proofs.Within.{Sound, passes, within, rsdp-of-sound}
+use Rattle.capture.proofs.Within.{Sound, passes, within, rsdp-of-sound, behind}
 use Rattle.capture.proofs.Apart.{one-place}
 use Rattle.tables.specs.Rsdp.{rsdpRules, xsdtField}
 use Rattle.tables.specs.Table.{headerSize, addressAt, tableLength, isPresent, cutShort, tableAt}
@@ -42,16 +42,18 @@ unfolding isPresent
 present-at (Present place) h = (place, refl)
 present-at Absent h = absurd (let z : _≡_ {A = ℕ} 0 1 = cc in omega arith)
 
--- a whole table ends inside the capture
-whole-inside : (capture : List ℕ) (address place : ℕ) → Sound capture → located capture address headerSize ≡ Present place
-    → cutShort capture address place ≡ false → place + tableLength capture place ≤ length capture
+-- a whole table stands behind the header, and ends inside the capture
+pub whole-inside : (capture : List ℕ) (address place : ℕ) → Sound capture → located capture address headerSize ≡ Present place
+    → cutShort capture address place ≡ false
+    → (0 < place) × (36 ≤ tableLength capture place) × (place + tableLength capture place ≤ length capture)
 unfolding cutShort
 whole-inside capture address place sound h whole =
-    let long = ltb-false (tableLength capture place) headerSize (neither-left _ (not (isPresent (located capture address (tableLength capture place)))) whole) in
-    let there = present-at (located capture address (tableLength capture place)) (not-false _ (neither-right (ltb (tableLength capture place) headerSize) _ whole)) in
-    let same = one-place capture sound address headerSize (tableLength capture place) place (there .0) (omega arith) (omega arith) h (there .1) in
-    let ends = within capture address (tableLength capture place) (there .0) sound (there .1) in
-    omega arith
+    let size = tableLength capture place in
+    let long = ltb-false size headerSize (neither-left _ (not (isPresent (located capture address size))) whole) in
+    let there = present-at (located capture address size) (not-false _ (neither-right (ltb size headerSize) _ whole)) in
+    let same = one-place capture sound address headerSize size place (there .0) (omega arith) (omega arith) h (there .1) in
+    let ends = within capture address size (there .0) sound (there .1) in
+    (omega (arith, behind capture address headerSize place h), long, omega arith)
 
 -- so does a table that an entry names and that was not refused
 named-inside : (capture : List ℕ) (field : ℕ) → Sound capture → isRefused (tableAt capture field) ≡ false
@@ -62,7 +64,7 @@ named-inside capture field sound h = go (located capture (addressAt capture fiel
     go : (s : Stretch) → located capture (addressAt capture field) headerSize ≡ s → tableOf capture s .place + tableOf capture s .length ≤ length capture
     go Absent e = omega arith
     go (Present place) e =
-        whole-inside capture (addressAt capture field) place sound e (unrefused-whole capture field place e h)
+        whole-inside capture (addressAt capture field) place sound e (unrefused-whole capture field place e h) .2
 
 entry-inside : (capture : List ℕ) (xsdt : Table) (letters : ℕ) → Sound capture → entryRules capture xsdt ≡ verdicts.Sound
     → tableOfEntry capture xsdt (firstNamed capture xsdt letters) .place + tableOfEntry capture xsdt (firstNamed capture xsdt letters) .length ≤ length capture

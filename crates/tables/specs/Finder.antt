@@ -6,7 +6,7 @@ use mathlib.Core.List.{List}
 use lib.Dec.{eqb}
 use Rattle.words.specs.Lists.{first, numbersFrom}
 use Rattle.capture.specs.Presence.{Stretch, Present, Absent, located}
-use Rattle.tables.specs.Table.{headerSize, addressAt, signature, tableLength}
+use Rattle.tables.specs.Table.{headerSize, addressAt, signature}
 use Rattle.tables.specs.Xsdt.{entryCount, entryField}
 use Rattle.tables.specs.declared.Table.{Table}
 use Rattle.tables.specs.declared.Entry.{Entry}

@@ -6,7 +6,7 @@ ghost use Rattle.words.specs.Bytes.{partAt, byteSum};
 ghost use Rattle.capture.specs.Rules.{verdict};
 ghost use Rattle.capture.specs.declared.Verdict.the-variants.{Sound};
 ghost use Rattle.capture.specs.declared.Root.the-variants as roots;
-ghost use Rattle.tables.specs.Rsdp.{wrongSignature, wrongRevision, wrongLength, wrongSums, rsdpRules, xsdtField};
+ghost use Rattle.tables.specs.Rsdp.{wrongSignature, wrongRevision, wrongLength, wrongSums, rsdpRules};
 ghost use Rattle.tables.specs.Table.{addressAt, signature, tableLength, tableAt, tableWithin};
 ghost use Rattle.tables.specs.Xsdt.{revision, notXsdt, wrongXsdtRevision, wrongBody, entryCount, xsdtRules, entryField, entryRules};
 ghost use Rattle.tables.specs.Survey.{apic, facp, isNowhere, earlier, secondRule, wrongMadtRevision, wrongFlags, bodyRules, sciNumber, ofTables, ofNames, ofXsdt, ofRsdp, survey};
@@ -170,10 +170,10 @@ fn length_of(capture: &[u8], place: u16) -> u32
     words::u32_at(capture, place as usize + LENGTH)
 }
 
-fn signature_of(capture: &[u8], place: usize) -> u32
+fn signature_of(capture: &[u8], place: u16) -> u32
     ensures { λ r. ⌜ r ≡ signature (now (capture .entry)) place ⌝ }
 {
-    words::u32_at(capture, place)
+    words::u32_at(capture, place as usize)
 }
 
 fn revision_of(capture: &[u8], place: u16) -> u8
@@ -216,7 +216,7 @@ fn check_table(capture: &[u8], field: u32) -> Checked
 fn not_xsdt(capture: &[u8], xsdt: Table) -> bool
     ensures { λ r. ⌜ r ≡ notXsdt (now (capture .entry)) xsdt ⌝ }
 {
-    !(signature_of(capture, xsdt.place as usize) == XSDT)
+    !(signature_of(capture, xsdt.place) == XSDT)
 }
 
 // Refusal 24.
@@ -363,7 +363,7 @@ fn find_names(capture: &[u8], xsdt: Table) -> Names
         match check_table(capture, entry_field(xsdt, entry)) {
             Checked::Refused(refusal) => return Names::Refused(refusal),
             Checked::Is(table) => {
-                let letters = signature_of(capture, table.place as usize);
+                let letters = signature_of(capture, table.place);
                 madt = noted(madt, letters == APIC, table, entry);
                 fadt = noted(fadt, letters == FACP, table, entry);
             }

@@ -64,9 +64,6 @@ returns c =
 enum-known-table : tie.Need-enum-known-table Inv-loop μ-loop
 enum-known-table c = search needs
 
-cast-signature-of : tie.Need-cast-signature-of Inv-loop μ-loop
-cast-signature-of c = search needs
-
 signature-of-requires : tie.Need-signature-of-requires Inv-loop μ-loop
 signature-of-requires c κs = search needs
 
@@ -85,12 +82,12 @@ loop-less c = search needs
 loop-again : tie.Need-loop-again Inv-loop μ-loop
 unfolding apic facp spelled
 loop-again c =
-    let l = c .before .before .before .before .before .before .before .before .before .before in
-    let table = c .before .before .before .before .before .table .given .0 .0 in
+    let l = c .before .before .before .before .before .before .before .before .before in
+    let table = c .before .before .before .before .table .given .0 .0 in
     let known = l .loop .inv in
     let signed = c .before .before .signature-of .ensures in
-    let more = c .before .before .before .before .before .before .before .before .before .loop-test .taken in
-    let is = looked (c .before .before .before .before .before .before .before) ∙ c .before .before .before .before .before .table .given .1 in
+    let more = c .before .before .before .before .before .before .before .before .loop-test .taken in
+    let is = looked (c .before .before .before .before .before .before) ∙ c .before .before .before .before .table .given .1 in
     let counted : l .loop .entry < entryCount (l .before .before .before .before .args .xsdt) = omega (arith, more, l .before .before .entry-count .ensures) in (
       search-miss (known .0) (next-number _ _ more) (entry-fine _ is),
       note-checked _ _ apic table (known .1) counted is (c .before .noted .ensures ∙ ap (λ (n : ℕ). oneMore (l .loop .madt) (eqb n apic) table (l .loop .entry)) signed),
@@ -117,7 +114,6 @@ find-names-spec =
     enum-known-refusal
     returns
     enum-known-table
-    cast-signature-of
     signature-of-requires
     noted-requires
     noted-requires-2

@@ -5,9 +5,6 @@ use borrow.Author.Needs.{needs}
 use Rattle.tables.proofs.not_xsdt.Statement.{statement}
 use Rattle.tables.proofs.not_xsdt.Tie as tie
 
-cast-signature-of : tie.Need-cast-signature-of
-cast-signature-of c = search needs
-
 signature-of-requires : tie.Need-signature-of-requires
 signature-of-requires c κs = search needs
 
@@ -16,4 +13,4 @@ unfolding notXsdt xsdtSignature spelled
 returns c = cc
 
 pub not-xsdt-spec : {M : Type 1} → statement M
-not-xsdt-spec = tie.close (tie.spec cast-signature-of signature-of-requires returns)
+not-xsdt-spec = tie.close (tie.spec signature-of-requires returns)
