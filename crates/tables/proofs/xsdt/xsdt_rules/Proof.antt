@@ -1,0 +1,69 @@
+-- `tables::xsdt_rules` gives the first refusal of 23 to 25, in their order.
+use mathlib.Core.Path.{ap, sym, _∙_}
+use Rattle.words.proofs.Choices.{yes-if, no-if}
+use Rattle.capture.specs.declared.Verdict.the-variants.{Refused}
+use Rattle.tables.specs.Xsdt.{xsdtRules}
+use borrow.Author.Needs.{needs}
+use Rattle.tables.proofs.xsdt.xsdt_rules.Statement.{statement}
+use Rattle.tables.proofs.xsdt.xsdt_rules.Tie as tie
+
+not-xsdt-requires : tie.Need-not-xsdt-requires
+not-xsdt-requires c κs = search needs
+
+cast-refuse : tie.Need-cast-refuse
+cast-refuse c = search needs
+
+refuse-requires : tie.Need-refuse-requires
+refuse-requires c κs = search needs
+
+returns : tie.Need-returns
+unfolding xsdtRules
+returns c = ap Refused (c .refuse .ensures) ∙ sym (yes-if _ _ _ (cc))
+
+wrong-xsdt-revision-requires : tie.Need-wrong-xsdt-revision-requires
+wrong-xsdt-revision-requires c κs = search needs
+
+cast-refuse-2 : tie.Need-cast-refuse-2
+cast-refuse-2 c = search needs
+
+refuse-requires-2 : tie.Need-refuse-requires-2
+refuse-requires-2 c κs = search needs
+
+returns-2 : tie.Need-returns-2
+unfolding xsdtRules
+returns-2 c = ap Refused (c .refuse2 .ensures) ∙ sym (no-if _ _ _ (cc) (yes-if _ _ _ (cc)))
+
+wrong-body-requires : tie.Need-wrong-body-requires
+wrong-body-requires c κs = search needs
+
+cast-refuse-3 : tie.Need-cast-refuse-3
+cast-refuse-3 c = search needs
+
+refuse-requires-3 : tie.Need-refuse-requires-3
+refuse-requires-3 c κs = search needs
+
+returns-3 : tie.Need-returns-3
+unfolding xsdtRules
+returns-3 c = ap Refused (c .refuse3 .ensures) ∙ sym (no-if _ _ _ (cc) (no-if _ _ _ (cc) (yes-if _ _ _ (cc))))
+
+returns-4 : tie.Need-returns-4
+unfolding xsdtRules
+returns-4 c = sym (no-if _ _ _ (cc) (no-if _ _ _ (cc) (no-if _ _ _ (cc) (cc))))
+
+pub xsdt-rules-spec : {M : Type 1} → statement M
+xsdt-rules-spec =
+    tie.close
+    (tie.spec
+    not-xsdt-requires
+    cast-refuse
+    refuse-requires
+    returns
+    wrong-xsdt-revision-requires
+    cast-refuse-2
+    refuse-requires-2
+    returns-2
+    wrong-body-requires
+    cast-refuse-3
+    refuse-requires-3
+    returns-3
+    returns-4)
