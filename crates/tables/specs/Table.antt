@@ -40,13 +40,17 @@ cutShort capture address place =
 unfoldable pub wrongSum : List ℕ → ℕ → Bool
 wrongSum capture place = not (eqb (byteSum (partAt capture place (tableLength capture place))) 0)
 
+-- 21 if the table is cut short, 22 if its sum is wrong, both at the table; or the table
+abbrev pub tableUnless : Bool → List ℕ → ℕ → Checked
+tableUnless short capture place =
+    if short (Refused (refused 21 place))
+    (if (wrongSum capture place) (Refused (refused 22 place))
+    (Is (record { place = place; length = tableLength capture place })))
+
 -- 20: "36-byte header not present", at the address field; then 21 and 22, at the table
 unfoldable pub tableFound : List ℕ → ℕ → Stretch → Checked
 tableFound capture field Absent = Refused (refused 20 field)
-tableFound capture field (Present place) =
-    if (cutShort capture (addressAt capture field) place) (Refused (refused 21 place))
-    (if (wrongSum capture place) (Refused (refused 22 place))
-    (Is (record { place = place; length = tableLength capture place })))
+tableFound capture field (Present place) = tableUnless (cutShort capture (addressAt capture field) place) capture place
 
 -- the table that the address field at a place names
 unfoldable pub tableAt : List ℕ → ℕ → Checked
@@ -55,6 +59,4 @@ tableAt capture field = tableFound capture field (located capture (addressAt cap
 -- 21 and 22 of a table whose header is present: its segment has `room` bytes from its place on
 unfoldable pub tableWithin : List ℕ → ℕ → ℕ → Checked
 tableWithin capture place room =
-    if (ltb (tableLength capture place) headerSize || ltb room (tableLength capture place)) (Refused (refused 21 place))
-    (if (wrongSum capture place) (Refused (refused 22 place))
-    (Is (record { place = place; length = tableLength capture place })))
+    tableUnless (ltb (tableLength capture place) headerSize || ltb room (tableLength capture place)) capture place
