@@ -14,7 +14,7 @@ use Rattle.capture.specs.Presence.{holds, placeIn, reachIn, rsdpPresence
 use Rattle.words.specs.Bytes.{AllBytes}
 use Rattle.words.proofs.Numbers.{number-small}
 use Rattle.words.specs.declared.Refusal.{Refusal}
-use Rattle.capture.specs.declared.Verdict.the-variants as verdicts
+use Rattle.words.specs.declared.Verdict.the-variants as verdicts
 use Rattle.capture.specs.declared.Root.the-variants as roots
 
 -- one segment more

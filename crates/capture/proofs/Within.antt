@@ -18,8 +18,8 @@ use Rattle.words.proofs.Tests.{neither-right}
 use Rattle.capture.specs.Fields.{version, headerSize, descriptor, segmentCount, totalLength, rsdpAddress, descriptorsEnd, segmentLength, lengths, segmentPlace, segments}
 use Rattle.capture.specs.Rules.{wrongSize, wrongTotal, segmentRules, verdict}
 use Rattle.capture.specs.Presence.{Stretch, Present, Absent, holds, placeIn, located, rsdpSize, presentOr10, rsdpPresence, afterVerdict, rsdp}
-use Rattle.capture.specs.declared.Verdict.{Verdict}
-use Rattle.capture.specs.declared.Verdict.the-variants as verdicts
+use Rattle.words.specs.declared.Verdict.{Verdict}
+use Rattle.words.specs.declared.Verdict.the-variants as verdicts
 use Rattle.capture.specs.declared.Root.the-variants as roots
 use Rattle.capture.proofs.Laws.{holds-start, holds-end}
 

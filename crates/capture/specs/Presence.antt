@@ -7,8 +7,8 @@ use Rattle.words.specs.Lists.{first}
 use Rattle.words.specs.Refusals.{refused}
 use Rattle.capture.specs.Fields.{rsdpAddress, segmentAddress, segmentLength, segmentPlace, segments}
 use Rattle.capture.specs.Rules.{verdict}
-use Rattle.capture.specs.declared.Verdict.{Verdict}
-use Rattle.capture.specs.declared.Verdict.the-variants as verdicts
+use Rattle.words.specs.declared.Verdict.{Verdict}
+use Rattle.words.specs.declared.Verdict.the-variants as verdicts
 use Rattle.capture.specs.declared.Reach.{Reach}
 use Rattle.capture.specs.declared.Root.{Root}
 use Rattle.capture.specs.declared.Root.the-variants as roots

@@ -10,8 +10,8 @@ use Rattle.words.specs.Choice.{if}
 use Rattle.words.specs.Lists.{first}
 use Rattle.words.specs.Refusals.{refused}
 use Rattle.capture.specs.Fields.{version, segmentCount, totalLength, headerSize, descriptor, descriptorsEnd, segmentAddress, segmentLength, segments, lengths}
-use Rattle.capture.specs.declared.Verdict.{Verdict}
-use Rattle.capture.specs.declared.Verdict.the-variants.{Sound, Refused}
+use Rattle.words.specs.declared.Verdict.{Verdict}
+use Rattle.words.specs.declared.Verdict.the-variants.{Sound, Refused}
 
 -- 1: "capture under 18 or over 65,536 bytes"
 unfoldable pub wrongSize : List ℕ → Bool

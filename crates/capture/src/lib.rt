@@ -8,12 +8,7 @@ ghost use Rattle.capture.specs.Fields.{version, segmentCount, rsdpAddres
 ghost use Rattle.capture.specs.Rules.{wrongSize, wrongMark, wrongVersion, wrongCount, wrongTotal, startsEarly, segmentBroken, segmentRules, verdict};
 ghost use Rattle.capture.specs.Presence.{reached, rsdpPresence, rsdp};
 use words::Refusal;
-
-// Whether a capture is sound.
-pub enum Verdict {
-    Sound,
-    Refused(Refusal),
-}
+use words::Verdict;
 
 // The place of an address, and the bytes of its segment from there on.
 pub struct Reach {

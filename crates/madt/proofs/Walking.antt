@@ -8,7 +8,7 @@ use native.Mathlib.Omega.{arith}
 use lib.ListN.{length, drop, length-take}
 use Rattle.words.specs.Bytes.{partAt}
 use Rattle.words.proofs.Choices.{yes-if, no-if}
-use Rattle.capture.specs.declared.Verdict.the-variants.{Sound}
+use Rattle.words.specs.declared.Verdict.the-variants.{Sound}
 use Rattle.madt.specs.Pieces.{pieces, sizeAt}
 use Rattle.madt.specs.Takes.{Taken, takeOne}
 use Rattle.madt.specs.Walk.{turnedAway, afterTaking, walk}

@@ -5,7 +5,7 @@ use mathlib.Core.List.{List, [], _∷_}
 use lib.Dec.{eqb}
 use Rattle.words.specs.Choice.{if}
 use Rattle.words.specs.Refusals.{refused}
-use Rattle.capture.specs.declared.Verdict.the-variants.{Sound, Refused}
+use Rattle.words.specs.declared.Verdict.the-variants.{Sound, Refused}
 use Rattle.madt.specs.Pieces.{Piece, whole, cut, pieces}
 use Rattle.madt.specs.Adding.{nothing}
 use Rattle.madt.specs.Takes.{Taken, takeOne}

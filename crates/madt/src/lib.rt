@@ -1,8 +1,8 @@
 // The MADT's structures in turn, from offset 44 to its end: refusals 31 to 38, and the map, the places of its structures and
 // the number of processors that they make (document 01, "MADT structures"). All of it is defined on the MADT's own bytes.
-use capture::Verdict;
 use lines::Map;
 use lines::Places;
+use words::Verdict;
 
 pub mod steps; // from structure to structure
 pub mod walk; // the structures in turn

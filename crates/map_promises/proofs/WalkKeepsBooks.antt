@@ -8,8 +8,8 @@ use mathlib.Core.Bool.{true, false, not}
 use borrow.Author.Tests.{le-ltb}
 use lib.Dec.{eqb}
 use lib.ListN.{length, length-take}
-use Rattle.capture.specs.declared.Verdict.the-variants.{Sound}
-use Rattle.capture.proofs.Verdicts.{not-sound}
+use Rattle.words.specs.declared.Verdict.the-variants.{Sound}
+use Rattle.words.proofs.Verdicts.{not-sound}
 use Rattle.lines.specs.Says.{says}
 use Rattle.lines.specs.Rules.{eiosFit, biosFit, msisFit, rangesKept, tooMany}
 use Rattle.lines.specs.declared.Map.{Map}

@@ -5,7 +5,7 @@ use mathlib.Core.Bool.{true, false}
 use mathlib.Core.List.{List}
 use mathlib.Core.Path.{_≡_}
 use lib.ListN.{length, getD}
-use Rattle.capture.specs.declared.Verdict.the-variants.{Sound}
+use Rattle.words.specs.declared.Verdict.the-variants.{Sound}
 use Rattle.kinds.specs.Ranges.{bitInBoth}
 use Rattle.kinds.specs.Used.{noHalf}
 use Rattle.lines.specs.Says.{says, Same}

@@ -5,8 +5,8 @@ use mathlib.Core.List.{List, [], _∷_}
 use Prim.Native.Nat.{ℕ, _+_}
 use native.Mathlib.Omega.{arith}
 use Rattle.words.proofs.Choices.{yes-if, no-if, if-cases}
-use Rattle.capture.specs.declared.Verdict.the-variants.{Sound}
-use Rattle.capture.proofs.Verdicts.{not-sound}
+use Rattle.words.specs.declared.Verdict.the-variants.{Sound}
+use Rattle.words.proofs.Verdicts.{not-sound}
 use Rattle.kinds.specs.Makers.{coreOf, isEnabled}
 use Rattle.madt.specs.Rules.{isType}
 use Rattle.madt.specs.Pieces.{Piece, whole, cut, pieces}

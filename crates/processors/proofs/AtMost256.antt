@@ -3,7 +3,7 @@ use mathlib.Core.Path.{_≡_}
 use mathlib.Core.List.{List, [], _∷_}
 use Prim.Native.Nat.{ℕ, _+_, _≤_}
 use native.Mathlib.Omega.{arith}
-use Rattle.capture.specs.declared.Verdict.the-variants.{Sound}
+use Rattle.words.specs.declared.Verdict.the-variants.{Sound}
 use Rattle.madt.specs.Pieces.{Piece, whole, cut, pieces}
 use Rattle.madt.specs.Adding.{noMap, nothing}
 use Rattle.madt.specs.Takes.{takeOne}

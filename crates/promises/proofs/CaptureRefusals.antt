@@ -13,8 +13,8 @@ use Rattle.words.proofs.Tests.{neither-left}
 use Rattle.capture.specs.Fields.{segmentCount, totalLength, headerSize, descriptor, descriptorsEnd, segments, lengths, rsdpAddress}
 use Rattle.capture.specs.Rules.{wrongTotal, segmentBroken, segmentRules, verdict}
 use Rattle.capture.specs.Presence.{Stretch, Present, Absent, located, rsdpSize, presentOr10, rsdpPresence, afterVerdict, rsdp}
-use Rattle.capture.specs.declared.Verdict.{Verdict}
-use Rattle.capture.specs.declared.Verdict.the-variants.{Sound, Refused}
+use Rattle.words.specs.declared.Verdict.{Verdict}
+use Rattle.words.specs.declared.Verdict.the-variants.{Sound, Refused}
 use Rattle.capture.specs.declared.Root.{Root}
 use Rattle.capture.specs.declared.Root.the-variants as roots
 use Rattle.capture.proofs.Within.{sound-length}

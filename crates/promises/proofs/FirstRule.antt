@@ -14,8 +14,8 @@ use Rattle.capture.specs.Rules.{segmentRules, verdict}
 use Rattle.capture.specs.Presence.{Stretch, Present, Absent, located, rsdpSize, presentOr10, rsdpPresence, afterVerdict, rsdp}
 use Rattle.capture.specs.declared.Root.{Root}
 use Rattle.capture.specs.declared.Root.the-variants as roots
-use Rattle.capture.specs.declared.Verdict.{Verdict}
-use Rattle.capture.specs.declared.Verdict.the-variants.{Sound, Refused}
+use Rattle.words.specs.declared.Verdict.{Verdict}
+use Rattle.words.specs.declared.Verdict.the-variants.{Sound, Refused}
 use Rattle.tables.specs.Rsdp.{rsdpRules, xsdtField}
 use Rattle.tables.specs.Table.{headerSize, addressAt, tableLength, isPresent, cutShort, wrongSum, tableFound, tableAt}
 use Rattle.tables.specs.Xsdt.{xsdtRules, entryField, entries, isRefused, refusalOf, entryRules}

@@ -14,8 +14,8 @@ use Rattle.words.specs.Choice.{if}
 use Rattle.words.specs.Refusals.{refused}
 use Rattle.words.proofs.Numbers.{number-past}
 use Rattle.words.proofs.Choices.{yes-if, no-if}
-use Rattle.capture.specs.declared.Verdict.{Verdict}
-use Rattle.capture.specs.declared.Verdict.the-variants as verdicts
+use Rattle.words.specs.declared.Verdict.{Verdict}
+use Rattle.words.specs.declared.Verdict.the-variants as verdicts
 use Rattle.processors.specs.Image.{fourBytes, image}
 use Rattle.processors.specs.Listing.{processors, count, hasRoom, written, filled}
 use Rattle.processors.proofs.Image.{eight-each, room-image, filled-image}

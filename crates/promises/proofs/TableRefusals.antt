@@ -12,8 +12,8 @@ use Rattle.capture.specs.Fields.{rsdpAddress}
 use Rattle.capture.specs.Presence.{Stretch, Present, Absent, located, rsdpSize, rsdp}
 use Rattle.capture.specs.declared.Root.{Root}
 use Rattle.capture.specs.declared.Root.the-variants as roots
-use Rattle.capture.specs.declared.Verdict.{Verdict}
-use Rattle.capture.specs.declared.Verdict.the-variants as verdicts
+use Rattle.words.specs.declared.Verdict.{Verdict}
+use Rattle.words.specs.declared.Verdict.the-variants as verdicts
 use Rattle.capture.proofs.Within.{Sound, passes, within, behind, rsdp-of-sound, rsdp-located, rsdp-within}
 use Rattle.tables.specs.Rsdp.{rsdpRules, xsdtField}
 use Rattle.tables.specs.Table.{headerSize, addressAt, tableFound, tableAt}

@@ -9,8 +9,8 @@ use lib.ListN.{length}
 use Rattle.words.specs.Lists.{first, numbersFrom}
 use Rattle.words.specs.Refusals.{refused}
 use Rattle.words.specs.declared.Refusal.{Refusal}
-use Rattle.capture.specs.declared.Verdict.{Verdict}
-use Rattle.capture.specs.declared.Verdict.the-variants.{Sound, Refused}
+use Rattle.words.specs.declared.Verdict.{Verdict}
+use Rattle.words.specs.declared.Verdict.the-variants.{Sound, Refused}
 use Rattle.clashes.specs.Folds.{fold}
 use Rattle.words.proofs.Choices.{if-cases}
 use Rattle.reading.specs.Scan.{inTurn}

@@ -7,8 +7,8 @@ use mathlib.Core.List.{List}
 use mathlib.Core.Bool.{false}
 use Rattle.words.specs.Refusals.{refused}
 use Rattle.words.specs.declared.Refusal.{Refusal}
-use Rattle.capture.specs.declared.Verdict.{Verdict}
-use Rattle.capture.specs.declared.Verdict.the-variants as verdicts
+use Rattle.words.specs.declared.Verdict.{Verdict}
+use Rattle.words.specs.declared.Verdict.the-variants as verdicts
 use Rattle.processors.specs.Listing.{processors, hasRoom}
 use Rattle.words.proofs.Choices.{if-cases}
 use Rattle.reading.specs.Scan.{scan}

@@ -12,8 +12,8 @@ use Rattle.words.specs.Refusals.{refused}
 use Rattle.capture.specs.Fields.{rsdpAddress, descriptor, segments}
 use Rattle.capture.specs.Rules.{wrongSize, wrongMark, wrongVersion, wrongCount, wrongTotal, segmentBroken}
 use Rattle.capture.specs.Presence.{Stretch, Present, Absent, located, rsdpSize}
-use Rattle.capture.specs.declared.Verdict.{Verdict}
-use Rattle.capture.specs.declared.Verdict.the-variants.{Sound, Refused}
+use Rattle.words.specs.declared.Verdict.{Verdict}
+use Rattle.words.specs.declared.Verdict.the-variants.{Sound, Refused}
 use Rattle.tables.specs.Rsdp.{wrongSignature, wrongRevision, wrongLength, wrongSums, xsdtField}
 use Rattle.tables.specs.Table.{headerSize, addressAt, isPresent, cutShort, wrongSum}
 use Rattle.tables.specs.Xsdt.{revision, notXsdt, wrongXsdtRevision, wrongBody, entryField, entries}

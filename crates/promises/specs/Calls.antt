@@ -8,7 +8,7 @@ use lib.ListN.{length, getD, drop}
 use Rattle.words.specs.Bytes.{numberAt}
 use Rattle.words.specs.Refusals.{refused}
 use Rattle.words.specs.declared.Refusal.{Refusal}
-use Rattle.capture.specs.declared.Verdict.the-variants as verdicts
+use Rattle.words.specs.declared.Verdict.the-variants as verdicts
 use Rattle.lines.specs.Answers.{refusalCode}
 use Rattle.processors.specs.Image.{image}
 use Rattle.processors.specs.Listing.{processors, count}

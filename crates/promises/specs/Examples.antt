@@ -6,8 +6,8 @@ use mathlib.Core.List.{List, [], _∷_, map}
 use mathlib.Core.Path.{_≡_}
 use lib.ListN.{replicate}
 use Rattle.words.specs.Refusals.{refused}
-use Rattle.capture.specs.declared.Verdict.{Verdict}
-use Rattle.capture.specs.declared.Verdict.the-variants as verdicts
+use Rattle.words.specs.declared.Verdict.{Verdict}
+use Rattle.words.specs.declared.Verdict.the-variants as verdicts
 use Rattle.lines.specs.Answers.{routeOf, traceOf}
 use Rattle.lines.specs.declared.Map.{Map}
 use Rattle.lines.specs.declared.Route.{Route}

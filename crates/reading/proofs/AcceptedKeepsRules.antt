@@ -6,7 +6,7 @@ use mathlib.Core.Bool.{true}
 use mathlib.Core.List.{List}
 use mathlib.Core.Path.{_≡_}
 use Rattle.words.proofs.Choices.{yes-if}
-use Rattle.capture.specs.declared.Verdict.the-variants.{Sound}
+use Rattle.words.specs.declared.Verdict.the-variants.{Sound}
 use Rattle.lines.specs.Says.{says}
 use Rattle.lines.specs.Routes.{arrival}
 use Rattle.lines.specs.Traces.{traced}

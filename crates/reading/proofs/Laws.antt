@@ -9,8 +9,8 @@ use lib.ListN.{length, drop, length-take}
 use Rattle.words.specs.Refusals.{refused}
 use Rattle.words.specs.declared.Refusal.{Refusal}
 use Rattle.words.proofs.Choices.{yes-if, no-if}
-use Rattle.capture.specs.declared.Verdict.{Verdict}
-use Rattle.capture.specs.declared.Verdict.the-variants.{Sound, Refused}
+use Rattle.words.specs.declared.Verdict.{Verdict}
+use Rattle.words.specs.declared.Verdict.the-variants.{Sound, Refused}
 use Rattle.tables.specs.Survey.{survey}
 use Rattle.tables.specs.declared.Table.{Table}
 use Rattle.tables.specs.declared.Tables.{Tables}

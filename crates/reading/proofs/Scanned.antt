@@ -3,8 +3,8 @@
 use Prim.Native.Nat.{ℕ}
 use mathlib.Core.Path.{_≡_, refl, _∙_, ap}
 use mathlib.Core.List.{List}
-use Rattle.capture.specs.declared.Verdict.{Verdict}
-use Rattle.capture.specs.declared.Verdict.the-variants.{Sound, Refused}
+use Rattle.words.specs.declared.Verdict.{Verdict}
+use Rattle.words.specs.declared.Verdict.the-variants.{Sound, Refused}
 use Rattle.tables.specs.Survey.{survey}
 use Rattle.tables.specs.declared.Tables.{Tables}
 use Rattle.tables.specs.declared.Survey.{Survey}
@@ -14,7 +14,7 @@ use Rattle.lines.specs.declared.Map.{Map}
 use Rattle.lines.specs.declared.Verdict.{Verdict as Rules}
 use Rattle.lines.specs.declared.Verdict.the-variants as rules
 use Rattle.madt.specs.declared.Found.{Found}
-use Rattle.capture.proofs.Verdicts.{not-sound}
+use Rattle.words.proofs.Verdicts.{not-sound}
 use Rattle.reading.specs.Scan.{madtBytes, walkOf, turnedDown, mapRule, inTurn, rulesAfterWalk, judged, afterWalk, afterSurvey, scan}
 
 both-sound : (v later : Verdict) → inTurn v later ≡ Sound → (v ≡ Sound) × (later ≡ Sound)

@@ -4,8 +4,8 @@ use mathlib.Core.List.{List}
 use Rattle.words.specs.Choice.{if}
 use Rattle.words.specs.Refusals.{refused}
 use Rattle.words.specs.declared.Refusal.{Refusal}
-use Rattle.capture.specs.declared.Verdict.{Verdict}
-use Rattle.capture.specs.declared.Verdict.the-variants as verdicts
+use Rattle.words.specs.declared.Verdict.{Verdict}
+use Rattle.words.specs.declared.Verdict.the-variants as verdicts
 use Rattle.lines.specs.declared.Map.{Map}
 use Rattle.processors.specs.Listing.{processors, count, hasRoom, filled}
 use Rattle.reading.specs.Scan.{madtBytes, emptyMap, scan}

@@ -1,9 +1,9 @@
 // The C entries: plain numbers and byte slices in, one number of 64 bits out. include/yasmirand.h declares them. The map of a
 // capture that the scan accepts keeps all rules (proofs/AcceptedKeepsRules), so that its answers are had without 61.
 use crate::Answer;
-use capture::Verdict;
 use lines::codes;
 use processors::Filled;
+use words::Verdict;
 ghost use mathlib.Core.Path.{_≡_};
 ghost use Rattle.processors.specs.Image.{image};
 ghost use Rattle.processors.specs.Listing.{processors, filled};

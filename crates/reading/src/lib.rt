@@ -8,7 +8,6 @@ ghost use Rattle.processors.specs.Repeats.{firstRepeat};
 ghost use Rattle.tables.specs.declared.Survey.the-variants as surveys;
 ghost use Rattle.reading.specs.Scan.{madtBytes, emptyMap, turnedDown, repeatRule, processorRule, mapRule, rulesAfterWalk, judged, afterSurvey, scan};
 ghost use Rattle.reading.specs.Reading.{withoutMap, answered, readingOf, listAfter};
-use capture::Verdict;
 use lines::Map;
 use lines::Verdict as Kept;
 use madt::Found;
@@ -18,6 +17,7 @@ use tables::Survey;
 use tables::Table;
 use tables::Tables;
 use words::Refusal;
+use words::Verdict;
 
 pub mod entries; // the C entries
 

@@ -14,8 +14,8 @@ use Rattle.words.proofs.Searches.{search-found, search-none}
 use Rattle.words.specs.Lists.{numbersBelow}
 use Rattle.capture.specs.Presence.{Stretch, Present, Absent, located, rsdp}
 use Rattle.capture.specs.declared.Root.the-variants as roots
-use Rattle.capture.specs.declared.Verdict.{Verdict}
-use Rattle.capture.specs.declared.Verdict.the-variants as verdicts
+use Rattle.words.specs.declared.Verdict.{Verdict}
+use Rattle.words.specs.declared.Verdict.the-variants as verdicts
 use Rattle.tables.specs.Table.{headerSize, addressAt, signature, tableLength, cutShort, wrongSum, tableFound, tableAt}
 use Rattle.tables.specs.Xsdt.{entryCount, entries, entryField, entryRules, isRefused, refusalOf}
 use Rattle.tables.specs.Finder.{isSigned, names, namedFrom, firstNamed}

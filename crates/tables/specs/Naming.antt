@@ -4,8 +4,8 @@ use Prim.Native.Nat.{ℕ}
 use mathlib.Core.Bool.{Bool, not}
 use mathlib.Core.List.{List}
 use Rattle.words.specs.Choice.{if}
-use Rattle.capture.specs.declared.Verdict.{Verdict}
-use Rattle.capture.specs.declared.Verdict.the-variants as verdicts
+use Rattle.words.specs.declared.Verdict.{Verdict}
+use Rattle.words.specs.declared.Verdict.the-variants as verdicts
 use Rattle.tables.specs.Finder.{firstNamed, secondNamed}
 use Rattle.tables.specs.Survey.{apic, facp, isNowhere, tableOfEntry}
 use Rattle.tables.specs.declared.Table.{Table}

@@ -8,8 +8,8 @@ use Rattle.words.specs.Bytes.{byteAt, numberAt, partAt, byteSum, spelled}
 use Rattle.words.specs.Choice.{if}
 use Rattle.words.specs.Refusals.{refused}
 use Rattle.capture.specs.Presence.{rsdpSize}
-use Rattle.capture.specs.declared.Verdict.{Verdict}
-use Rattle.capture.specs.declared.Verdict.the-variants.{Sound, Refused}
+use Rattle.words.specs.declared.Verdict.{Verdict}
+use Rattle.words.specs.declared.Verdict.the-variants.{Sound, Refused}
 
 -- "`RSD PTR ` with its closing blank"
 unfoldable pub rsdPtr : ℕ

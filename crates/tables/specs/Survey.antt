@@ -11,8 +11,8 @@ use Rattle.words.specs.Refusals.{refused}
 use Rattle.capture.specs.Presence.{Stretch, Present, Absent, located, rsdp}
 use Rattle.capture.specs.declared.Root.{Root}
 use Rattle.capture.specs.declared.Root.the-variants as roots
-use Rattle.capture.specs.declared.Verdict.{Verdict}
-use Rattle.capture.specs.declared.Verdict.the-variants as verdicts
+use Rattle.words.specs.declared.Verdict.{Verdict}
+use Rattle.words.specs.declared.Verdict.the-variants as verdicts
 use Rattle.tables.specs.Rsdp.{rsdpRules, xsdtField}
 use Rattle.tables.specs.Table.{headerSize, addressAt, tableLength, tableAt}
 use Rattle.tables.specs.Xsdt.{revision, entryField, xsdtRules, entryRules}

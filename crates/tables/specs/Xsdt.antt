@@ -8,8 +8,8 @@ use Rattle.words.specs.Bytes.{byteAt, spelled}
 use Rattle.words.specs.Choice.{if}
 use Rattle.words.specs.Lists.{first, numbersBelow}
 use Rattle.words.specs.Refusals.{refused}
-use Rattle.capture.specs.declared.Verdict.{Verdict}
-use Rattle.capture.specs.declared.Verdict.the-variants as verdicts
+use Rattle.words.specs.declared.Verdict.{Verdict}
+use Rattle.words.specs.declared.Verdict.the-variants as verdicts
 use Rattle.tables.specs.Table.{headerSize, signature, tableAt}
 use Rattle.tables.specs.declared.Table.{Table}
 use Rattle.tables.specs.declared.Checked.{Checked}

@@ -2,15 +2,15 @@
 // and the stepper over structures are written for any table. Every public function answers for any bytes.
 ghost use mathlib.Core.Path.{_≡_};
 ghost use Rattle.capture.specs.Rules.{verdict};
-ghost use Rattle.capture.specs.declared.Verdict.the-variants.{Sound};
+ghost use Rattle.words.specs.declared.Verdict.the-variants.{Sound};
 ghost use Rattle.capture.specs.declared.Root.the-variants as roots;
 ghost use Rattle.tables.specs.Survey.{apic, facp, earlier, secondRule, wrongMadtRevision, wrongFlags, bodyRules, sciNumber, ofTables, ofNames, ofXsdt, ofRsdp, survey};
 ghost use Rattle.tables.specs.Naming.{named};
 ghost use Rattle.tables.specs.Structures.{stepAt};
 ghost use Rattle.tables.specs.declared.Checked.the-variants.{Is};
 use capture::Root;
-use capture::Verdict;
 use words::Refusal;
+use words::Verdict;
 
 mod headers; // any table: 20 to 22
 mod rsdp; // 11 to 14

@@ -2,7 +2,7 @@
 ghost use mathlib.Core.Path.{_≡_};
 ghost use Rattle.tables.specs.Rsdp.{wrongSignature, wrongRevision, wrongLength, wrongSums, rsdpRules};
 use crate::headers;
-use capture::Verdict;
+use words::Verdict;
 
 // Its size, and where its fields stand.
 const SIZE: usize = 36;

@@ -2,7 +2,7 @@
 ghost use mathlib.Core.Path.{_≡_};
 ghost use Prim.Native.Nat.{_-_};
 ghost use Rattle.capture.specs.Rules.{verdict};
-ghost use Rattle.capture.specs.declared.Verdict.the-variants.{Sound};
+ghost use Rattle.words.specs.declared.Verdict.the-variants.{Sound};
 ghost use Rattle.tables.specs.Xsdt.{notXsdt, wrongXsdtRevision, wrongBody, entryCount, xsdtRules, entryField, entryRules};
 ghost use Rattle.tables.specs.Survey.{isNowhere};
 ghost use Rattle.tables.specs.Naming.{namesAfter, notNamed, oneMore};
@@ -12,7 +12,7 @@ use crate::Named;
 use crate::Names;
 use crate::Table;
 use crate::headers;
-use capture::Verdict;
+use words::Verdict;
 
 // An entry is an address of 64 bits; 32 entries are the most.
 const ADDRESS_SIZE: u32 = 8;

@@ -11,8 +11,8 @@ use lib.Seq.{take-at, sets, sets-eq}
 use Rattle.words.specs.declared.Refusal.{Refusal}
 use Rattle.words.proofs.Choices.{yes-if, no-if}
 use Rattle.capture.specs.Fields.{version}
-use Rattle.capture.specs.declared.Verdict.{Verdict}
-use Rattle.capture.specs.declared.Verdict.the-variants as verdicts
+use Rattle.words.specs.declared.Verdict.{Verdict}
+use Rattle.words.specs.declared.Verdict.the-variants as verdicts
 use Rattle.processors.specs.Listing.{processors, count, hasRoom, written, filled}
 use Rattle.processors.proofs.Filling.{twice-all, too-short, enough-room}
 use Rattle.reading.specs.Scan.{scan}

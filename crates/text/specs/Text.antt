@@ -4,8 +4,8 @@ use mathlib.Core.List.{List, [], _∷_}
 use lib.ListN.{length, replicate}
 use Rattle.words.specs.Choice.{if}
 use Rattle.capture.specs.Fields.{version}
-use Rattle.capture.specs.declared.Verdict.{Verdict}
-use Rattle.capture.specs.declared.Verdict.the-variants.{Sound, Refused}
+use Rattle.words.specs.declared.Verdict.{Verdict}
+use Rattle.words.specs.declared.Verdict.the-variants.{Sound, Refused}
 use Rattle.lines.specs.Says.{says}
 use Rattle.lines.specs.Routes.{bridge}
 use Rattle.lines.specs.Answers.{routeOf}

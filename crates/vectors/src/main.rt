@@ -4,7 +4,6 @@
 // A question is a head of 92 bytes and then the capture. The head: a label in 64 bytes, the kind of question (32 bits), the
 // capture's length (32 bits), two numbers of 64 bits that some kinds ask about, and the label's length (32 bits).
 use capture::Root;
-use capture::Verdict;
 use libc::STDIN_FILENO;
 use libc::STDOUT_FILENO;
 use reading::Answer;
@@ -12,6 +11,7 @@ use reading::Reading;
 use tables::Survey;
 use tables::Tables;
 use words::Refusal;
+use words::Verdict;
 
 const HEAD: usize = 92;
 

@@ -5,3 +5,4 @@ pub mod Tests
 pub mod Order
 pub mod Choices
 pub mod Searches
+pub mod Verdicts

@@ -12,6 +12,12 @@ pub struct Refusal {
     pub place: u32,
 }
 
+// What rules say of a capture: nothing is broken, or the refusal.
+pub enum Verdict {
+    Sound,
+    Refused(Refusal),
+}
+
 // The one maker of refusals.
 pub fn refuse(number: u8, place: u32) -> Refusal
     ensures { λ r. ⌜ r ≡ refused number place ⌝ }

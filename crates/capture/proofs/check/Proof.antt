@@ -1,6 +1,6 @@
 -- `capture::check` gives the first refusal of 1 to 6, in their order.
 use mathlib.Core.Path.{ap, sym, _∙_}
-use Rattle.capture.specs.declared.Verdict.the-variants.{Refused}
+use Rattle.words.specs.declared.Verdict.the-variants.{Refused}
 use Rattle.words.proofs.Choices.{yes-if, no-if}
 use Rattle.capture.specs.Rules.{verdict}
 use borrow.Author.Needs.{needs}

@@ -7,7 +7,7 @@ use native.Mathlib.Omega.{arith}
 use Rattle.words.specs.Refusals.{refused}
 use Rattle.capture.specs.Fields.{descriptor, segments}
 use Rattle.capture.specs.Rules.{segmentBroken, segmentRules}
-use Rattle.capture.specs.declared.Verdict.the-variants.{Sound, Refused}
+use Rattle.words.specs.declared.Verdict.the-variants.{Sound, Refused}
 use borrow.Author.Needs.{needs}
 use Rattle.capture.proofs.check_segments.Statement.{statement}
 use Rattle.capture.proofs.check_segments.Tie as tie

@@ -2,7 +2,7 @@
 use mathlib.Core.Path.{ap, sym, _∙_, refl}
 use borrow.Author.Tests.{eq-eqb, ne-eqb}
 use Rattle.words.proofs.Choices.{yes-if, no-if}
-use Rattle.capture.specs.declared.Verdict.the-variants.{Refused}
+use Rattle.words.specs.declared.Verdict.the-variants.{Refused}
 use Rattle.reading.specs.Scan.{processorRule}
 use borrow.Author.Needs.{needs}
 use Rattle.reading.proofs.check_processors.Statement.{statement}

@@ -1,7 +1,7 @@
 -- `reading::check_repeats` is refusal 39. The CORE that repeats an ID stands inside the table, so that its place fits.
 use mathlib.Core.Path.{ap, sym, _∙_}
 use native.Mathlib.Omega.{arith}
-use Rattle.capture.specs.declared.Verdict.the-variants.{Refused}
+use Rattle.words.specs.declared.Verdict.the-variants.{Refused}
 use Rattle.processors.proofs.Inside.{repeat-inside}
 use Rattle.reading.proofs.Laws.{repeat-none, repeat-at}
 use borrow.Author.Needs.{needs}

@@ -1,6 +1,6 @@
 -- `reading::turn_down` is the refusal with the empty map.
 use mathlib.Core.Path.{ap}
-use Rattle.capture.specs.declared.Verdict.the-variants.{Refused}
+use Rattle.words.specs.declared.Verdict.the-variants.{Refused}
 use Rattle.lines.specs.declared.Map.{Map}
 use Rattle.reading.specs.Scan.{turnedDown}
 use borrow.Author.Needs.{needs}

@@ -3,7 +3,7 @@ use mathlib.Core.Path.{ap, sym, _∙_, refl}
 use native.Mathlib.Omega.{arith}
 use borrow.Author.Tests.{lt-ltb, le-ltb}
 use Rattle.words.proofs.Choices.{yes-if, no-if}
-use Rattle.capture.specs.declared.Verdict.the-variants.{Refused}
+use Rattle.words.specs.declared.Verdict.the-variants.{Refused}
 use Rattle.tables.specs.Survey.{bodyRules}
 use borrow.Author.Needs.{needs}
 use Rattle.tables.proofs.body_rules.Statement.{statement}

@@ -1,7 +1,7 @@
 -- `tables::second_rule` is refusal 27.
 use mathlib.Core.Path.{ap, sym, _∙_}
 use Rattle.words.specs.Refusals.{refused}
-use Rattle.capture.specs.declared.Verdict.the-variants.{Refused}
+use Rattle.words.specs.declared.Verdict.the-variants.{Refused}
 use Rattle.tables.proofs.Laws.{second-sound, second-refused}
 use borrow.Author.Needs.{needs}
 use Rattle.tables.proofs.second_rule.Statement.{statement}

@@ -1,7 +1,7 @@
 -- `tables::rsdp_rules` gives the first refusal of 11 to 14, in their order.
 use mathlib.Core.Path.{refl, ap, sym, _∙_}
 use Rattle.words.proofs.Choices.{yes-if, no-if}
-use Rattle.capture.specs.declared.Verdict.the-variants.{Refused}
+use Rattle.words.specs.declared.Verdict.the-variants.{Refused}
 use Rattle.tables.specs.Rsdp.{rsdpRules}
 use borrow.Author.Needs.{needs}
 use Rattle.tables.proofs.rsdp.rsdp_rules.Statement.{statement}

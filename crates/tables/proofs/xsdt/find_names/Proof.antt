@@ -7,7 +7,7 @@ use lib.Dec.{eqb}
 use Rattle.words.specs.Bytes.{spelled}
 use Rattle.words.specs.Lists.{numbersFrom}
 use Rattle.words.proofs.Searches.{Searching, search-start, search-hit, search-miss, search-over, next-number, no-number}
-use Rattle.capture.specs.declared.Verdict.the-variants.{Sound}
+use Rattle.words.specs.declared.Verdict.the-variants.{Sound}
 use Rattle.tables.specs.Table.{tableAt}
 use Rattle.tables.specs.Xsdt.{entryCount, entries, entryField, isRefused, refusalOf, entryRules}
 use Rattle.tables.specs.Survey.{apic, facp}

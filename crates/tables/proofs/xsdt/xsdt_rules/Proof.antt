@@ -1,7 +1,7 @@
 -- `tables::xsdt_rules` gives the first refusal of 23 to 25, in their order.
 use mathlib.Core.Path.{ap, sym, _∙_}
 use Rattle.words.proofs.Choices.{yes-if, no-if}
-use Rattle.capture.specs.declared.Verdict.the-variants.{Refused}
+use Rattle.words.specs.declared.Verdict.the-variants.{Refused}
 use Rattle.tables.specs.Xsdt.{xsdtRules}
 use borrow.Author.Needs.{needs}
 use Rattle.tables.proofs.xsdt.xsdt_rules.Statement.{statement}

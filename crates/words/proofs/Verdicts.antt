@@ -1,0 +1,72 @@
+-- Laws of verdicts: a verdict is sound or a refusal; what stands unless it refuses; and the first refusal of a list.
+use mathlib.Core.Bool.{Bool, true, false}
+use mathlib.Core.List.{List, [], _∷_, _++_, map}
+use mathlib.Core.Path.{_≡_, refl, sym, ap, _∙_}
+use native.Mathlib.Omega.{arith}
+use Prim.Native.Nat.{ℕ}
+use Rattle.words.specs.Choice.{if}
+use Rattle.words.specs.Lists.{first}
+use Rattle.words.specs.Refusals.{refused, rule, unless, firstRefusal}
+use Rattle.words.specs.declared.Refusal.{Refusal}
+use Rattle.words.specs.declared.Verdict.{Verdict}
+use Rattle.words.specs.declared.Verdict.the-variants.{Sound, Refused}
+
+-- ---- a verdict is sound or a refusal, and never both
+pub not-sound : {refusal : Refusal} {X : Type 0} → _≡_ {A = Verdict} (Refused refusal) Sound → X
+not-sound e = absurd (let o : _≡_ {A = ℕ} 0 1 = cc in omega arith)
+
+-- ---- an answer, by the verdict before it
+module _ {A : Type 0} (turned : Refusal → A) (verdict : Verdict) (answer : A) where
+  pub unless-refused : {refusal : Refusal} → verdict ≡ Refused refusal → unless turned verdict answer ≡ turned refusal
+  unfolding unless
+  unless-refused h = rw h
+
+  pub unless-sound : verdict ≡ Sound → unless turned verdict answer ≡ answer
+  unfolding unless
+  unless-sound h = rw h
+
+-- the answer matters only where nothing is refused
+pub unless-later : {A : Type 0} (turned : Refusal → A) (v : Verdict) {x y : A} → (v ≡ Sound → x ≡ y) → unless turned v x ≡ unless turned v y
+unfolding unless
+unless-later turned Sound e = e refl
+unless-later turned (Refused r) e = refl
+
+-- one verdict after another: first the one, then the other
+pub unless-again : {A : Type 0} (turned : Refusal → A) (v w : Verdict) (x : A) → unless turned (unless Refused v w) x ≡ unless turned v (unless turned w x)
+unfolding unless
+unless-again turned Sound w x = refl
+unless-again turned (Refused r) w x = refl
+
+-- what stands after two verdicts stands after each
+pub both-sound : (v w : Verdict) → unless Refused v w ≡ Sound → (v ≡ Sound) × (w ≡ Sound)
+unfolding unless
+both-sound Sound w h = (refl, h)
+both-sound (Refused r) w h = not-sound h
+
+-- ---- the first refusal
+module _ (broken : Bool) (number place : ℕ) (later : List Verdict) where
+  pub first-broken : broken ≡ true → firstRefusal (rule broken number place ∷ later) ≡ Refused (refused number place)
+  unfolding firstRefusal unless if
+  first-broken h = rw h
+
+  pub first-kept : broken ≡ false → {verdict : Verdict} → firstRefusal later ≡ verdict → firstRefusal (rule broken number place ∷ later) ≡ verdict
+  unfolding firstRefusal unless if
+  first-kept h e = rw h e
+
+-- of one list behind another
+pub first-joined : (xs ys : List Verdict) → firstRefusal (xs ++ ys) ≡ unless Refused (firstRefusal xs) (firstRefusal ys)
+unfolding firstRefusal unless
+first-joined [] ys = refl
+first-joined (v ∷ xs) ys = ap (unless Refused v) (first-joined xs ys) ∙ sym (unless-again Refused v (firstRefusal xs) (firstRefusal ys))
+
+-- of one rule, asked of some things in turn: that of the first thing that breaks it
+pub first-in-turn {ℓ} : {A : Type ℓ} (broken : A → Bool) (number : ℕ) (place : A → ℕ) (xs : List A)
+    → firstRefusal (map (λ x. rule (broken x) number (place x)) xs) ≡ first broken (λ x. Refused (refused number (place x))) Sound xs
+unfolding firstRefusal first unless if
+first-in-turn broken number place [] = refl
+first-in-turn broken number place (x ∷ xs) = go (broken x) (first-in-turn broken number place xs)
+  where
+    go : (b : Bool) {later late : Verdict} → later ≡ late
+        → unless Refused (rule b number (place x)) later ≡ if b (Refused (refused number (place x))) late
+    go true e = refl
+    go false e = e
