@@ -1,14 +1,34 @@
--- What of a LIO or an LPC is unused: document 01, "MADT structures" and "What comes back".
+-- What is unused in a map: document 01, "MADT structures" and "What comes back": "its unused places, an unused half's byte among
+-- them, hold 0".
 use mathlib.Core.Bool.{true, false}
 use lib.Dec.{eqb}
 use Rattle.words.specs.Choice.{if}
 use Rattle.kinds.specs.declared.Half.{Half}
 use Rattle.kinds.specs.declared.Lio.{Lio}
+use Rattle.kinds.specs.declared.Eio.{Eio}
+use Rattle.kinds.specs.declared.Bio.{Bio}
+use Rattle.kinds.specs.declared.Msi.{Msi}
 use Rattle.kinds.specs.declared.Lpc.{Lpc}
 
 -- a half of which nothing is used
 abbrev pub noHalf : Half
 noHalf = record { cascade = 0; mask = 0 }
+
+-- a structure that is not there
+abbrev pub noLio : Lio
+noLio = record { present = false; low = noHalf; high = noHalf }
+
+abbrev pub noEio : Eio
+noEio = record { cascade = 0; node = 0; nodes = 0 }
+
+abbrev pub noBio : Bio
+noBio = record { node = 0; base = 0 }
+
+abbrev pub noMsi : Msi
+noMsi = record { start = 0; count = 0 }
+
+abbrev pub noLpc : Lpc
+noLpc = record { present = false; cascade = 0 }
 
 -- "a half with mask 0 is unused and its byte is free"
 unfoldable pub usedHalf : Half → Half
@@ -19,8 +39,8 @@ unfoldable pub saidLio : Lio → Lio
 saidLio lio =
     if (lio .present)
     (record { present = true; low = usedHalf (lio .low); high = usedHalf (lio .high) })
-    (record { present = false; low = noHalf; high = noHalf })
+    noLio
 
 -- what is said of an LPC: nothing where it is absent
 unfoldable pub saidLpc : Lpc → Lpc
-saidLpc lpc = if (lpc .present) lpc (record { present = false; cascade = 0 })
+saidLpc lpc = if (lpc .present) lpc noLpc

@@ -1,3 +1,6 @@
 pub mod Pieces
-pub mod Taking
+pub mod Types
+pub mod Those
+pub mod Contents
+pub mod Checks
 pub mod Walking

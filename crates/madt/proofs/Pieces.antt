@@ -1,5 +1,5 @@
 -- The three laws of `pieces`, by which every loop over a table's structures is proved: at the table's end, where a structure
--- is cut, and behind a whole one.
+-- is cut, and behind a whole one. Loops go by the size of the structure at an offset, 0 for none.
 use mathlib.Core.Path.{_≡_, refl, sym, ap, _∙_}
 use mathlib.Core.Bool.{Bool, true, false, _||_}
 use mathlib.Core.List.{List, [], _∷_}
@@ -16,7 +16,10 @@ use Rattle.tables.specs.Structures.{structureLength, brokenAt, stepAt}
 use Rattle.tables.specs.declared.Step.{Step}
 use Rattle.tables.specs.declared.Step.the-variants.{End, Structure, Broken}
 use Rattle.tables.proofs.Steps.{step-end}
-use Rattle.madt.specs.Pieces.{Piece, whole, cut, pieceAt, piecesFrom, pieces, sizeOf, sizeAt}
+use Rattle.madt.specs.Pieces.{Piece, whole, cut, pieceAt, piecesFrom, pieces, sizeOf}
+
+abbrev pub sizeAt : List ℕ → ℕ → ℕ
+sizeAt table at = sizeOf (stepAt table at)
 
 not-end : {size : ℕ} → _≡_ {A = Step} End (Structure size) → ⊥
 not-end e = let o : _≡_ {A = ℕ} 0 1 = cc in omega arith
@@ -81,7 +84,7 @@ not-over false size e = let o : _≡_ {A = ℕ} 0 1 = cc in omega arith
 module _ (table : List ℕ) (at : ℕ) where
   -- the step that a size tells of
   size-broken : at < length table → sizeAt table at ≡ 0 → stepAt table at ≡ Broken
-  unfolding sizeAt sizeOf stepAt
+  unfolding sizeOf stepAt
   size-broken more h = go (stepAt table at) refl h
     where
       go : (step : Step) → stepAt table at ≡ step → sizeOf step ≡ 0 → stepAt table at ≡ Broken
@@ -90,7 +93,7 @@ module _ (table : List ℕ) (at : ℕ) where
       go (Structure size) e z = let low = step-inside table at size e .1 in absurd (omega arith)
 
   size-structure : (sizeAt table at ≡ 0 → ⊥) → stepAt table at ≡ Structure (sizeAt table at)
-  unfolding sizeAt sizeOf
+  unfolding sizeOf
   size-structure h = go (stepAt table at) refl h
     where
       go : (step : Step) → stepAt table at ≡ step → (sizeOf step ≡ 0 → ⊥) → stepAt table at ≡ Structure (sizeOf step)
@@ -100,15 +103,15 @@ module _ (table : List ℕ) (at : ℕ) where
 
   -- the size that a step tells, which lies inside the table
   pub size-whole : {size : ℕ} → stepAt table at ≡ Structure size → (size ≡ sizeAt table at) × (size ≤ length table - at)
-  unfolding sizeAt sizeOf
+  unfolding sizeOf
   size-whole {size} h = let fits = step-inside table at size h .2 in (rw h, omega arith)
 
   pub size-cut : stepAt table at ≡ Broken → 0 ≡ sizeAt table at
-  unfolding sizeAt sizeOf
+  unfolding sizeOf
   size-cut h = rw h
 
   pub size-end : stepAt table at ≡ End → 0 ≡ sizeAt table at
-  unfolding sizeAt sizeOf
+  unfolding sizeOf
   size-end h = rw h
 
   pub pieces-end : length table ≤ at → pieces table at ≡ []

@@ -1,52 +1,143 @@
--- The walk: one law for each way that a turn of its loop can go.
-use mathlib.Core.Path.{_≡_, refl, ap, _∙_}
-use mathlib.Core.Bool.{not}
-use mathlib.Core.List.{List}
+-- The walk: what its loop has found so far, and one law for each way that a turn of it can go.
+use mathlib.Core.Path.{_≡_, refl, sym, ap, _∙_}
+use mathlib.Core.Bool.{Bool, true, false}
+use mathlib.Core.List.{List, [], _∷_, _++_, append-nil, append-assoc}
 use Prim.Native.Nat.{ℕ, _+_, _≤_, _<_}
-use borrow.Author.Tests.{eq-eqb, ne-eqb}
 use native.Mathlib.Omega.{arith}
+use lib.Dec.{leb}
 use lib.ListN.{length, drop, length-take}
-use Rattle.words.specs.Bytes.{partAt}
-use Rattle.words.proofs.Choices.{yes-if, no-if}
-use Rattle.words.specs.declared.Verdict.the-variants.{Sound}
-use Rattle.madt.specs.Pieces.{pieces, sizeAt}
-use Rattle.madt.specs.Takes.{Taken, takeOne}
-use Rattle.madt.specs.Walk.{turnedAway, afterTaking, walk}
-use Rattle.madt.specs.declared.Found.{Found}
+use borrow.Author.Tests.{leb-false}
+use Rattle.words.specs.Bytes.{byteAt, partAt}
+use Rattle.words.specs.Lists.{those}
+use Rattle.words.specs.Refusals.{refused, unless, firstRefusal}
+use Rattle.words.specs.declared.Refusal.{Refusal}
+use Rattle.words.specs.declared.Verdict.{Verdict}
+use Rattle.words.specs.declared.Verdict.the-variants.{Sound, Refused}
+use Rattle.words.proofs.Choices.{passed}
+use Rattle.words.proofs.Verdicts.{not-sound, both-sound, first-broken, first-joined, unless-refused, unless-sound, unless-again}
+use Rattle.lines.specs.declared.Map.{Map}
+use Rattle.lines.specs.declared.Places.{Places}
+use Rattle.madt.specs.Pieces.{Piece, whole, cut, Whole, pieces, structures}
+use Rattle.madt.specs.Rules.{oneTooMany, structureRules}
+use Rattle.madt.specs.Contents.{ofType, howMany, made, standing, mapOf, placesOf, MadeBy, enabledIn, foundIn}
+use Rattle.madt.specs.Walk.{rulesInTurn, walkRules, turnedAway, walked}
 use Rattle.madt.specs.declared.Walked.{Walked}
-use Rattle.madt.proofs.Pieces.{pieces-end, pieces-cut, pieces-next}
+use Rattle.madt.proofs.Pieces.{sizeAt, pieces-end, pieces-cut, pieces-next}
+use Rattle.madt.proofs.Contents.{Next}
 
-refused-after : (taken : Taken) (place : ℕ) (later : Walked) → (taken .number ≡ 0 → ⊥)
-    → afterTaking taken place later ≡ turnedAway (taken .number) place
-unfolding afterTaking
-refused-after taken place later n = yes-if _ _ _ (ap not (ne-eqb (taken .number) 0 n))
+-- what comes of some pieces after the structures before them
+unfoldable pub walkFrom : ℕ → ℕ → List Whole → List Piece → Walked
+walkFrom base sci before pieces =
+    unless turnedAway (firstRefusal (rulesInTurn base before pieces))
+    (record { verdict = Sound; found = foundIn base sci (before ++ structures pieces) })
 
-taken-after : (taken : Taken) (place : ℕ) (later : Walked) → taken .number ≡ 0 → afterTaking taken place later ≡ later
-unfolding afterTaking
-taken-after taken place later n = no-if _ _ _ (ap not (eq-eqb (taken .number) 0 n)) refl
+-- the structures in turn: a whole one is refused, or stands before those behind it
+module _ (base sci : ℕ) (before : List Whole) (at : ℕ) (s : List ℕ) (later : List Piece) where
+  abbrev rules : List Verdict
+  rules = structureRules (base + at) (howMany (byteAt s 0) before) s
 
-module _ (base : ℕ) (table : List ℕ) (at : ℕ) (found : Found) where
-  pub walk-end : length table ≤ at → walk base (pieces table at) found ≡ record { verdict = Sound; found = found }
-  unfolding walk
-  walk-end h = rw (pieces-end table at h)
+  from-refused : {refusal : Refusal} → firstRefusal rules ≡ Refused refusal → walkFrom base sci before (whole at s ∷ later) ≡ turnedAway refusal
+  unfolding walkFrom rulesInTurn
+  from-refused h = rw (first-joined rules (rulesInTurn base (before ++ (record { at = at; bytes = s } ∷ [])) later), unless-again turnedAway (firstRefusal rules)) (unless-refused turnedAway (firstRefusal rules) _ h)
 
-  pub walk-cut : at < length table → sizeAt table at ≡ 0 → walk base (pieces table at) found ≡ turnedAway 31 (base + at)
-  unfolding walk
-  walk-cut more h = rw (pieces-cut table at more h)
+  from-next : firstRefusal rules ≡ Sound → walkFrom base sci before (whole at s ∷ later) ≡ walkFrom base sci (before ++ (record { at = at; bytes = s } ∷ [])) later
+  unfolding walkFrom rulesInTurn structures
+  from-next h =
+      rw (first-joined rules (rulesInTurn base (before ++ (record { at = at; bytes = s } ∷ [])) later), unless-again turnedAway (firstRefusal rules), append-assoc)
+      (unless-sound turnedAway (firstRefusal rules) _ h)
+
+-- no piece is left
+from-end : (base sci : ℕ) (before : List Whole) → walkFrom base sci before [] ≡ record { verdict = Sound; found = foundIn base sci before }
+unfolding walkFrom rulesInTurn structures firstRefusal unless
+from-end base sci before = rw append-nil
+
+-- the last is cut
+from-cut : (base sci : ℕ) (before : List Whole) (at : ℕ) → walkFrom base sci before (cut at ∷ []) ≡ turnedAway (refused 31 (base + at))
+unfolding walkFrom rulesInTurn
+from-cut base sci before at = unless-refused turnedAway _ _ (first-broken true 31 (base + at) [] refl)
+
+-- a map has room for what it counts: at most 256 CORE, and four of each kind that may repeat
+abbrev pub Few : Map → ℕ → ℕ → Type 0
+Few map enabled cores = (enabled ≤ cores) × (cores ≤ 256) × (map .eiocount ≤ 4) × (map .msicount ≤ 4) × (map .biocount ≤ 4)
+
+-- ---- what the loop has found before the structure at an offset
+pub record Walking (table : List ℕ) (base sci : ℕ) (map : Map) (places : Places) (enabled cores at : ℕ) : Type 0 where
+  pub all : List Whole
+  pub map-is : map ≡ mapOf sci all
+  pub places-is : places ≡ placesOf base all
+  pub enabled-is : enabled ≡ enabledIn all
+  pub cores-is : cores ≡ howMany 17 all
+  pub few : Few map enabled cores
+  pub rest : walkFrom base sci all (pieces table at) ≡ walked table base sci
+
+pub walk-starts : (table : List ℕ) (base sci : ℕ) {map : Map} {places : Places} → map ≡ mapOf sci [] → places ≡ placesOf 0 []
+    → Walking table base sci map places 0 0 44
+unfolding walkFrom walked walkRules mapOf placesOf standing enabledIn made ofType those
+walk-starts table base sci m p =
+    record {
+      all = [];
+      map-is = m;
+      places-is = p;
+      enabled-is = refl;
+      cores-is = refl;
+      few = rw m (omega arith, omega arith, omega arith, omega arith, omega arith);
+      rest = refl;
+    }
+
+module _ {table : List ℕ} {base sci : ℕ} {map : Map} {places : Places} {enabled cores at : ℕ} (w : Walking table base sci map places enabled cores at) where
+  -- the structures that made the map
+  pub made-by : MadeBy (w .all) cores map
+  unfolding mapOf
+  made-by = (w .cores-is, w .map-is ∙ ap (λ (n : ℕ). mapOf n (w .all)) (sym (ap (λ (m : Map). m .sci) (w .map-is))))
+
+  -- it has a place for one more of a kind that is not full
+  pub eio-room : {number : ℕ} → number ≡ 20 → howMany number (w .all) < 4 → map .eiocount < 4
+  unfolding mapOf
+  eio-room t free = rw (w .map-is, sym t) free
+
+  pub msi-room : {number : ℕ} → number ≡ 21 → howMany number (w .all) < 4 → map .msicount < 4
+  unfolding mapOf
+  msi-room t free = rw (w .map-is, sym t) free
+
+  pub bio-room : {number : ℕ} → number ≡ 22 → howMany number (w .all) < 4 → map .biocount < 4
+  unfolding mapOf
+  bio-room t free = rw (w .map-is, sym t) free
+
+  -- the table's end
+  pub walk-ends : length table ≤ at → record { verdict = Sound; found = record { map = map; places = places; enabled = enabled } } ≡ walked table base sci
+  unfolding foundIn
+  walk-ends h =
+      rw (w .map-is, w .places-is, w .enabled-is) (sym (rw (pieces-end table at h) (from-end base sci (w .all))) ∙ w .rest)
+
+  -- a structure that is cut
+  pub walk-cuts : at < length table → sizeAt table at ≡ 0 → turnedAway (refused 31 (base + at)) ≡ walked table base sci
+  walk-cuts more h = sym (rw (pieces-cut table at more h) (from-cut base sci (w .all) at)) ∙ w .rest
 
   module _ (more : sizeAt table at ≡ 0 → ⊥) where
-    abbrev taken : Taken
-    taken = takeOne (partAt table at (sizeAt table at)) (base + at) found
+    abbrev here : Whole
+    here = record { at = at; bytes = partAt table at (sizeAt table at) }
 
-    pub walk-refused : {number : ℕ} → number ≡ taken .number → (number ≡ 0 → ⊥)
-        → walk base (pieces table at) found ≡ turnedAway number (base + at)
-    unfolding walk
-    walk-refused e n = rw (pieces-next table at more, e) (refused-after _ _ _ (rw e at n))
+    abbrev said : Verdict
+    said = firstRefusal (structureRules (base + at) (howMany (byteAt (here .bytes) 0) (w .all)) (here .bytes))
 
-    pub walk-next : {to : ℕ} {next : Found} → taken .number ≡ 0 → taken .found ≡ next → to ≡ at + sizeAt table at
-        → walk base (pieces table at) found ≡ walk base (pieces table to) next
-    unfolding walk
-    walk-next n f g = rw (pieces-next table at more, g) (taken-after _ _ _ n ∙ ap (walk base (pieces table (at + sizeAt table at))) f)
+    -- one that breaks a rule
+    pub walk-refuses : {refusal : Refusal} → said ≡ Refused refusal → turnedAway refusal ≡ walked table base sci
+    walk-refuses h = sym (rw (pieces-next table at more) (from-refused base sci (w .all) at (here .bytes) _ h)) ∙ w .rest
+
+    -- one that breaks none
+    pub walk-goes-on : said ≡ Sound → {map′ : Map} {places′ : Places} {enabled′ cores′ to : ℕ}
+        → Next base sci (w .all) here map′ places′ enabled′ cores′ → Few map′ enabled′ cores′ → to ≡ at + sizeAt table at
+        → Walking table base sci map′ places′ enabled′ cores′ to
+    walk-goes-on h n few e =
+        record {
+          all = w .all ++ (here ∷ []);
+          map-is = n .0;
+          places-is = n .1;
+          enabled-is = n .2;
+          cores-is = n .3;
+          few = few;
+          rest = rw e (sym (rw (pieces-next table at more) (from-next base sci (w .all) at (here .bytes) _ h)) ∙ w .rest);
+        }
 
 -- a part is no longer than it is asked to be
 pub part-small : (bytes : List ℕ) (at count : ℕ) → count < 65536 → length (partAt bytes at count) < 65536

@@ -1,5 +1,4 @@
 pub mod Pieces
 pub mod Rules
-pub mod Adding
-pub mod Takes
+pub mod Contents
 pub mod Walk

@@ -27,11 +27,19 @@ piecesFrom (suc k) table at = pieceAt table at (stepAt table at) (λ size. piece
 unfoldable pub pieces : List ℕ → ℕ → List Piece
 pieces table at = piecesFrom (length table) table at
 
--- the length of the structure at an offset; 0 where it breaks 31, and at the table's end
+-- a whole structure: its offset in the table, and its own bytes
+pub record Whole : Type 0 where
+  pub at : ℕ
+  pub bytes : List ℕ
+
+-- the whole structures before the first cut one
+unfoldable pub structures : List Piece → List Whole
+structures [] = []
+structures (cut at ∷ pieces) = []
+structures (whole at s ∷ pieces) = record { at = at; bytes = s } ∷ structures pieces
+
+-- the length of the structure that a step finds; 0 where it finds none
 unfoldable pub sizeOf : Step → ℕ
 sizeOf End = 0
 sizeOf Broken = 0
 sizeOf (Structure size) = size
-
-unfoldable pub sizeAt : List ℕ → ℕ → ℕ
-sizeAt table at = sizeOf (stepAt table at)

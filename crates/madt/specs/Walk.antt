@@ -1,33 +1,36 @@
 -- Document 01, "structures in turn, each through 31 to 38": the map of a MADT, given by its own bytes, or its first refusal.
 use Prim.Native.Nat.{ℕ, _+_}
-use mathlib.Core.Bool.{not}
-use mathlib.Core.List.{List, [], _∷_}
-use lib.Dec.{eqb}
-use Rattle.words.specs.Choice.{if}
-use Rattle.words.specs.Refusals.{refused}
+use mathlib.Core.Bool.{true}
+use mathlib.Core.List.{List, [], _∷_, _++_}
+use Rattle.words.specs.Bytes.{byteAt}
+use Rattle.words.specs.Refusals.{rule, unless, firstRefusal}
+use Rattle.words.specs.declared.Refusal.{Refusal}
+use Rattle.words.specs.declared.Verdict.{Verdict}
 use Rattle.words.specs.declared.Verdict.the-variants.{Sound, Refused}
-use Rattle.madt.specs.Pieces.{Piece, whole, cut, pieces}
-use Rattle.madt.specs.Adding.{nothing}
-use Rattle.madt.specs.Takes.{Taken, takeOne}
-use Rattle.madt.specs.declared.Found.{Found}
+use Rattle.madt.specs.Pieces.{Piece, whole, cut, Whole, pieces, structures}
+use Rattle.madt.specs.Rules.{structureRules}
+use Rattle.madt.specs.Contents.{howMany, foundIn, nothing}
 use Rattle.madt.specs.declared.Walked.{Walked}
 
+-- the rules of some pieces in turn, after the structures before them: 31 of one that is cut, 32 to 38 of a whole one. The MADT
+-- stands at `base`.
+unfoldable pub rulesInTurn : ℕ → List Whole → List Piece → List Verdict
+rulesInTurn base before [] = []
+rulesInTurn base before (cut at ∷ pieces) = rule true 31 (base + at) ∷ []
+rulesInTurn base before (whole at s ∷ pieces) =
+    structureRules (base + at) (howMany (byteAt s 0) before) s
+    ++ rulesInTurn base (before ++ (record { at = at; bytes = s } ∷ [])) pieces
+
+-- all of them, of the MADT with some bytes
+unfoldable pub walkRules : List ℕ → ℕ → List Verdict
+walkRules table base = rulesInTurn base [] (pieces table 44)
+
 -- a refusal comes with the fixed empty map and without processors
-unfoldable pub turnedAway : ℕ → ℕ → Walked
-turnedAway number place = record { verdict = Refused (refused number place); found = nothing 0 }
+unfoldable pub turnedAway : Refusal → Walked
+turnedAway refusal = record { verdict = Refused refusal; found = nothing 0 }
 
--- a structure taken at a place, and what comes of the pieces behind it
-unfoldable pub afterTaking : Taken → ℕ → Walked → Walked
-afterTaking taken place later = if (not (eqb (taken .number) 0)) (turnedAway (taken .number) place) later
-
--- the pieces in turn, after what was found before them; the MADT stands at `base`
-unfoldable pub walk : ℕ → List Piece → Found → Walked
-walk base [] found = record { verdict = Sound; found = found }
-walk base (cut at ∷ pieces) found = turnedAway 31 (base + at)
-walk base (whole at s ∷ pieces) found =
-    let taken = takeOne s (base + at) found in
-    afterTaking taken (base + at) (walk base pieces (taken .found))
-
--- the walk of the MADT with some bytes, at a place, with the SCI number of the map
+-- what is found in the MADT with some bytes, at a place, with the SCI number of the map
 unfoldable pub walked : List ℕ → ℕ → ℕ → Walked
-walked table base sci = walk base (pieces table 44) (nothing sci)
+walked table base sci =
+    unless turnedAway (firstRefusal (walkRules table base))
+    (record { verdict = Sound; found = foundIn base sci (structures (pieces table 44)) })

@@ -9,12 +9,11 @@ pub mod walk; // the structures in turn
 mod rules; // 32 to 38 of one structure
 mod nothing; // before the first structure
 
-// What was found: the map and the places of its structures, and how many processors are enabled and how many are not.
+// What was found: the map and the places of its structures, and how many processors are enabled.
 pub struct Found {
     pub map: Map,
     pub places: Places,
     pub enabled: u16,
-    pub disabled: u16,
 }
 
 // All structures taken: what was found, or the refusal and nothing.

@@ -9,11 +9,12 @@ use kinds::Msi;
 use lines::Map;
 use lines::Places;
 ghost use mathlib.Core.Path.{_≡_};
-ghost use Rattle.madt.specs.Adding.{noMap, noPlaces, nothing};
+ghost use mathlib.Core.List.{[]};
+ghost use Rattle.madt.specs.Contents.{mapOf, placesOf, nothing};
 
 // A map without structures: every place is unused, and holds 0.
 pub(crate) fn no_map(sci: u16) -> Map
-    ensures { λ r. ⌜ r ≡ noMap sci ⌝ }
+    ensures { λ r. ⌜ r ≡ mapOf sci [] ⌝ }
 {
     let none = Half {
         cascade: 0,
@@ -53,7 +54,7 @@ pub(crate) fn no_map(sci: u16) -> Map
 
 // No places.
 pub(crate) fn no_places() -> Places
-    ensures { λ r. ⌜ r ≡ noPlaces ⌝ }
+    ensures { λ r. ⌜ r ≡ placesOf 0 [] ⌝ }
 {
     let eios = [0u32; 4];
     let bios = [0u32; 4];
@@ -77,7 +78,6 @@ impl Found {
             map,
             places,
             enabled: 0,
-            disabled: 0,
         }
     }
 }

@@ -1,4 +1,4 @@
-// Refusals 32 to 38 of one structure, given by its own bytes: the number of the first rule that it breaks, or 0.
+// Refusals 32 to 38 of one structure, given by its own bytes.
 use crate::steps;
 use kinds::Bio;
 use kinds::Eio;
@@ -9,8 +9,14 @@ use kinds::makers::Core;
 use kinds::makers::Ht;
 use kinds::ranges;
 use lines::Map;
+use words::Verdict;
 ghost use mathlib.Core.Path.{_≡_};
-ghost use Rattle.madt.specs.Rules.{wrongLength, wrongVersion, rangeFault, coreFault, lioFault, counted, judged, coreNumber, lioNumber, htNumber, eioNumber, msiNumber, bioNumber, lpcNumber, numberOf};
+ghost use mathlib.Core.List.{List};
+ghost use Rattle.words.specs.Bytes.{byteAt};
+ghost use Rattle.words.specs.Refusals.{firstRefusal};
+ghost use Rattle.madt.specs.Pieces.{Whole};
+ghost use Rattle.madt.specs.Rules.{isKnown, lengthOf, wrongFlags, brokenField, sharedBit, oneTooMany, structureRules};
+ghost use Rattle.madt.specs.Contents.{howMany, MadeBy};
 
 // Where every structure says its length and its version, and the version.
 const LENGTH: usize = 1;
@@ -20,148 +26,117 @@ const VERSION: usize = 2;
 const KNOWN_VERSION: u8 = 1;
 
 // "At most 256 CORE, 1 LIO, 4 EIO, 4 BIO, 4 MSI, 1 LPC."
-const MOST_CORES: usize = 256;
+const MOST_CORES: u16 = 256;
 
-const MOST_LIOS: usize = 1;
+const MOST_EIOS: u8 = 4;
 
-const MOST_EIOS: usize = 4;
+const MOST_BIOS: u8 = 4;
 
-const MOST_BIOS: usize = 4;
+const MOST_MSIS: u8 = 4;
 
-const MOST_MSIS: usize = 4;
-
-const MOST_LPCS: usize = 1;
-
-// HT is refused, however many there are.
-const HT_FAULT: u8 = 34;
-
-// Refusal 32.
-fn wrong_length(structure: &[u8], length: u8) -> bool
-    ensures { λ r. ⌜ r ≡ wrongLength (now (structure .entry)) length ⌝ }
+// Whether a structure is of a known type.
+fn is_known(structure: &[u8]) -> bool
+    ensures { λ r. ⌜ r ≡ isKnown (now (structure .entry)) ⌝ }
 {
-    !(words::byte_at(structure, LENGTH) == length)
+    let kind = words::byte_at(structure, steps::TYPE);
+    (Core::TYPE <= kind) & (kind <= Lpc::TYPE)
 }
 
-// Refusal 33.
-fn wrong_version(structure: &[u8]) -> bool
-    ensures { λ r. ⌜ r ≡ wrongVersion (now (structure .entry)) ⌝ }
+// The length that a structure of its kind has; 0 for a type that is passed over.
+fn length_of(structure: &[u8]) -> u8
+    ensures { λ r. ⌜ r ≡ lengthOf (now (structure .entry)) ⌝ }
 {
-    !(words::byte_at(structure, VERSION) == KNOWN_VERSION)
-}
-
-// Refusal 36, by the first field of a structure that is out of its range.
-fn range_fault(field: u8) -> u8
-    ensures { λ r. ⌜ r ≡ rangeFault field ⌝ }
-{
-    if field == 0 { 0 } else { 36 }
+    match words::byte_at(structure, steps::TYPE) {
+        Core::TYPE => Core::LENGTH,
+        Lio::TYPE => Lio::LENGTH,
+        Ht::TYPE => Ht::LENGTH,
+        Eio::TYPE => Eio::LENGTH,
+        Msi::TYPE => Msi::LENGTH,
+        Bio::TYPE => Bio::LENGTH,
+        Lpc::TYPE => Lpc::LENGTH,
+        0..=16 | 24..=255 => 0,
+    }
 }
 
 // Refusal 35.
-fn core_fault(core: Core) -> u8
-    ensures { λ r. ⌜ r ≡ coreFault core ⌝ }
+fn wrong_flags(structure: &[u8]) -> bool
+    ensures { λ r. ⌜ r ≡ wrongFlags (now (structure .entry)) ⌝ }
 {
-    if core.reserved_flags() { 35 } else { 0 }
-}
-
-// Refusals 36 and 37 of a LIO.
-fn lio_fault(lio: Lio) -> u8
-    ensures { λ r. ⌜ r ≡ lioFault lio ⌝ }
-{
-    if ranges::lio_field(lio) != 0 {
-        return 36;
+    if words::byte_at(structure, steps::TYPE) != Core::TYPE {
+        return false;
     }
-    if ranges::bit_in_both(lio) { 37 } else { 0 }
+    let core = Core::from_bytes(structure);
+    core.reserved_flags()
 }
 
-// How many there are of a kind that is there once or not at all.
-fn counted(present: bool) -> usize
-    ensures { λ r. ⌜ r ≡ counted present ⌝ }
-{
-    if present { 1 } else { 0 }
-}
-
-// Refusals 32, 33, the fault of its own kind (34 to 37), and 38 where `count` of `most` were there before it.
-fn judge(structure: &[u8], length: u8, fault: u8, count: usize, most: usize) -> u8
-    ensures { λ r. ⌜ r ≡ judged (now (structure .entry)) length fault count most ⌝ }
-{
-    if wrong_length(structure, length) {
-        return 32;
-    }
-    if wrong_version(structure) {
-        return 33;
-    }
-    if fault != 0 {
-        return fault;
-    }
-    if most <= count {
-        return 38;
-    }
-    0
-}
-
-// ---- 32 to 38 of each kind, after so many of it
-
-fn core_number(structure: &[u8], cores: usize) -> u8
-    ensures { λ r. ⌜ r ≡ coreNumber (now (structure .entry)) cores ⌝ }
-{
-    let fault = core_fault(Core::from_bytes(structure));
-    judge(structure, Core::LENGTH, fault, cores, MOST_CORES)
-}
-
-fn lio_number(structure: &[u8], present: bool) -> u8
-    ensures { λ r. ⌜ r ≡ lioNumber (now (structure .entry)) present ⌝ }
-{
-    let fault = lio_fault(Lio::from_bytes(structure));
-    judge(structure, Lio::LENGTH, fault, counted(present), MOST_LIOS)
-}
-
-fn ht_number(structure: &[u8]) -> u8
-    ensures { λ r. ⌜ r ≡ htNumber (now (structure .entry)) ⌝ }
-{
-    judge(structure, Ht::LENGTH, HT_FAULT, 0, 1)
-}
-
-fn eio_number(structure: &[u8], eios: u8) -> u8
-    ensures { λ r. ⌜ r ≡ eioNumber (now (structure .entry)) eios ⌝ }
-{
-    let fault = range_fault(ranges::eio_field(Eio::from_bytes(structure)));
-    judge(structure, Eio::LENGTH, fault, eios as usize, MOST_EIOS)
-}
-
-fn msi_number(structure: &[u8], msis: u8) -> u8
-    ensures { λ r. ⌜ r ≡ msiNumber (now (structure .entry)) msis ⌝ }
-{
-    let fault = range_fault(ranges::msi_field(Msi::from_bytes(structure)));
-    judge(structure, Msi::LENGTH, fault, msis as usize, MOST_MSIS)
-}
-
-fn bio_number(structure: &[u8], bios: u8) -> u8
-    ensures { λ r. ⌜ r ≡ bioNumber (now (structure .entry)) bios ⌝ }
-{
-    let fault = range_fault(ranges::bio_field(Bio::from_bytes(structure)));
-    judge(structure, Bio::LENGTH, fault, bios as usize, MOST_BIOS)
-}
-
-fn lpc_number(structure: &[u8], present: bool) -> u8
-    ensures { λ r. ⌜ r ≡ lpcNumber (now (structure .entry)) present ⌝ }
-{
-    let fault = range_fault(ranges::lpc_field(Lpc::from_bytes(structure)));
-    judge(structure, Lpc::LENGTH, fault, counted(present), MOST_LPCS)
-}
-
-// Refusals 32 to 38 of a structure, after so many CORE and what the map has. Types other than 17 to 23 are passed over,
-// their version unread.
-pub(crate) fn number_of(structure: &[u8], cores: usize, map: Map) -> u8
-    ensures { λ r. ⌜ r ≡ numberOf (now (structure .entry)) cores map ⌝ }
+// Refusal 36, by the first field that is out of its range.
+fn broken_field(structure: &[u8]) -> u8
+    ensures { λ r. ⌜ r ≡ brokenField (now (structure .entry)) ⌝ }
 {
     match words::byte_at(structure, steps::TYPE) {
-        Core::TYPE => core_number(structure, cores),
-        Lio::TYPE => lio_number(structure, map.lio.present),
-        Ht::TYPE => ht_number(structure),
-        Eio::TYPE => eio_number(structure, map.eiocount),
-        Msi::TYPE => msi_number(structure, map.msicount),
-        Bio::TYPE => bio_number(structure, map.biocount),
-        Lpc::TYPE => lpc_number(structure, map.lpc.present),
+        Lio::TYPE => ranges::lio_field(Lio::from_bytes(structure)),
+        Eio::TYPE => ranges::eio_field(Eio::from_bytes(structure)),
+        Msi::TYPE => ranges::msi_field(Msi::from_bytes(structure)),
+        Bio::TYPE => ranges::bio_field(Bio::from_bytes(structure)),
+        Lpc::TYPE => ranges::lpc_field(Lpc::from_bytes(structure)),
+        Core::TYPE | Ht::TYPE => 0, // none of their fields has a range
         0..=16 | 24..=255 => 0,
     }
+}
+
+// Refusal 37.
+fn shared_bit(structure: &[u8]) -> bool
+    ensures { λ r. ⌜ r ≡ sharedBit (now (structure .entry)) ⌝ }
+{
+    if words::byte_at(structure, steps::TYPE) != Lio::TYPE {
+        return false;
+    }
+    ranges::bit_in_both(Lio::from_bytes(structure))
+}
+
+// Refusal 38, of a structure behind those that made a map and so many CORE.
+fn one_too_many(structure: &[u8], cores: u16, map: Map) -> bool
+    ensures { λ r. ⌜ ((all : List Whole) → MadeBy all cores map → r ≡ oneTooMany (howMany (byteAt (now (structure .entry)) 0) all) (now (structure .entry))) ⌝ }
+{
+    match words::byte_at(structure, steps::TYPE) {
+        Core::TYPE => MOST_CORES <= cores,
+        Lio::TYPE => map.lio.present,
+        Eio::TYPE => MOST_EIOS <= map.eiocount,
+        Msi::TYPE => MOST_MSIS <= map.msicount,
+        Bio::TYPE => MOST_BIOS <= map.biocount,
+        Lpc::TYPE => map.lpc.present,
+        0..=16 | Ht::TYPE | 24..=255 => false,
+    }
+}
+
+// Refusals 32 to 38 of a structure at a place, behind those that made a map and so many CORE. Types other than 17 to 23 are
+// passed over, their version unread.
+pub(crate) fn check(structure: &[u8], place: u32, cores: u16, map: Map) -> Verdict
+    ensures { λ r. ⌜ ((all : List Whole) → MadeBy all cores map → r ≡ firstRefusal (structureRules place (howMany (byteAt (now (structure .entry)) 0) all) (now (structure .entry)))) ⌝ }
+{
+    if !is_known(structure) {
+        return Verdict::Sound;
+    }
+    if words::byte_at(structure, LENGTH) != length_of(structure) {
+        return Verdict::Refused(words::refuse(32, place));
+    }
+    if words::byte_at(structure, VERSION) != KNOWN_VERSION {
+        return Verdict::Refused(words::refuse(33, place));
+    }
+    if words::byte_at(structure, steps::TYPE) == Ht::TYPE {
+        return Verdict::Refused(words::refuse(34, place));
+    }
+    if wrong_flags(structure) {
+        return Verdict::Refused(words::refuse(35, place));
+    }
+    if broken_field(structure) != 0 {
+        return Verdict::Refused(words::refuse(36, place));
+    }
+    if shared_bit(structure) {
+        return Verdict::Refused(words::refuse(37, place));
+    }
+    if one_too_many(structure, cores, map) {
+        return Verdict::Refused(words::refuse(38, place));
+    }
+    Verdict::Sound
 }

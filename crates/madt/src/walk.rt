@@ -12,6 +12,7 @@ use kinds::Msi;
 use kinds::makers::Core;
 use kinds::makers::Ht;
 use tables::Table;
+use words::Refusal;
 use words::Verdict;
 ghost use mathlib.Core.Path.{_≡_};
 ghost use Prim.Native.Nat.{_<_};
@@ -19,10 +20,10 @@ ghost use lib.ListN.{length};
 ghost use Rattle.words.specs.Bytes.{partAt};
 ghost use Rattle.madt.specs.Walk.{turnedAway, walked};
 
-fn turn_away(number: u8, place: u32) -> Walked
-    ensures { λ r. ⌜ r ≡ turnedAway number place ⌝ }
+fn turn_away(refusal: Refusal) -> Walked
+    ensures { λ r. ⌜ r ≡ turnedAway refusal ⌝ }
 {
-    let verdict = Verdict::Refused(words::refuse(number, place));
+    let verdict = Verdict::Refused(refusal);
     Walked {
         verdict,
         found: Found::nothing(0),
@@ -38,26 +39,24 @@ fn walk_table(table: &[u8], base: u16, sci: u16) -> Walked
     let mut map = nothing::no_map(sci);
     let mut places = nothing::no_places();
     let mut enabled: u16 = 0;
-    let mut disabled: u16 = 0;
+    let mut cores: u16 = 0;
     let mut at: usize = steps::FIRST;
     while at < table.len() {
         let place = base as u32 + at as u32;
         let size = steps::size_at(table, at);
         if size == 0 {
-            return turn_away(31, place);
+            return turn_away(words::refuse(31, place));
         }
         let structure = words::part(table, at, size);
-        let number = rules::number_of(structure, enabled as usize + disabled as usize, map);
-        if number != 0 {
-            return turn_away(number, place);
+        if let Verdict::Refused(refusal) = rules::check(structure, place, cores, map) {
+            return turn_away(refusal);
         }
         match words::byte_at(structure, steps::TYPE) {
             Core::TYPE => {
+                cores += 1;
                 let core = Core::from_bytes(structure);
                 if core.is_enabled() {
                     enabled += 1;
-                } else {
-                    disabled += 1;
                 }
             }
             Lio::TYPE => {
@@ -94,7 +93,6 @@ fn walk_table(table: &[u8], base: u16, sci: u16) -> Walked
         map,
         places,
         enabled,
-        disabled,
     };
     let verdict = Verdict::Sound;
     Walked { verdict, found }

@@ -16,6 +16,11 @@ unfoldable pub every {ℓ} : {A : Type ℓ} → (A → Bool) → List A → Bool
 every test [] = true
 every test (x ∷ xs) = test x && every test xs
 
+-- the elements that the test takes, in their order
+unfoldable pub those {ℓ} : {A : Type ℓ} → (A → Bool) → List A → List A
+those test [] = []
+those test (x ∷ xs) = if (test x) (x ∷ those test xs) (those test xs)
+
 -- the k numbers from `from` on
 unfoldable pub numbersFrom : ℕ → ℕ → List ℕ
 numbersFrom from zero = []

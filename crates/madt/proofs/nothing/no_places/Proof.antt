@@ -1,11 +1,12 @@
 -- `no_places` is no places.
 use mathlib.Core.Path.{refl}
-use Rattle.madt.specs.Adding.{noPlaces}
+use Rattle.words.specs.Lists.{those}
+use Rattle.madt.specs.Contents.{ofType, standing, placesOf}
 use Rattle.madt.proofs.nothing.no_places.Statement.{statement}
 use Rattle.madt.proofs.nothing.no_places.Tie as tie
 
 returns : tie.Need-returns
-unfolding noPlaces
+unfolding placesOf standing ofType those
 returns c = refl
 
 pub no-places-spec : {M : Type 1} → statement M

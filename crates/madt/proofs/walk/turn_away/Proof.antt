@@ -4,15 +4,12 @@ use borrow.Author.Needs.{needs}
 use Rattle.madt.proofs.walk.turn_away.Statement.{statement}
 use Rattle.madt.proofs.walk.turn_away.Tie as tie
 
-refuse-requires : tie.Need-refuse-requires
-refuse-requires c κs = search needs
-
 nothing-requires : tie.Need-nothing-requires
 nothing-requires c κs = search needs
 
 returns : tie.Need-returns
 unfolding turnedAway
-returns c = rw (c .nothing .ensures, c .before .refuse .ensures)
+returns c = rw (c .nothing .ensures)
 
 pub turn-away-spec : {M : Type 1} → statement M
-turn-away-spec = tie.close (tie.spec refuse-requires nothing-requires returns)
+turn-away-spec = tie.close (tie.spec nothing-requires returns)

@@ -1,31 +1,29 @@
--- `walk_table` goes through the pieces in turn: what the walk makes of those to come is what it makes of all.
+-- `walk_table` goes through the structures in turn: what it has found is what those before make.
 use denote.Ref.{now}
 use mathlib.Core.Logic.{⊎-elim}
 use native.Mathlib.Omega.{arith}
-use mathlib.Core.Path.{_≡_, refl, sym, subst, _∙_}
-use Prim.Native.Nat.{_+_, _-_}
+use mathlib.Core.Path.{_≡_, refl, sym, _∙_}
+use Prim.Native.Nat.{_+_, _-_, _<_}
 use lib.ListN.{length}
-use Rattle.madt.specs.Pieces.{pieces, sizeAt}
-use Rattle.madt.specs.Adding.{noMap, nothing, withCore, withLio, withEio, withMsi, withBio, withLpc}
-use Rattle.madt.specs.Walk.{walk, walked}
 use Rattle.words.specs.Bytes.{byteAt, partAt}
-use Rattle.madt.specs.Rules.{numberOf}
-use Rattle.madt.specs.Takes.{takeOne}
-use Rattle.madt.specs.declared.Found.{Found}
-use Rattle.madt.proofs.Taking.{Few, takes-few, number-taken, found-core, found-lio, found-eio, found-msi, found-bio, found-lpc, found-ht, found-other, room-eio, room-msi, room-bio}
-use Rattle.madt.proofs.Walking.{walk-end, walk-cut, walk-refused, walk-next}
-use Rattle.words.proofs.Choices.{yes-if, no-if}
+use Rattle.words.specs.Refusals.{firstRefusal}
+use Rattle.words.specs.declared.Verdict.the-variants.{Sound}
+use Rattle.madt.specs.Pieces.{Whole}
+use Rattle.madt.specs.Rules.{structureRules}
+use Rattle.madt.specs.Contents.{howMany}
+use Rattle.madt.proofs.Pieces.{sizeAt}
+use Rattle.madt.proofs.Contents.{Next, next-enabled, next-disabled, next-lio, next-eio, next-msi, next-bio, next-lpc, next-other}
+use Rattle.madt.proofs.Checks.{all-kept, room-core, room-lio, room-eio, room-msi, room-bio, room-lpc}
+use Rattle.madt.proofs.Walking.{Few, Walking, walk-starts, made-by, eio-room, msi-room, bio-room, walk-ends, walk-cuts, walk-refuses, walk-goes-on}
 use borrow.Author.Needs.{needs}
 use Rattle.madt.proofs.walk.walk_table.Statement.{statement}
 use Rattle.madt.proofs.walk.walk_table.Tie as tie
 
 abbrev Inv-loop : tie.InvT-loop
-Inv-loop table base sci map₀ places₀ enabled₀ disabled₀ at₀ map places enabled disabled at =
-    (let found : Found = record { map = map; places = places; enabled = enabled; disabled = disabled } in
-    (walk base (pieces table at) found ≡ walked table base sci) × Few found)
+Inv-loop table base sci map₀ places₀ enabled₀ cores₀ at₀ map places enabled cores at = Walking table base sci map places enabled cores at
 
 abbrev μ-loop : tie.MeasureT-loop
-μ-loop table base sci map₀ places₀ enabled₀ disabled₀ at₀ map places enabled disabled at = length table - at
+μ-loop table base sci map₀ places₀ enabled₀ cores₀ at₀ map places enabled cores at = length table - at
 
 no-map-requires : tie.Need-no-map-requires Inv-loop μ-loop
 no-map-requires c κs = search needs
@@ -34,8 +32,7 @@ no-places-requires : tie.Need-no-places-requires Inv-loop μ-loop
 no-places-requires c κs = search needs
 
 loop-holds : tie.Need-loop-holds Inv-loop μ-loop
-unfolding walked nothing noMap
-loop-holds c = (rw (c .before .no-map .ensures, c .no-places .ensures), rw (c .before .no-map .ensures) (omega arith, omega arith, omega arith, omega arith))
+loop-holds c = walk-starts _ _ _ (c .before .no-map .ensures) (c .no-places .ensures)
 
 cast-place : tie.Need-cast-place Inv-loop μ-loop
 cast-place c = search needs
@@ -46,44 +43,58 @@ add-place c = search needs
 size-at-requires : tie.Need-size-at-requires Inv-loop μ-loop
 size-at-requires c κs = search needs
 
+refuse-requires : tie.Need-refuse-requires Inv-loop μ-loop
+refuse-requires c κs = search needs
+
 turn-away-requires : tie.Need-turn-away-requires Inv-loop μ-loop
 turn-away-requires c κs = search needs
 
 returns : tie.Need-returns Inv-loop μ-loop
 returns c =
-    let l = c .before .before .before .before .loop in
-    c .turn-away .ensures
-    ∙ sym (walk-cut _ _ _ (record { map = l .map; places = l .places; enabled = l .enabled; disabled = l .disabled }) (c .before .before .before .loop-test .taken) (sym (c .before .before .size-at .ensures .0) ∙ c .before .if1 .taken)) ∙ l .inv .0
+    rw (c .turn-away .ensures, c .before .refuse .ensures)
+    (walk-cuts (c .before .before .before .before .before .loop .inv) (c .before .before .before .before .loop-test .taken) (sym (c .before .before .before .size-at .ensures .0) ∙ c .before .before .if1 .taken))
 
 part-requires : tie.Need-part-requires Inv-loop μ-loop
 part-requires c κs = search needs
 
-cast-number-of : tie.Need-cast-number-of Inv-loop μ-loop
-cast-number-of c = search needs
+check-requires : tie.Need-check-requires Inv-loop μ-loop
+check-requires c κs = search needs
 
-cast-number-of-2 : tie.Need-cast-number-of-2 Inv-loop μ-loop
-cast-number-of-2 c = search needs
-
-add-number-of : tie.Need-add-number-of Inv-loop μ-loop
-add-number-of c = search needs
-
-number-of-requires : tie.Need-number-of-requires Inv-loop μ-loop
-number-of-requires c κs = search needs
+enum-known-refusal : tie.Need-enum-known-refusal Inv-loop μ-loop
+enum-known-refusal c = search needs
 
 turn-away-requires-2 : tie.Need-turn-away-requires-2 Inv-loop μ-loop
 turn-away-requires-2 c κs = search needs
 
 returns-2 : tie.Need-returns-2 Inv-loop μ-loop
 returns-2 c =
-    let l = c .before .before .before .before .before .before .before .loop in
-    let found : Found = record { map = l .map; places = l .places; enabled = l .enabled; disabled = l .disabled } in
+    let l = c .before .before .before .before .before .before .before .before .before .loop in
+    let table = now (c .before .before .before .before .before .before .before .before .before .before .before .before .before .args .table) in
+    let size = c .before .before .before .before .before .before .before .size-at .ensures .0 in
+    let s = partAt table (l .at) (sizeAt table (l .at)) in
+    let same : now (c .before .before .before .before .before .part .result) ≡ s = rw (c .before .before .before .before .before .part .ensures, size) in
     c .turn-away2 .ensures
-    ∙ sym (walk-refused _ _ _ found (λ h. c .before .before .before .before .if1 .left (c .before .before .before .before .before .size-at .ensures .0 ∙ h))
-    (rw (c .before .before .number-of .ensures, c .before .before .before .part .ensures, c .before .before .before .before .before .size-at .ensures .0) (sym (number-taken _ _ found))) (c .before .if2 .taken))
-    ∙ l .inv .0
+    ∙ walk-refuses (l .inv) (λ h. c .before .before .before .before .before .before .if1 .left (size ∙ h)) (rw (sym same) (sym (c .before .before .before .before .check .ensures (l .inv .all) (made-by (l .inv))) ∙ c .before .before .refusal .given .1))
+
+enum-told : tie.Need-enum-told Inv-loop μ-loop
+enum-told c = search needs
 
 byte-at-requires : tie.Need-byte-at-requires Inv-loop μ-loop
 byte-at-requires c κs = search needs
+
+add-cores : tie.Need-add-cores Inv-loop μ-loop
+add-cores c =
+    let l = c .before .before .before .before .before .before .before .before .before .loop in
+    let table = now (c .before .before .before .before .before .before .before .before .before .before .before .before .before .args .table) in
+    let size = c .before .before .before .before .before .before .before .size-at .ensures .0 in
+    let s = partAt table (l .at) (sizeAt table (l .at)) in
+    let same : now (c .before .before .before .before .before .part .result) ≡ s = rw (c .before .before .before .before .before .part .ensures, size) in
+    let sound : firstRefusal (structureRules (c .before .before .before .before .before .before .before .before .before .before .before .before .before .args .base + l .at) (howMany (byteAt s 0) (l .inv .all)) s) ≡ Sound =
+    rw (sym same) (sym (c .before .before .before .before .check .ensures (l .inv .all) (made-by (l .inv))) ∙ c .before .before .enum-told .given .1) in
+    let kept = all-kept _ _ _ sound in
+    let type : byteAt s 0 ≡ c .before .byte-at .result = rw (sym same) (sym (c .before .byte-at .ensures)) in
+    let room = room-core kept (type ∙ c .match2 .keys1) in
+    let many = l .inv .few .1 in omega arith
 
 from-bytes-requires : tie.Need-from-bytes-requires Inv-loop μ-loop
 from-bytes-requires c κs = search needs
@@ -92,10 +103,17 @@ is-enabled-requires : tie.Need-is-enabled-requires Inv-loop μ-loop
 is-enabled-requires c κs = search needs
 
 add-enabled : tie.Need-add-enabled Inv-loop μ-loop
-add-enabled c = search needs
-
-add-disabled : tie.Need-add-disabled Inv-loop μ-loop
-add-disabled c = search needs
+add-enabled c =
+    let l = c .before .before .before .before .before .before .before .before .before .before .before .before .loop in
+    let table = now (c .before .before .before .before .before .before .before .before .before .before .before .before .before .before .before .before .args .table) in
+    let size = c .before .before .before .before .before .before .before .before .before .before .size-at .ensures .0 in
+    let s = partAt table (l .at) (sizeAt table (l .at)) in
+    let same : now (c .before .before .before .before .before .before .before .before .part .result) ≡ s = rw (c .before .before .before .before .before .before .before .before .part .ensures, size) in
+    let sound : firstRefusal (structureRules (c .before .before .before .before .before .before .before .before .before .before .before .before .before .before .before .before .args .base + l .at) (howMany (byteAt s 0) (l .inv .all)) s) ≡ Sound =
+    rw (sym same) (sym (c .before .before .before .before .before .before .before .check .ensures (l .inv .all) (made-by (l .inv))) ∙ c .before .before .before .before .before .enum-told .given .1) in
+    let kept = all-kept _ _ _ sound in
+    let type : byteAt s 0 ≡ c .before .before .before .before .byte-at .result = rw (sym same) (sym (c .before .before .before .before .byte-at .ensures)) in
+    let room = l .inv .few in omega arith
 
 from-bytes-requires-2 : tie.Need-from-bytes-requires-2 Inv-loop μ-loop
 from-bytes-requires-2 c κs = search needs
@@ -114,9 +132,17 @@ mul-t34 c = search needs
 
 element-set-from-map : tie.Need-element-set-from-map Inv-loop μ-loop
 element-set-from-map c =
-    let l = c .before .before .before .before .before .before .before .before .before .loop in
-    room-eio (now (c .before .before .before .before .before .part .result)) 0 (record { map = l .map; places = l .places; enabled = l .enabled; disabled = l .disabled }) (omega arith)
-    (sym (c .before .before .before .before .number-of .ensures) ∙ c .before .before .before .if2 .left)
+    let l = c .before .before .before .before .before .before .before .before .before .before .loop in
+    let table = now (c .before .before .before .before .before .before .before .before .before .before .before .before .before .before .args .table) in
+    let size = c .before .before .before .before .before .before .before .before .size-at .ensures .0 in
+    let s = partAt table (l .at) (sizeAt table (l .at)) in
+    let same : now (c .before .before .before .before .before .before .part .result) ≡ s = rw (c .before .before .before .before .before .before .part .ensures, size) in
+    let sound : firstRefusal (structureRules (c .before .before .before .before .before .before .before .before .before .before .before .before .before .before .args .base + l .at) (howMany (byteAt s 0) (l .inv .all)) s) ≡ Sound =
+    rw (sym same) (sym (c .before .before .before .before .before .check .ensures (l .inv .all) (made-by (l .inv))) ∙ c .before .before .before .enum-told .given .1) in
+    let kept = all-kept _ _ _ sound in
+    let type : byteAt s 0 ≡ c .before .before .byte-at .result = rw (sym same) (sym (c .before .before .byte-at .ensures)) in
+    let here = type ∙ c .before .match2 .keys3 in
+    eio-room (l .inv) here (room-eio kept here)
 
 mul-places : tie.Need-mul-places Inv-loop μ-loop
 mul-places c = search needs
@@ -138,9 +164,17 @@ mul-t42 c = search needs
 
 element-set-from-map-2 : tie.Need-element-set-from-map-2 Inv-loop μ-loop
 element-set-from-map-2 c =
-    let l = c .before .before .before .before .before .before .before .before .before .loop in
-    room-msi (now (c .before .before .before .before .before .part .result)) 0 (record { map = l .map; places = l .places; enabled = l .enabled; disabled = l .disabled }) (omega arith)
-    (sym (c .before .before .before .before .number-of .ensures) ∙ c .before .before .before .if2 .left)
+    let l = c .before .before .before .before .before .before .before .before .before .before .loop in
+    let table = now (c .before .before .before .before .before .before .before .before .before .before .before .before .before .before .args .table) in
+    let size = c .before .before .before .before .before .before .before .before .size-at .ensures .0 in
+    let s = partAt table (l .at) (sizeAt table (l .at)) in
+    let same : now (c .before .before .before .before .before .before .part .result) ≡ s = rw (c .before .before .before .before .before .before .part .ensures, size) in
+    let sound : firstRefusal (structureRules (c .before .before .before .before .before .before .before .before .before .before .before .before .before .before .args .base + l .at) (howMany (byteAt s 0) (l .inv .all)) s) ≡ Sound =
+    rw (sym same) (sym (c .before .before .before .before .before .check .ensures (l .inv .all) (made-by (l .inv))) ∙ c .before .before .before .enum-told .given .1) in
+    let kept = all-kept _ _ _ sound in
+    let type : byteAt s 0 ≡ c .before .before .byte-at .result = rw (sym same) (sym (c .before .before .byte-at .ensures)) in
+    let here = type ∙ c .before .match2 .keys4 in
+    msi-room (l .inv) here (room-msi kept here)
 
 mul-places-2 : tie.Need-mul-places-2 Inv-loop μ-loop
 mul-places-2 c = search needs
@@ -162,9 +196,17 @@ mul-t50 c = search needs
 
 element-set-from-map-3 : tie.Need-element-set-from-map-3 Inv-loop μ-loop
 element-set-from-map-3 c =
-    let l = c .before .before .before .before .before .before .before .before .before .loop in
-    room-bio (now (c .before .before .before .before .before .part .result)) 0 (record { map = l .map; places = l .places; enabled = l .enabled; disabled = l .disabled }) (omega arith)
-    (sym (c .before .before .before .before .number-of .ensures) ∙ c .before .before .before .if2 .left)
+    let l = c .before .before .before .before .before .before .before .before .before .before .loop in
+    let table = now (c .before .before .before .before .before .before .before .before .before .before .before .before .before .before .args .table) in
+    let size = c .before .before .before .before .before .before .before .before .size-at .ensures .0 in
+    let s = partAt table (l .at) (sizeAt table (l .at)) in
+    let same : now (c .before .before .before .before .before .before .part .result) ≡ s = rw (c .before .before .before .before .before .before .part .ensures, size) in
+    let sound : firstRefusal (structureRules (c .before .before .before .before .before .before .before .before .before .before .before .before .before .before .args .base + l .at) (howMany (byteAt s 0) (l .inv .all)) s) ≡ Sound =
+    rw (sym same) (sym (c .before .before .before .before .before .check .ensures (l .inv .all) (made-by (l .inv))) ∙ c .before .before .before .enum-told .given .1) in
+    let kept = all-kept _ _ _ sound in
+    let type : byteAt s 0 ≡ c .before .before .byte-at .result = rw (sym same) (sym (c .before .before .byte-at .ensures)) in
+    let here = type ∙ c .before .match2 .keys5 in
+    bio-room (l .inv) here (room-bio kept here)
 
 mul-places-3 : tie.Need-mul-places-3 Inv-loop μ-loop
 mul-places-3 c = search needs
@@ -185,34 +227,63 @@ loop-less : tie.Need-loop-less Inv-loop μ-loop
 loop-less c = search needs
 
 loop-again : tie.Need-loop-again Inv-loop μ-loop
-unfolding withCore withLio withEio withMsi withBio withLpc
 loop-again c =
-    let l = c .before .before .before .before .before .before .before .before .loop in
-    let table = now (c .before .before .before .before .before .before .before .before .before .before .before .before .args .table) in
-    let place = c .before .before .before .before .before .before .before .before .before .before .before .before .args .base + l .at in
-    let found : Found = record { map = l .map; places = l .places; enabled = l .enabled; disabled = l .disabled } in
-    let size = c .before .before .before .before .before .before .size-at .ensures .0 in
+    let base = c .before .before .before .before .before .before .before .before .before .before .before .before .before .args .base in
+    let sci = c .before .before .before .before .before .before .before .before .before .before .before .before .before .args .sci in
+    let l = c .before .before .before .before .before .before .before .before .before .loop in
+    let table = now (c .before .before .before .before .before .before .before .before .before .before .before .before .before .args .table) in
+    let size = c .before .before .before .before .before .before .before .size-at .ensures .0 in
     let s = partAt table (l .at) (sizeAt table (l .at)) in
-    let same : now (c .before .before .before .before .part .result) ≡ s = rw (c .before .before .before .before .part .ensures, size) in
-    let kept : numberOf s (l .enabled + l .disabled) (l .map) ≡ 0 = rw (sym same) (sym (c .before .before .before .number-of .ensures) ∙ c .before .before .if2 .left) in
+    let same : now (c .before .before .before .before .before .part .result) ≡ s = rw (c .before .before .before .before .before .part .ensures, size) in
+    let sound : firstRefusal (structureRules (c .before .before .before .before .before .before .before .before .before .before .before .before .before .args .base + l .at) (howMany (byteAt s 0) (l .inv .all)) s) ≡ Sound =
+    rw (sym same) (sym (c .before .before .before .before .check .ensures (l .inv .all) (made-by (l .inv))) ∙ c .before .before .enum-told .given .1) in
+    let kept = all-kept _ _ _ sound in
     let type : byteAt s 0 ≡ c .before .byte-at .result = rw (sym same) (sym (c .before .byte-at .ensures)) in
-    let next : takeOne s place found .found ≡ record { map = c .match .map; places = c .match .places; enabled = c .match .enabled; disabled = c .match .disabled } =
-    ⊎-elim (λ w. found-core s place found (type ∙ w .0 .keys1) kept ∙ yes-if _ _ _ (rw (sym same, sym (w .1 .ensures)) (sym (w .2 .ensures) ∙ w .3 .taken)) ∙ rw (w .4, w .5, w .6, w .7))
-    (⊎-elim (λ w. found-core s place found (type ∙ w .0 .keys1) kept ∙ no-if _ _ _ (rw (sym same, sym (w .1 .ensures)) (sym (w .2 .ensures) ∙ w .3 .left)) refl ∙ rw (w .4, w .5, w .6, w .7))
-    (⊎-elim (λ w. found-lio s place found (type ∙ w .0 .keys2) kept ∙ rw (w .3, w .4, w .5, w .6, w .2 .ensures, w .1 .ensures, same))
-    (⊎-elim (λ w. found-eio s place found (type ∙ w .0 .keys3) kept ∙ rw (w .2, w .3, w .4, w .5, w .1 .ensures, same))
-    (⊎-elim (λ w. found-msi s place found (type ∙ w .0 .keys4) kept ∙ rw (w .2, w .3, w .4, w .5, w .1 .ensures, same))
-    (⊎-elim (λ w. found-bio s place found (type ∙ w .0 .keys5) kept ∙ rw (w .2, w .3, w .4, w .5, w .1 .ensures, same))
-    (⊎-elim (λ w. found-lpc s place found (type ∙ w .0 .keys6) kept ∙ rw (w .2, w .3, w .4, w .5, w .1 .ensures, same))
-    (⊎-elim (λ w. found-ht s place found (type ∙ w .0 .keys7) ∙ rw (w .1, w .2, w .3, w .4))
-    (λ w. found-other s place found (λ h. w .0 .rest .0 .0 .0 .0 .0 .0 .1 (sym type ∙ h)) (λ h. w .0 .rest .0 .0 .0 .0 .0 .1 (sym type ∙ h)) (λ h. w .0 .rest .1 (sym type ∙ h))
-    (λ h. w .0 .rest .0 .0 .0 .0 .1 (sym type ∙ h)) (λ h. w .0 .rest .0 .0 .0 .1 (sym type ∙ h)) (λ h. w .0 .rest .0 .0 .1 (sym type ∙ h)) (λ h. w .0 .rest .0 .1 (sym type ∙ h)) ∙ rw (w .1, w .2, w .3, w .4))))))))) (c .match .came) in (
-      sym (walk-next _ table (l .at) found (λ h. c .before .before .before .before .before .if1 .left (size ∙ h)) (number-taken s place found ∙ kept) next (rw size)) ∙ l .inv .0,
-      subst (λ (f : Found). Few f) next (takes-few s place found (l .inv .1)),
-    )
+    let w = l .inv in
+    let x : Whole = record { at = l .at; bytes = s } in
+    let few = w .few in
+    let next : Next base sci (w .all) x (c .match2 .map) (c .match2 .places) (c .match2 .enabled) (c .match2 .cores) × Few (c .match2 .map) (c .match2 .enabled) (c .match2 .cores) =
+    ⊎-elim (λ v. let t = type ∙ v .0 .keys1 in let free = room-core kept t in let many : l .cores < 256 = rw (w .cores-is, sym t) free in (
+      rw (v .4, v .5, v .6, v .7, w .map-is, w .places-is, w .enabled-is, w .cores-is) (next-enabled base sci (w .all) x t (rw (sym same, sym (v .1 .ensures)) (sym (v .2 .ensures) ∙ v .3 .taken))),
+      rw (v .4, v .6, v .7) (omega arith, omega arith, few .2, few .3, few .4),
+    ))
+    (⊎-elim (λ v. let t = type ∙ v .0 .keys1 in let free = room-core kept t in let many : l .cores < 256 = rw (w .cores-is, sym t) free in (
+      rw (v .4, v .5, v .6, v .7, w .map-is, w .places-is, w .enabled-is, w .cores-is) (next-disabled base sci (w .all) x t (rw (sym same, sym (v .1 .ensures)) (sym (v .2 .ensures) ∙ v .3 .left))),
+      rw (v .4, v .6, v .7) (omega arith, omega arith, few .2, few .3, few .4),
+    ))
+    (⊎-elim (λ v. let t = type ∙ v .0 .keys2 in (
+      rw (v .3, v .4, v .5, v .6, v .2 .ensures, v .1 .ensures, same, w .map-is, w .places-is, w .enabled-is, w .cores-is) (next-lio base sci (w .all) x t (rw (sym t) (room-lio kept t))),
+      rw (v .3, v .5, v .6) few,
+    ))
+    (⊎-elim (λ v. let t = type ∙ v .0 .keys3 in let room = eio-room w t (room-eio kept t) in (
+      rw (v .2, v .3, v .4, v .5, v .1 .ensures, same, w .map-is, w .places-is, w .enabled-is, w .cores-is) (next-eio base sci (w .all) x t (rw (sym t) (room-eio kept t))),
+      rw (v .2, v .4, v .5) (few .0, few .1, omega arith, few .3, few .4),
+    ))
+    (⊎-elim (λ v. let t = type ∙ v .0 .keys4 in let room = msi-room w t (room-msi kept t) in (
+      rw (v .2, v .3, v .4, v .5, v .1 .ensures, same, w .map-is, w .places-is, w .enabled-is, w .cores-is) (next-msi base sci (w .all) x t (rw (sym t) (room-msi kept t))),
+      rw (v .2, v .4, v .5) (few .0, few .1, few .2, omega arith, few .4),
+    ))
+    (⊎-elim (λ v. let t = type ∙ v .0 .keys5 in let room = bio-room w t (room-bio kept t) in (
+      rw (v .2, v .3, v .4, v .5, v .1 .ensures, same, w .map-is, w .places-is, w .enabled-is, w .cores-is) (next-bio base sci (w .all) x t (rw (sym t) (room-bio kept t))),
+      rw (v .2, v .4, v .5) (few .0, few .1, few .2, few .3, omega arith),
+    ))
+    (⊎-elim (λ v. let t = type ∙ v .0 .keys6 in (
+      rw (v .2, v .3, v .4, v .5, v .1 .ensures, same, w .map-is, w .places-is, w .enabled-is, w .cores-is) (next-lpc base sci (w .all) x t (rw (sym t) (room-lpc kept t))),
+      rw (v .2, v .4, v .5) few,
+    ))
+    (⊎-elim (λ v. let t = type ∙ v .0 .keys7 in (
+      rw (v .1, v .2, v .3, v .4, w .map-is, w .places-is, w .enabled-is, w .cores-is) (next-other base sci (w .all) x (λ h. omega arith) (λ h. omega arith) (λ h. omega arith) (λ h. omega arith) (λ h. omega arith) (λ h. omega arith)),
+      rw (v .1, v .3, v .4) few,
+    ))
+    (λ v. (
+      rw (v .1, v .2, v .3, v .4, w .map-is, w .places-is, w .enabled-is, w .cores-is) (next-other base sci (w .all) x (λ h. v .0 .rest .0 .0 .0 .0 .0 .0 .1 (sym type ∙ h)) (λ h. v .0 .rest .0 .0 .0 .0 .0 .1 (sym type ∙ h)) (λ h. v .0 .rest .0 .0 .0 .0 .1 (sym type ∙ h)) (λ h. v .0 .rest .0 .0 .0 .1 (sym type ∙ h)) (λ h. v .0 .rest .0 .0 .1 (sym type ∙ h)) (λ h. v .0 .rest .0 .1 (sym type ∙ h))),
+      rw (v .1, v .3, v .4) few,
+    )))))))))
+    (c .match2 .came) in
+    walk-goes-on w (λ h. c .before .before .before .before .before .before .if1 .left (size ∙ h)) sound (next .0) (next .1) (rw size)
 
 returns-3 : tie.Need-returns-3 Inv-loop μ-loop
-returns-3 c = sym (walk-end _ _ _ _ (c .loop-test .left)) ∙ c .before .loop .inv .0
+returns-3 c = walk-ends (c .before .loop .inv) (c .loop-test .left)
 
 pub walk-table-spec : {M : Type 1} → statement M
 walk-table-spec =
@@ -226,20 +297,20 @@ walk-table-spec =
     cast-place
     add-place
     size-at-requires
+    refuse-requires
     turn-away-requires
     returns
     part-requires
-    cast-number-of
-    cast-number-of-2
-    add-number-of
-    number-of-requires
+    check-requires
+    enum-known-refusal
     turn-away-requires-2
     returns-2
+    enum-told
     byte-at-requires
+    add-cores
     from-bytes-requires
     is-enabled-requires
     add-enabled
-    add-disabled
     from-bytes-requires-2
     said-lio-requires
     cast-n

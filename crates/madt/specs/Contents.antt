@@ -1,0 +1,80 @@
+-- Document 01, "What comes back": "The map holds the used fields of LIO, EIO, BIO, MSI and LPC, in table order, and the SCI
+-- number, but no places, addresses or register sizes; its unused places, an unused half's byte among them, hold 0". Here: what
+-- some whole structures of a MADT make, and where they stand.
+use Prim.Native.Nat.{ℕ, _+_}
+use mathlib.Core.List.{List, [], _∷_, map}
+use mathlib.Core.Path.{_≡_}
+use lib.ListN.{length, getD}
+use Rattle.words.specs.Lists.{those}
+use Rattle.kinds.specs.Makers.{coreOf, isEnabled, lioOf, eioOf, msiOf, bioOf, lpcOf}
+use Rattle.kinds.specs.Used.{noLio, noEio, noBio, noMsi, noLpc, saidLio}
+use Rattle.lines.specs.declared.Map.{Map}
+use Rattle.lines.specs.declared.Places.{Places}
+use Rattle.madt.specs.Pieces.{Whole}
+use Rattle.madt.specs.Rules.{isType}
+use Rattle.madt.specs.declared.Found.{Found}
+
+-- ---- the structures of one type, "in table order"
+unfoldable pub ofType : ℕ → List Whole → List Whole
+ofType number all = those (λ x. isType number (x .bytes)) all
+
+-- how many there are
+abbrev pub howMany : ℕ → List Whole → ℕ
+howMany number all = length (ofType number all)
+
+-- what each of them makes of its own bytes
+unfoldable pub made : {A : Type 0} → ℕ → (List ℕ → A) → List Whole → List A
+made number maker all = map (λ x. maker (x .bytes)) (ofType number all)
+
+-- where each of them stands in the capture; the MADT stands at `base`
+unfoldable pub standing : ℕ → ℕ → List Whole → List ℕ
+standing number base all = map (λ x. base + x .at) (ofType number all)
+
+-- ---- a kind of which there is one at most, and a kind with four places; an unused place holds `none`
+abbrev pub theOne : {A : Type 0} → A → List A → A
+theOne none xs = getD xs 0 none
+
+abbrev pub inFour : {A : Type 0} → A → List A → List A
+inFour none xs = getD xs 0 none ∷ getD xs 1 none ∷ getD xs 2 none ∷ getD xs 3 none ∷ []
+
+-- ---- the map of some structures, with an SCI number
+unfoldable pub mapOf : ℕ → List Whole → Map
+mapOf sci all =
+    record {
+      lio = theOne noLio (made 18 (λ s. saidLio (lioOf s)) all);
+      eiocount = howMany 20 all;
+      eios = inFour noEio (made 20 eioOf all);
+      biocount = howMany 22 all;
+      bios = inFour noBio (made 22 bioOf all);
+      msicount = howMany 21 all;
+      msis = inFour noMsi (made 21 msiOf all);
+      lpc = theOne noLpc (made 23 lpcOf all);
+      sci = sci;
+    }
+
+-- their places
+unfoldable pub placesOf : ℕ → List Whole → Places
+placesOf base all =
+    record {
+      lio = theOne 0 (standing 18 base all);
+      eios = inFour 0 (standing 20 base all);
+      bios = inFour 0 (standing 22 base all);
+      msis = inFour 0 (standing 21 base all);
+      lpc = theOne 0 (standing 23 base all);
+    }
+
+-- so many CORE and a map are what some structures make
+abbrev pub MadeBy : List Whole → ℕ → Map → Type 0
+MadeBy all cores map = (cores ≡ howMany 17 all) × (map ≡ mapOf (map .sci) all)
+
+-- how many CORE are enabled
+unfoldable pub enabledIn : List Whole → ℕ
+enabledIn all = length (those isEnabled (made 17 coreOf all))
+
+-- all of it
+unfoldable pub foundIn : ℕ → ℕ → List Whole → Found
+foundIn base sci all = record { map = mapOf sci all; places = placesOf base all; enabled = enabledIn all }
+
+-- nothing found: the empty map
+abbrev pub nothing : ℕ → Found
+nothing sci = foundIn 0 sci []
