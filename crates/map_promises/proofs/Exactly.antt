@@ -13,14 +13,12 @@ use Rattle.clashes.specs.declared.Run.{Run}
 use Rattle.clashes.specs.declared.Claim.{Claim}
 use Rattle.clashes.proofs.Logic.{and-left, and-right, or-cases}
 use Rattle.clashes.proofs.Symmetric.{core-of, of-core}
-use Rattle.parts.specs.Inputs.{hasBit, wired}
-use Rattle.parts.proofs.Inputs.{bit-small}
 use Rattle.lines.specs.Says.{Said}
 use Rattle.lines.specs.Rules.{rangesKept, slotPlaces}
 use Rattle.map_promises.specs.Sources.{Source, input, pin, slot, bioAt, msiAt, IsSource, HasNumber, LandsOn}
 use Rattle.map_promises.specs.Structures.{Structure, lio, eio, bio, msi, IsIn, claimOf, Meet, Enters, TwoNumber, TwoVector, TwoCore, Shared}
 use Rattle.map_promises.proofs.Hubs.{Hub}
-use Rattle.map_promises.proofs.Logic.{neq, order}
+use Rattle.map_promises.proofs.Logic.{neq, order, wired-small}
 use Rattle.map_promises.proofs.Ranged.{eio-fits, bio-fits, msi-fits, low-used, high-used}
 
 -- what two runs that meet say
@@ -61,16 +59,11 @@ module _ (said : Said) (ranged : rangesKept said ≡ true) where
   bio-not-msi : (i j : ℕ) → bio i ≡ msi j → ⊥
   bio-not-msi i j e = let z : _≡_ {A = ℕ} 0 1 = cc in omega arith
 
-  input-small : (i : ℕ) → wired (said .lio) i ≡ true → i < 32
-  input-small i h =
-      ⊎-elim (bit-small (said .lio .low .mask) i) (bit-small (said .lio .high .mask) i)
-      (or-cases (hasBit (said .lio .low .mask) i) (hasBit (said .lio .high .mask) i) h)
-
   number-meet : (x y : Source) → IsSource said x → IsSource said y → (x ≡ y → ⊥) → (g : ℕ) → HasNumber said x g → HasNumber said y g → Meet said 51
   unfolding clash if
   number-meet (input i) (input j) p q n g u v = absurd (n (ap input (omega arith)))
-  number-meet (input i) (pin j w) p q n g u v = absurd (let f = bio-fits said ranged j (q .0) in omega (arith, input-small i p))
-  number-meet (pin j w) (input i) p q n g u v = absurd (let f = bio-fits said ranged j (p .0) in omega (arith, input-small i q))
+  number-meet (input i) (pin j w) p q n g u v = absurd (let f = bio-fits said ranged j (q .0) in omega (arith, wired-small (said .lio) i p))
+  number-meet (pin j w) (input i) p q n g u v = absurd (let f = bio-fits said ranged j (p .0) in omega (arith, wired-small (said .lio) i q))
   number-meet (input i) (slot k s e) p q n g u v = absurd v
   number-meet (pin j w) (slot k s e) p q n g u v = absurd v
   number-meet (slot k s e) y p q n g u v = absurd u

@@ -7,10 +7,11 @@ pub mod Hubs
 pub mod Slots
 pub mod Kept
 pub mod NoTwoAlike
+pub mod Bridges
+pub mod Routing
 pub mod Tracing
 pub mod Exactly
 pub mod ClashExactly
-pub mod Bridges
 pub mod ThereAndBack
 pub mod SameAnswers
 pub mod Places

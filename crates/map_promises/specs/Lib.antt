@@ -1,4 +1,5 @@
 pub mod Sources
 pub mod Structures
 pub mod Statements
+pub mod Routing
 pub mod Walks
