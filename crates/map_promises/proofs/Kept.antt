@@ -24,10 +24,10 @@ use Rattle.lines.specs.declared.Bridge.{Bridge}
 use Rattle.lines.specs.declared.Bridge.the-variants.{Is, None}
 use Rattle.lines.proofs.Counts.{counts, few-of-kept}
 use Rattle.map_promises.specs.Sources.{eioAt, bioAt, msiAt}
-use Rattle.map_promises.specs.Structures.{lio, eio, bio, msi, claimOf, Meet}
+use Rattle.map_promises.specs.Structures.{lio, eio, bio, msi, claimOf}
 use Rattle.map_promises.proofs.Hubs.{Hub, bio-hub}
 use Rattle.map_promises.proofs.Logic.{order}
-use Rattle.map_promises.proofs.Meetings.{no-meet}
+use Rattle.map_promises.proofs.Meetings.{Apart, no-clash}
 use Rattle.map_promises.proofs.Ranged.{eio-fits}
 use Rattle.map_promises.proofs.Slots.{slots-placed}
 use Rattle.map_promises.proofs.Verdicts.{check-kept, alone-kept, both-kept, spotted-kept, both-of-kept, each-kept, kept-yes}
@@ -36,12 +36,12 @@ use Rattle.map_promises.proofs.Verdicts.{check-kept, alone-kept, both-k
 pub record Good (said : Said) : Type 0 where
   pub ranged : rangesKept said ≡ true
   pub masks : bitAnd (said .lio .low .mask) (said .lio .high .mask) ≡ 0
-  pub no41 : Meet said 41 → ⊥
+  pub no41 : Apart said 41
   pub hub : (j : ℕ) → j < length (said .bios) → Hub said j
   pub behind : said .lpc .present ≡ true → (b : Bio) × (bridge (said .bios) ≡ Is b)
-  pub no51 : Meet said 51 → ⊥
-  pub no52 : Meet said 52 → ⊥
-  pub no53 : Meet said 53 → ⊥
+  pub no51 : Apart said 51
+  pub no52 : Apart said 52
+  pub no53 : Apart said 53
 
 -- an LPC that does not lack a bridge has one
 behind-bridge : (present : Bool) (b : Bridge) → noBridge present b ≡ false → present ≡ true → (x : Bio) × (b ≡ Is x)
@@ -63,12 +63,12 @@ good map h =
     record {
       ranged = ranged;
       masks = eqb-true _ 0 (not-false (eqb (bitAnd (said .lio .low .mask) (said .lio .high .mask)) 0) apart);
-      no41 = no-meet said slotPlaces ok 41 (alone-kept 41 (firstClash 41 (claims said slotPlaces)) (f 1));
+      no41 = no-clash said slotPlaces ok 41 (alone-kept 41 (firstClash 41 (claims said slotPlaces)) (f 1));
       hub = bio-hub said ranged slotPlaces ok (spotted-kept 42 (firstLone (claims said slotPlaces)) (f 2));
       behind = behind-bridge (said .lpc .present) (bridge (said .bios)) (check-kept 43 (noBridge (said .lpc .present) (bridge (said .bios))) 14 (f 3));
-      no51 = no-meet said slotPlaces ok 51 (both-kept 51 (firstClash 51 (claims said slotPlaces)) (f 4));
-      no52 = no-meet said slotPlaces ok 52 (both-kept 52 (firstClash 52 (claims said slotPlaces)) (f 5));
-      no53 = no-meet said slotPlaces ok 53 (both-kept 53 (firstClash 53 (claims said slotPlaces)) (f 6));
+      no51 = no-clash said slotPlaces ok 51 (both-kept 51 (firstClash 51 (claims said slotPlaces)) (f 4));
+      no52 = no-clash said slotPlaces ok 52 (both-kept 52 (firstClash 52 (claims said slotPlaces)) (f 5));
+      no53 = no-clash said slotPlaces ok 53 (both-kept 53 (firstClash 53 (claims said slotPlaces)) (f 6));
     }
 
 -- two numbers that cannot differ are equal
@@ -86,63 +86,40 @@ module _ (said : Said) (g : Good said) where
   eio-node i j hi hj e =
       let small = eio-fits said (g .ranged) i hi .1 in
       same i j
-      (λ n. g .no41 (
-        eio i,
-        eio j,
-        hi,
-        hj,
-        (λ q. n cc),
-        both-true (not (eqb (eioAt said i .node) noNode)) (eqb (eioAt said i .node) (eioAt said j .node))
-            (rw (ne-eqb (eioAt said i .node) noNode (omega arith))) (eq-eqb _ _ e),
-      ))
+      (λ n. g .no41 (eio i) (eio j) hi hj (λ q. n cc)
+      (both-true (not (eqb (eioAt said i .node) noNode)) (eqb (eioAt said i .node) (eioAt said j .node))
+      (rw (ne-eqb (eioAt said i .node) noNode (omega arith))) (eq-eqb _ _ e)))
 
   -- 53: two EIO of one cascade are one
   pub eio-core : (i j : ℕ) → i < length (said .eios) → j < length (said .eios) → eioAt said i .cascade ≡ eioAt said j .cascade → i ≡ j
   unfolding clash if
   eio-core i j hi hj e =
       same i j
-      (λ n. g .no53 (
-        eio i,
-        eio j,
-        hi,
-        hj,
-        (λ q. n cc),
-        core-of (claimOf said slotPlaces (eio i)) (claimOf said slotPlaces (eio j)) (eioAt said i .cascade)
-            (nonzero (eioAt said i .cascade) (eio-fits said (g .ranged) i hi .0)) (inl refl) (inl e),
-      ))
+      (λ n. g .no53 (eio i) (eio j) hi hj (λ q. n cc)
+      (core-of (claimOf said slotPlaces (eio i)) (claimOf said slotPlaces (eio j)) (eioAt said i .cascade)
+      (nonzero (eioAt said i .cascade) (eio-fits said (g .ranged) i hi .0)) (inl refl) (inl e)))
 
   -- 53: no EIO enters by the cascade of a LIO half
   pub eio-not-low : (e : ℕ) → e < length (said .eios) → eioAt said e .cascade ≡ said .lio .low .cascade → ⊥
   unfolding clash if
   eio-not-low e k q =
-      g .no53 (
-        eio e,
-        lio,
-        k,
-        omega arith,
-        (λ z. let o : _≡_ {A = ℕ} 0 1 = cc in omega arith),
-        core-of (claimOf said slotPlaces (eio e)) (claimOf said slotPlaces lio) (eioAt said e .cascade)
-            (nonzero (eioAt said e .cascade) (eio-fits said (g .ranged) e k .0)) (inl refl) (inl q),
-      )
+      g .no53 (eio e) lio k (omega arith) (λ z. let o : _≡_ {A = ℕ} 0 1 = cc in omega arith)
+      (core-of (claimOf said slotPlaces (eio e)) (claimOf said slotPlaces lio) (eioAt said e .cascade)
+      (nonzero (eioAt said e .cascade) (eio-fits said (g .ranged) e k .0)) (inl refl) (inl q))
 
   pub eio-not-high : (e : ℕ) → e < length (said .eios) → eioAt said e .cascade ≡ said .lio .high .cascade → ⊥
   unfolding clash if
   eio-not-high e k q =
-      g .no53 (
-        eio e,
-        lio,
-        k,
-        omega arith,
-        (λ z. let o : _≡_ {A = ℕ} 0 1 = cc in omega arith),
-        core-of (claimOf said slotPlaces (eio e)) (claimOf said slotPlaces lio) (eioAt said e .cascade)
-            (nonzero (eioAt said e .cascade) (eio-fits said (g .ranged) e k .0)) (inl refl) (inr q),
-      )
+      g .no53 (eio e) lio k (omega arith) (λ z. let o : _≡_ {A = ℕ} 0 1 = cc in omega arith)
+      (core-of (claimOf said slotPlaces (eio e)) (claimOf said slotPlaces lio) (eioAt said e .cascade)
+      (nonzero (eioAt said e .cascade) (eio-fits said (g .ranged) e k .0)) (inl refl) (inr q))
 
   -- 52: two bridges of one node are one
   pub bio-node : (i j : ℕ) → i < length (said .bios) → j < length (said .bios) → bioAt said i .node ≡ bioAt said j .node → i ≡ j
   unfolding clash if
   bio-node i j hi hj e =
-      same i j (λ n. g .no52 (bio i, bio j, hi, hj, (λ q. n cc), rw (eq-eqb (bioAt said i .node) (bioAt said j .node) e)))
+      same i j (λ n. g .no52 (bio i) (bio j) hi hj (λ q. n cc)
+      (rw (eq-eqb (bioAt said i .node) (bioAt said j .node) e)))
 
   -- 51: two bridges that own one global number are one
   pub bio-number : (i j n : ℕ) → i < length (said .bios) → j < length (said .bios)
@@ -150,14 +127,8 @@ module _ (said : Said) (g : Good said) where
   unfolding clash if
   bio-number i j n hi hj a b c d =
       same i j
-      (λ z. g .no51 (
-        bio i,
-        bio j,
-        hi,
-        hj,
-        (λ q. z cc),
-        rw (lt-ltb (bioAt said i .base) (bioAt said j .base + 64) (omega arith), lt-ltb (bioAt said j .base) (bioAt said i .base + 64) (omega arith)),
-      ))
+      (λ z. g .no51 (bio i) (bio j) hi hj (λ q. z cc)
+      (rw (lt-ltb (bioAt said i .base) (bioAt said j .base + 64) (omega arith), lt-ltb (bioAt said j .base) (bioAt said i .base + 64) (omega arith))))
 
   -- 52: two MSI that have one slot are one
   pub msi-slot : (i j s : ℕ) → i < length (said .msis) → j < length (said .msis)
@@ -166,28 +137,16 @@ module _ (said : Said) (g : Good said) where
   unfolding clash if
   msi-slot i j s hi hj a b c d =
       same i j
-      (λ z. g .no52 (
-        msi i,
-        msi j,
-        hi,
-        hj,
-        (λ q. z cc),
-        rw (
-          lt-ltb (msiAt said i .start) (msiAt said j .start + msiAt said j .count) (omega arith),
-          lt-ltb (msiAt said j .start) (msiAt said i .start + msiAt said i .count) (omega arith),
-        ),
-      ))
+      (λ z. g .no52 (msi i) (msi j) hi hj (λ q. z cc)
+      (rw (
+        lt-ltb (msiAt said i .start) (msiAt said j .start + msiAt said j .count) (omega arith),
+        lt-ltb (msiAt said j .start) (msiAt said i .start + msiAt said i .count) (omega arith),
+      )))
 
   -- 52: no slot is a pin's extended vector
   pub bio-msi : (j m s : ℕ) → j < length (said .bios) → m < length (said .msis)
       → s < 64 → msiAt said m .start ≤ s → s < msiAt said m .start + msiAt said m .count → ⊥
   unfolding clash if
   bio-msi j m s hj hm a b c =
-      g .no52 (
-        bio j,
-        msi m,
-        hj,
-        hm,
-        (λ z. let o : _≡_ {A = ℕ} 0 1 = cc in omega arith),
-        rw (or-true, lt-ltb 0 (msiAt said m .start + msiAt said m .count) (omega arith), lt-ltb (msiAt said m .start) 64 (omega arith)),
-      )
+      g .no52 (bio j) (msi m) hj hm (λ z. let o : _≡_ {A = ℕ} 0 1 = cc in omega arith)
+      (rw (or-true, lt-ltb 0 (msiAt said m .start + msiAt said m .count) (omega arith), lt-ltb (msiAt said m .start) 64 (omega arith)))

@@ -1,5 +1,6 @@
 pub mod Logic
 pub mod Members
+pub mod SearchNames
 pub mod Meetings
 pub mod Ranged
 pub mod Verdicts
@@ -10,12 +11,11 @@ pub mod NoTwoAlike
 pub mod Bridges
 pub mod Routing
 pub mod Tracing
-pub mod Exactly
-pub mod ClashExactly
+pub mod Sharing
+pub mod Clashing
 pub mod ThereAndBack
 pub mod SameAnswers
 pub mod Places
-pub mod SearchNames
 pub mod RefusedExactly
 pub mod CodesApart
 pub mod Shelves

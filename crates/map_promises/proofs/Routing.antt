@@ -3,7 +3,7 @@
 use Prim.Native.Nat.{ℕ, _+_, _-_, _<_, _≤_}
 use native.Mathlib.Nat.{add-sub-cancel-left}
 use native.Mathlib.Omega.{arith}
-use mathlib.Core.Path.{_≡_, refl, sym, _∙_, ap}
+use mathlib.Core.Path.{_≡_, sym, _∙_, ap}
 use mathlib.Core.Logic.{_⊎_, inl, inr, ⊎-elim}
 use mathlib.Core.Bool.{true, false}
 use borrow.Author.Tests.{leb-true, ltb-true, le-leb, lt-ltb, le-ltb}
@@ -23,7 +23,7 @@ use Rattle.lines.specs.declared.Owner.the-variants.{LpcInput, LioInput, BioInpu
 use Rattle.lines.specs.declared.Route.{Route}
 use Rattle.lines.specs.declared.Route.the-variants.{Arrives, NoOwner, Unwired}
 use Rattle.madt.specs.Adding.{noBio}
-use Rattle.map_promises.specs.Sources.{Source, input, pin, slot, bioAt, IsSource, HasNumber, arrives}
+use Rattle.map_promises.specs.Sources.{input, pin, slot, bioAt}
 use Rattle.map_promises.specs.Routing.{IsSourced, IsUnwired, IsLpcLine, Rest, RouteIsSources, UnwiredExactly, NoOwnerExactly}
 use Rattle.map_promises.proofs.Bridges.{bridge-one}
 use Rattle.map_promises.proofs.Kept.{Good, good, bio-number}
