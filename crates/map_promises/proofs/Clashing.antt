@@ -3,19 +3,13 @@ use Prim.Native.Nat.{ℕ, _<_}
 use native.Mathlib.Omega.{arith}
 use mathlib.Core.Path.{_≡_, refl, sym, _∙_}
 use mathlib.Core.List.{List}
-use mathlib.Core.Bool.{Bool, true, false, not, _||_}
-use borrow.Author.Tests.{eqb-false}
-use lib.Dec.{eqb}
-use lib.ListN.{length, getD}
+use mathlib.Core.Bool.{true, false}
+use lib.ListN.{getD}
 use Rattle.words.specs.Choice.{if}
 use Rattle.words.specs.Refusals.{refused}
-use Rattle.kinds.specs.Used.{noHalf, usedHalf, saidLio}
-use Rattle.kinds.specs.declared.Half.{Half}
-use Rattle.kinds.specs.declared.Lio.{Lio}
 use Rattle.clashes.specs.Search.{firstClash, firstLone}
 use Rattle.clashes.specs.declared.Claim.{Claim}
 use Rattle.clashes.specs.declared.Pair.the-variants.{Two, None}
-use Rattle.clashes.proofs.Logic.{or-neither}
 use Rattle.lines.specs.Says.{Said, says}
 use Rattle.lines.specs.Claims.{claims}
 use Rattle.lines.specs.Rules.{tooMany, alone, both, spotted, rangesKept, rule54, ruleClash, orElse, lowest, verdictsFrom40, firstBroken}
@@ -28,30 +22,8 @@ use Rattle.map_promises.specs.Clashing.{ShareNode, ShareNumber, ShareVec
 use Rattle.map_promises.proofs.Hubs.{bio-hub, names-lone, finds-lone}
 use Rattle.map_promises.proofs.Meetings.{Agrees, names, sharing, no-sharing, finds-two, finds-nothing}
 use Rattle.map_promises.proofs.Sharing.{node-agrees, number-agrees, vector-agrees, core-agrees, number-sharing, sharing-number, vector-sharing, sharing-vector}
-use Rattle.map_promises.proofs.Verdicts.{check-kept, kept-check, alone-kept, both-kept, spotted-kept, alone-told, both-told, spotted-told, position, told-at}
-
--- an unused half says 0
-half-said : (half : Half) → usedHalf half .mask ≡ 0 → usedHalf half .cascade ≡ 0
-unfolding usedHalf if
-half-said half = go (eqb (half .mask) 0) refl
-  where
-    go : (b : Bool) → eqb (half .mask) 0 ≡ b → (if {A = Half} b noHalf half) .mask ≡ 0 → (if {A = Half} b noHalf half) .cascade ≡ 0
-    go true e h = refl
-    go false e h = absurd (eqb-false (half .mask) 0 e h)
-
-lio-said : (lio : Lio)
-    → (saidLio lio .low .mask ≡ 0 → saidLio lio .low .cascade ≡ 0) × (saidLio lio .high .mask ≡ 0 → saidLio lio .high .cascade ≡ 0)
-unfolding saidLio if
-lio-said lio = go (lio .present)
-  where
-    said : Bool → Lio
-    said b =
-        if {A = Lio} b (record { present = true; low = usedHalf (lio .low); high = usedHalf (lio .high) })
-        (record { present = false; low = noHalf; high = noHalf })
-
-    go : (b : Bool) → (said b .low .mask ≡ 0 → said b .low .cascade ≡ 0) × (said b .high .mask ≡ 0 → said b .high .cascade ≡ 0)
-    go true = (half-said (lio .low), half-said (lio .high))
-    go false = ((λ z. refl), (λ z. refl))
+use Rattle.map_promises.proofs.Unused.{lio-said}
+use Rattle.map_promises.proofs.Verdicts.{eio-there, kept-check, alone-kept, both-kept, spotted-kept, alone-told, both-told, spotted-told, position, told-at}
 
 module _ (map : Map) (places : Places) (madt fadt : ℕ) where
   abbrev said : Said
@@ -112,17 +84,11 @@ module _ (map : Map) (places : Places) (madt fadt : ℕ) where
       abbrev ranged : rangesKept said ≡ true
       ranged = h .to40 .r36
 
-      some-eio : length (said .eios) ≡ 0 → ⊥
-      some-eio =
-          let bad = not (said .lio .present) || eqb (length (said .eios)) 0 in
-          eqb-false (length (said .eios)) 0
-          (or-neither (not (said .lio .present)) (eqb (length (said .eios)) 0) (check-kept 40 bad madt (h .to40 .r40)) .1)
-
       numbers : Agrees said 51 (ShareNumber said)
       numbers = number-agrees said ranged
 
       vectors : Agrees said 52 (ShareVector said)
-      vectors = vector-agrees said ranged some-eio (bio-hub said ranged places ok (spotted-kept 42 (firstLone all) (h .r42)))
+      vectors = vector-agrees said ranged (eio-there said madt (h .to40 .r40)) (bio-hub said ranged places ok (spotted-kept 42 (firstLone all) (h .r42)))
 
       cores : Agrees said 53 (ShareCore said)
       cores = core-agrees said ranged (lio-said (map .lio) .0) (lio-said (map .lio) .1)

@@ -6,12 +6,13 @@ pub mod Ranged
 pub mod Verdicts
 pub mod Hubs
 pub mod Slots
+pub mod Unused
+pub mod Sharing
 pub mod Kept
 pub mod NoTwoAlike
 pub mod Bridges
 pub mod Routing
 pub mod Tracing
-pub mod Sharing
 pub mod Clashing
 pub mod ThereAndBack
 pub mod SameAnswers
@@ -21,7 +22,6 @@ pub mod CodesApart
 pub mod Shelves
 pub mod Books
 pub mod InOrder
-pub mod Unused
 pub mod Takings
 pub mod WalkKeepsBooks
 pub mod NormalMapsEqual

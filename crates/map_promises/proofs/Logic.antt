@@ -43,6 +43,14 @@ both-bits a b i z p q =
     let w : _≡_ {A = ℕ} 0 1 = rw (z, zero-div) at e in
     omega arith
 
+-- a mask with a bit is in use
+pub bit-used : (mask i : ℕ) → hasBit mask i ≡ true → mask ≡ 0 → ⊥
+unfolding hasBit
+bit-used mask i h z =
+    let x : mask / 2 ^ i % 2 ≡ 1 = eqb-true _ _ (and-right (ltb i 32) (eqb (mask / 2 ^ i % 2) 1) h) in
+    let w : _≡_ {A = ℕ} 0 1 = rw (z, zero-div) at x in
+    omega arith
+
 -- a wired input is one of 32
 pub wired-small : (lio : Lio) (i : ℕ) → wired lio i ≡ true → i < 32
 wired-small lio i h =

@@ -24,8 +24,8 @@ use Rattle.madt.specs.Adding.{noEio, noBio, noMsi}
 use Rattle.map_promises.specs.Sources.{Source, input, pin, slot, eioAt, bioAt, msiAt, IsSource, arrives, isShared, name}
 use Rattle.map_promises.specs.Statements.{TracingNames, Arrived, NothingExactly}
 use Rattle.map_promises.proofs.Bridges.{pin-told}
-use Rattle.map_promises.proofs.Kept.{Good, good, eio-node, eio-core, eio-not-low, eio-not-high, bio-node, bio-number, bio-msi, msi-slot}
-use Rattle.map_promises.proofs.Logic.{is-bool, both-bits}
+use Rattle.map_promises.proofs.Kept.{Good, good, eio-node, eio-core, eio-not-lio, bio-node, bio-number, bio-msi, msi-slot}
+use Rattle.map_promises.proofs.Logic.{is-bool, both-bits, bit-used}
 use Rattle.map_promises.proofs.Members.{finds, finds-none, found-or-not}
 use Rattle.map_promises.proofs.NoTwoAlike.{input-at, through-at, pin-at}
 
@@ -43,10 +43,11 @@ module _ (said : Said) (g : Good said) where
       let high = said .lio .high in
       is-false (leads low v k || leads high v k)
       (λ t.
-      ⊎-elim
-      (λ r. eio-not-low said g e l (sym (eqb-true (low .cascade) v (and-left (eqb (low .cascade) v) (hasBit (low .mask) k) r))))
-      (λ r. eio-not-high said g e l (sym (eqb-true (high .cascade) v (and-left (eqb (high .cascade) v) (hasBit (high .mask) k) r))))
-      (or-cases (leads low v k) (leads high v k) t))
+      eio-not-lio said g e l
+      (⊎-elim
+      (λ r. inl (bit-used (low .mask) k (and-right (eqb (low .cascade) v) (hasBit (low .mask) k) r), eqb-true (low .cascade) v (and-left (eqb (low .cascade) v) (hasBit (low .mask) k) r)))
+      (λ r. inr (bit-used (high .mask) k (and-right (eqb (high .cascade) v) (hasBit (high .mask) k) r), eqb-true (high .cascade) v (and-left (eqb (high .cascade) v) (hasBit (high .mask) k) r)))
+      (or-cases (leads low v k) (leads high v k) t)))
 
   -- what enters by the EIO at a place landed on it
   eio-at : (e k : ℕ) → e < length (said .eios) → eioTraced said (eioAt said e .cascade) k ≡ landed said (eioAt said e .node) k

@@ -3,10 +3,11 @@ use Prim.Native.Nat.{ℕ, zero, suc, _-_, _<_}
 use native.Mathlib.Nat.{le-of-suc-le-suc, not-suc-le-zero}
 use native.Mathlib.Omega.{arith}
 use mathlib.Core.Path.{_≡_, refl, sym, ap, ap₂}
-use mathlib.Core.Bool.{Bool, true, false, true≢false}
+use mathlib.Core.Bool.{Bool, true, false, not, _||_, true≢false}
 use mathlib.Core.List.{List, [], _∷_}
-use lib.Dec.{ltb}
-use lib.ListN.{getD}
+use borrow.Author.Tests.{eqb-false}
+use lib.Dec.{eqb, ltb}
+use lib.ListN.{length, getD}
 use Rattle.words.specs.Choice.{if}
 use Rattle.words.specs.Refusals.{refused}
 use Rattle.words.specs.declared.Refusal.{Refusal}
@@ -14,8 +15,9 @@ use Rattle.clashes.specs.declared.Spot.{Spot}
 use Rattle.clashes.specs.declared.Spot.the-variants.{At, Nowhere}
 use Rattle.clashes.specs.declared.Pair.{Pair}
 use Rattle.clashes.specs.declared.Pair.the-variants.{Two, None}
+use Rattle.clashes.proofs.Logic.{or-neither}
 use Rattle.lines.specs.Says.{Said}
-use Rattle.lines.specs.Rules.{check, alone, both, spotted, orElse, lowest, verdictsFrom40, isKept}
+use Rattle.lines.specs.Rules.{check, alone, both, spotted, rule40, orElse, lowest, verdictsFrom40, isKept}
 use Rattle.lines.specs.declared.Places.{Places}
 use Rattle.lines.specs.declared.Verdict.{Verdict}
 use Rattle.lines.specs.declared.Verdict.the-variants.{Kept, Broken}
@@ -58,6 +60,13 @@ none-both n c h = rw h
 pub nowhere-spotted : (n : ℕ) (s : Spot) → s ≡ Nowhere → spotted n s ≡ Kept
 unfolding spotted
 nowhere-spotted n s h = rw h
+
+-- 40: there is an EIO
+pub eio-there : (said : Said) (madt : ℕ) → rule40 said madt ≡ Kept → length (said .eios) ≡ 0 → ⊥
+eio-there said madt h =
+    let absent = not (said .lio .present) in
+    let none = eqb (length (said .eios)) 0 in
+    eqb-false (length (said .eios)) 0 (or-neither absent none (check-kept 40 (absent || none) madt h) .1)
 
 pub both-of-kept : (v w : Verdict) → orElse v w ≡ Kept → (v ≡ Kept) × (w ≡ Kept)
 unfolding orElse
