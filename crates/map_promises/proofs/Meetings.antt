@@ -30,10 +30,6 @@ use Rattle.map_promises.proofs.SearchNames.{FirstClash, search-names}
 abbrev pub Clash : Said → ℕ → Structure → Structure → Type 0
 Clash said rule s t = clash rule (claimOf said slotPlaces s) (claimOf said slotPlaces t) ≡ true
 
--- no two different structures of the map do
-abbrev pub Apart : Said → ℕ → Type 0
-Apart said rule = (s t : Structure) → IsIn said s → IsIn said t → (s ≡ t → ⊥) → Clash said rule s t → ⊥
-
 -- a claim but for its place
 abbrev unplaced : Claim → Claim
 unplaced x =
@@ -128,8 +124,7 @@ module _ (said : Said) (p : Places) (ok : Placed said p) (rule : ℕ) where
       (sym e
       ∙ clear rule (claims said p) h (claimOf said p s) (claimOf said p t) (member said p ok s ks) (member said p ok t kt))
 
-  -- a search that finds nothing
-  pub no-clash : firstClash rule (claims said p) ≡ None → Apart said rule
+  no-clash : firstClash rule (claims said p) ≡ None → (s t : Structure) → IsIn said s → IsIn said t → (s ≡ t → ⊥) → Clash said rule s t → ⊥
   no-clash h s t ks kt n w =
       let c : clash rule (claimOf said p s) (claimOf said p t) ≡ true = clash-anywhere said rule p slotPlaces s t ∙ w in
       ⊎-elim
@@ -143,6 +138,7 @@ pub record Agrees (said : Said) (rule : ℕ) (Share : Structure → Structure �
   pub shares : (s t : Structure) → IsIn said s → IsIn said t → Clash said rule s t → Share s t
   pub clashes : (s t : Structure) → IsIn said s → IsIn said t → (s ≡ t → ⊥) → Share s t → Clash said rule s t
 
+-- the clash itself is such
 pub itself : (said : Said) (rule : ℕ) → Agrees said rule (Clash said rule)
 itself said rule = record { shares = λ s t ks kt c. c; clashes = λ s t ks kt n c. c }
 
