@@ -18,7 +18,8 @@ use Rattle.lines.specs.declared.Places.{Places}
 use Rattle.lines.specs.declared.Verdict.{Verdict as Rules}
 use Rattle.lines.specs.declared.Verdict.the-variants.{Kept, Broken}
 use Rattle.processors.specs.Listing.{count}
-use Rattle.map_promises.specs.Clashing.{ShareNode, ShareNumber, ShareVector, ShareCore, NamesLone, KeepsTo40, KeepsTo43, RefusedWith, Exactly}
+use Rattle.map_promises.specs.Structures.{Structure, Placed}
+use Rattle.map_promises.specs.Clashing.{ShareNode, ShareNumber, ShareVector, ShareCore, Names, NamesLone, KeepsTo40, KeepsTo43, RefusedWith, Exactly}
 use Rattle.map_promises.specs.Walks.{WellKept}
 use Rattle.map_promises.proofs.Clashing.{node-exactly, lone-exactly, number-exactly, vector-exactly, core-exactly}
 use Rattle.map_promises.proofs.WalkKeepsBooks.{walk-keeps-books}
@@ -90,20 +91,30 @@ module _ (capture : List ℕ) (t : Tables) where
   to-43 : NothingBefore51 capture t → KeepsTo43 map places (t .madt .place)
   to-43 h = record { to40 = to-40 (before-41 h); r41 = h .r41; r42 = h .r42; r43 = h .r43 }
 
+  -- 51 to 53
+  of-clash-told : (n : ℕ) {broken : Type 0} (Share : Structure → Structure → Type 0)
+      → (Placed (says map) places → KeepsTo43 map places (t .madt .place)
+      → Exactly (RefusedWith map places (t .madt .place) (t .fadt .place) n) broken (Names (says map) places Share))
+      → NothingBefore51 capture t
+      → ExactlyAt (λ p. scan capture .verdict ≡ Refused (refused n p)) broken (NamesLater (says map) places Share)
+  of-clash-told n Share exactly h =
+      of-map-told (before-41 h) n (NamesLater (says map) places Share) (λ p q w. (q, w)) (exactly (kept (before-41 h) .placed) (to-43 h))
+
 -- THE PROMISES
 pub refused-exactly-for-sharing : (capture : List ℕ) (t : Tables) → RefusedExactlyForSharing capture t
 refused-exactly-for-sharing capture t =
     let m = walkOf capture t .found .map in
     let p = walkOf capture t .found .places in
-    let said = says m in
     let madt = t .madt .place in
     let fadt = t .fadt .place in
     record {
-      r41 = λ h. of-map-told capture t h 41 (NamesLater said p (ShareNode said)) (λ x q w. w .1) (node-exactly m p madt fadt (kept capture t h .placed) (to-40 capture t h));
-      r42 = λ h. of-map-told capture t h 42 (NamesLone said p) (λ x q w. w .1) (lone-exactly m p madt fadt (kept capture t h .placed) (to-40 capture t h));
-      r51 = λ h. of-map-told capture t (before-41 capture t h) 51 (NamesLater said p (ShareNumber said)) (λ x q w. (q, w)) (number-exactly m p madt fadt (kept capture t (before-41 capture t h) .placed) (to-43 capture t h));
-      r52 = λ h. of-map-told capture t (before-41 capture t h) 52 (NamesLater said p (ShareVector said)) (λ x q w. (q, w)) (vector-exactly m p madt fadt (kept capture t (before-41 capture t h) .placed) (to-43 capture t h));
-      r53 = λ h. of-map-told capture t (before-41 capture t h) 53 (NamesLater said p (ShareCore said)) (λ x q w. (q, w)) (core-exactly m p madt fadt (kept capture t (before-41 capture t h) .placed) (to-43 capture t h));
+      r41 = λ h.
+          of-map-told capture t h 41 (NamesLater (says m) p (ShareNode (says m))) (λ x q w. w .1)
+          (node-exactly m p madt fadt (kept capture t h .placed) (to-40 capture t h));
+      r42 = λ h. of-map-told capture t h 42 (NamesLone (says m) p) (λ x q w. w .1) (lone-exactly m p madt fadt (kept capture t h .placed) (to-40 capture t h));
+      r51 = of-clash-told capture t 51 (ShareNumber (says m)) (number-exactly m p madt fadt);
+      r52 = of-clash-told capture t 52 (ShareVector (says m)) (vector-exactly m p madt fadt);
+      r53 = of-clash-told capture t 53 (ShareCore (says m)) (core-exactly m p madt fadt);
     }
 
 -- a refusal of the reading that is not 60 is the scan's
