@@ -90,7 +90,8 @@ module _ (said : Said) (ranged : rangesKept said ≡ true) (p : Places) (ok : Pl
       k,
       λ e l.
           neq (eioAt said e .node) (bioAt said j .node)
-          (every-mem (λ (y : Claim). not (eqb (y .node) (bioAt said j .node))) (claims said p) (sym (lone-is j k) ∙ h) (claimOf said p (eio e)) (member said p ok (eio e) l)),
+          (every-mem (λ (y : Claim). not (eqb (y .node) (bioAt said j .node))) (claims said p) (sym (lone-is j k) ∙ h) (claimOf said p (eio e))
+          (member said p ok (eio e) l)),
     ),
   )
 

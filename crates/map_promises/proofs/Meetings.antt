@@ -160,6 +160,8 @@ module _ (said : Said) (places : Places) (ok : Placed said places) {rule : ℕ} 
       sym (place-is said places (x .0)) ∙ sym (ap (λ (c : Claim). c .place) (x .2)) ∙ f .x-at in
       let t-at : placeOf places (y .0) ≡ q =
       sym (place-is said places (y .0)) ∙ sym (ap (λ (c : Claim). c .place) (y .2)) ∙ f .y-at in
+      let met : Clash said rule (x .0) (y .0) =
+      clash-anywhere said rule slotPlaces places (x .0) (y .0) ∙ ap₂ (clash rule) (sym (x .2)) (sym (y .2)) ∙ f .clashes in
       record {
         s = x .0;
         t = y .0;
@@ -168,7 +170,7 @@ module _ (said : Said) (places : Places) (ok : Placed said places) {rule : ℕ} 
         s-at = s-at;
         t-at = t-at;
         earlier = f .earlier;
-        share = a .shares (x .0) (y .0) (x .1) (y .1) (clash-anywhere said rule slotPlaces places (x .0) (y .0) ∙ ap₂ (clash rule) (sym (x .2)) (sym (y .2)) ∙ f .clashes);
+        share = a .shares (x .0) (y .0) (x .1) (y .1) met;
         first = λ u v ku kv l w. first f u v ku kv l (clashing u v ku kv l w);
         earliest = λ v kv l w. earliest f v kv l (ap (λ c. clash rule c (claimOf said places v)) (x .2) ∙ clashing (x .0) v (x .1) kv (omega arith) w);
       }

@@ -33,6 +33,13 @@ use Rattle.map_promises.proofs.NoTwoAlike.{input-at, through-at, pin-at
 led : (half : Half) (v i : ℕ) → v ≡ half .cascade → hasBit (half .mask) i ≡ true → leads half v i ≡ true
 led half v i e b = both-true (eqb (half .cascade) v) (hasBit (half .mask) i) (eq-eqb _ _ (sym e)) b
 
+-- and is used
+of-led : (half : Half) (v i : ℕ) → leads half v i ≡ true → (half .mask ≡ 0 → ⊥) × (half .cascade ≡ v)
+of-led half v i h =
+    let here = eqb (half .cascade) v in
+    let wired = hasBit (half .mask) i in
+    (bit-used (half .mask) i (and-right here wired h), eqb-true (half .cascade) v (and-left here wired h))
+
 module _ (said : Said) (g : Good said) where
   -- nothing is led by the LIO to the cascade of an EIO
   not-led : (e k : ℕ) → e < length (said .eios)
@@ -45,8 +52,8 @@ module _ (said : Said) (g : Good said) where
       (λ t.
       eio-not-lio said g e l
       (⊎-elim
-      (λ r. inl (bit-used (low .mask) k (and-right (eqb (low .cascade) v) (hasBit (low .mask) k) r), eqb-true (low .cascade) v (and-left (eqb (low .cascade) v) (hasBit (low .mask) k) r)))
-      (λ r. inr (bit-used (high .mask) k (and-right (eqb (high .cascade) v) (hasBit (high .mask) k) r), eqb-true (high .cascade) v (and-left (eqb (high .cascade) v) (hasBit (high .mask) k) r)))
+      (λ r. inl (of-led low v k r))
+      (λ r. inr (of-led high v k r))
       (or-cases (leads low v k) (leads high v k) t)))
 
   -- what enters by the EIO at a place landed on it
