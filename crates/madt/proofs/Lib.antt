@@ -4,3 +4,4 @@ pub mod Those
 pub mod Contents
 pub mod Checks
 pub mod Walking
+pub mod Accepted

@@ -12,6 +12,7 @@ use lib.ListN.{length, getD, take, length-take}
 use lib.Seq.{getD-take}
 use Rattle.words.specs.Choice.{if}
 use Rattle.words.specs.Lists.{every}
+use Rattle.kinds.specs.Used.{noBio}
 use Rattle.kinds.specs.declared.Bio.{Bio}
 use Rattle.clashes.specs.Folds.{fold}
 use Rattle.clashes.proofs.Logic.{and-left, both-true}
@@ -21,7 +22,6 @@ use Rattle.lines.specs.Routes.{bridge}
 use Rattle.lines.specs.Traces.{isBridge, isLpcPin, pinTold}
 use Rattle.lines.specs.declared.Bridge.the-variants.{Is}
 use Rattle.lines.specs.declared.Trace.the-variants.{BioInput, LpcCascade}
-use Rattle.madt.specs.Adding.{noBio}
 use Rattle.map_promises.specs.Sources.{pin, bioAt, isLpcBridge, name}
 use Rattle.map_promises.proofs.Kept.{Good, bio-node}
 use Rattle.map_promises.proofs.Logic.{same-bool}

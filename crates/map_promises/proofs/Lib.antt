@@ -20,8 +20,7 @@ pub mod Places
 pub mod RefusedExactly
 pub mod CodesApart
 pub mod Shelves
-pub mod Books
 pub mod InOrder
-pub mod Takings
+pub mod Rising
 pub mod WalkKeepsBooks
 pub mod NormalMapsEqual

@@ -15,11 +15,11 @@ use Rattle.clashes.specs.declared.Pair.the-variants.{Two, None}
 use Rattle.clashes.proofs.Searched.{hits, clear}
 use Rattle.clashes.proofs.Symmetric.{clash-back}
 use Rattle.parts.specs.Claims.{lioClaim, eioClaim, bioClaim, msiClaim}
+use Rattle.kinds.specs.Used.{noEio, noBio, noMsi}
 use Rattle.lines.specs.Says.{Said}
 use Rattle.lines.specs.Claims.{placed, claims}
 use Rattle.lines.specs.Rules.{slotPlaces}
 use Rattle.lines.specs.declared.Places.{Places}
-use Rattle.madt.specs.Adding.{noEio, noBio, noMsi}
 use Rattle.map_promises.specs.Structures.{Structure, lio, eio, bio, msi, IsIn, placeOf, claimOf, Placed}
 use Rattle.map_promises.specs.Clashing.{Sharing, Names}
 use Rattle.map_promises.proofs.Logic.{order}

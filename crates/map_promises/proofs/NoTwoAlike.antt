@@ -8,6 +8,7 @@ use borrow.Author.Tests.{eqb-true, eq-eqb}
 use lib.Dec.{eqb}
 use lib.ListN.{length}
 use Rattle.words.specs.Choice.{if}
+use Rattle.kinds.specs.Used.{noEio}
 use Rattle.kinds.specs.declared.Lio.{Lio}
 use Rattle.parts.specs.Inputs.{hasBit, wired}
 use Rattle.lines.specs.Says.{Said, says}
@@ -15,7 +16,6 @@ use Rattle.lines.specs.Routes.{lioArrival, through}
 use Rattle.lines.specs.Rules.{keepsRules}
 use Rattle.lines.specs.declared.Map.{Map}
 use Rattle.lines.specs.declared.Route.the-variants.{Arrives, NoOwner, Unwired}
-use Rattle.madt.specs.Adding.{noEio}
 use Rattle.map_promises.specs.Sources.{Source, input, pin, slot, eioAt, bioAt, IsSource, arrives}
 use Rattle.map_promises.specs.Statements.{NoTwoAlike}
 use Rattle.map_promises.proofs.Kept.{Good, good, eio-node, eio-core, eio-not-lio, bio-node, bio-msi, msi-slot}

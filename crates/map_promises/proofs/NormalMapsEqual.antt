@@ -11,7 +11,7 @@ use lib.ListN.{length, take, getD}
 use lib.Seq.{getD-take, ext-getD}
 use Rattle.words.specs.Choice.{if}
 use Rattle.words.proofs.Choices.{yes-if, no-if}
-use Rattle.kinds.specs.Used.{noHalf, usedHalf, saidLio, saidLpc}
+use Rattle.kinds.specs.Used.{noHalf, usedHalf, saidLio, saidLpc, noEio, noBio, noMsi}
 use Rattle.kinds.specs.declared.Half.{Half}
 use Rattle.kinds.specs.declared.Lio.{Lio}
 use Rattle.kinds.specs.declared.Eio.{Eio}
@@ -20,7 +20,6 @@ use Rattle.kinds.specs.declared.Msi.{Msi}
 use Rattle.kinds.specs.declared.Lpc.{Lpc}
 use Rattle.lines.specs.Says.{Said}
 use Rattle.lines.specs.declared.Map.{Map}
-use Rattle.madt.specs.Adding.{noEio, noBio, noMsi}
 use Rattle.map_promises.specs.Walks.{NormalMapsEqual}
 use Rattle.map_promises.proofs.Logic.{order}
 

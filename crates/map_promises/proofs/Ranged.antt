@@ -8,6 +8,7 @@ use lib.Dec.{eqb, leb}
 use lib.ListN.{length}
 use Rattle.words.specs.Choice.{if}
 use Rattle.words.proofs.Choices.{passed}
+use Rattle.kinds.specs.Used.{noEio, noBio, noMsi}
 use Rattle.kinds.specs.Ranges.{cascadeFits, nodeFits, countFits, baseFits, inputFits, halfFits, lioField, eioField, bioField, msiField, lpcField}
 use Rattle.kinds.specs.declared.Half.{Half}
 use Rattle.kinds.specs.declared.Lio.{Lio}
@@ -18,7 +19,6 @@ use Rattle.kinds.specs.declared.Lpc.{Lpc}
 use Rattle.clashes.proofs.Logic.{and-left, and-right}
 use Rattle.lines.specs.Says.{Said}
 use Rattle.lines.specs.Rules.{eiosFit, biosFit, msisFit, rangesKept}
-use Rattle.madt.specs.Adding.{noEio, noBio, noMsi}
 use Rattle.map_promises.specs.Sources.{eioAt, bioAt, msiAt}
 use Rattle.map_promises.proofs.Members.{every-at}
 

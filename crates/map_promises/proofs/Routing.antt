@@ -13,6 +13,7 @@ use Rattle.words.specs.Choice.{if}
 use Rattle.words.proofs.Choices.{yes-if}
 use Rattle.clashes.proofs.Logic.{and-left, and-right, both-true, or-neither}
 use Rattle.parts.specs.Inputs.{hasBit, wired, owns}
+use Rattle.kinds.specs.Used.{noBio}
 use Rattle.lines.specs.Says.{Said, says}
 use Rattle.lines.specs.Routes.{lioArrival, bridge, pinArrival, bioOwner, owner, arrivalOf, arrival, through}
 use Rattle.lines.specs.Rules.{keepsRules}
@@ -22,7 +23,6 @@ use Rattle.lines.specs.declared.Bridge.the-variants.{Is}
 use Rattle.lines.specs.declared.Owner.the-variants.{LpcInput, LioInput, BioInput, Nobody}
 use Rattle.lines.specs.declared.Route.{Route}
 use Rattle.lines.specs.declared.Route.the-variants.{Arrives, NoOwner, Unwired}
-use Rattle.madt.specs.Adding.{noBio}
 use Rattle.map_promises.specs.Sources.{input, pin, slot, bioAt}
 use Rattle.map_promises.specs.Routing.{IsSourced, IsUnwired, IsLpcLine, Rest, RouteIsSources, UnwiredExactly, NoOwnerExactly}
 use Rattle.map_promises.proofs.Bridges.{bridge-one}

@@ -7,6 +7,7 @@ use mathlib.Core.Bool.{Bool, true, false, _||_}
 use borrow.Author.Tests.{eq-eqb, leb-true, ltb-true}
 use lib.Dec.{leb, ltb}
 use Rattle.words.specs.Choice.{if}
+use Rattle.kinds.specs.Used.{noBio}
 use Rattle.kinds.specs.declared.Bio.{Bio}
 use Rattle.clashes.proofs.Logic.{and-left, and-right}
 use Rattle.parts.specs.Inputs.{hasBit, wired, owns}
@@ -20,7 +21,6 @@ use Rattle.lines.specs.declared.Bridge.the-variants.{Is}
 use Rattle.lines.specs.declared.Owner.the-variants.{BioInput, Nobody}
 use Rattle.lines.specs.declared.Route.the-variants.{Arrives, NoOwner, Unwired}
 use Rattle.lines.specs.declared.Trace.the-variants.{LioInput as LioTold, BioInput as BioTold, LpcCascade}
-use Rattle.madt.specs.Adding.{noBio}
 use Rattle.map_promises.specs.Sources.{input, pin, bioAt, isShared, name}
 use Rattle.map_promises.specs.Statements.{LpcLinesShare, Tells, ThereAndBack}
 use Rattle.map_promises.proofs.Bridges.{pin-told}

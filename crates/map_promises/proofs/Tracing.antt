@@ -9,6 +9,7 @@ use lib.Dec.{eqb, leb, ltb}
 use lib.ListN.{length}
 use Rattle.words.specs.Choice.{if}
 use Rattle.words.proofs.Choices.{yes-if, no-if}
+use Rattle.kinds.specs.Used.{noEio, noBio, noMsi}
 use Rattle.kinds.specs.declared.Half.{Half}
 use Rattle.clashes.proofs.Logic.{and-left, and-right, or-cases, both-true, left-true, right-true, is-false}
 use Rattle.parts.specs.Inputs.{hasBit, leads, hasSlot, hasPin}
@@ -20,7 +21,6 @@ use Rattle.lines.specs.Answers.{traceOf}
 use Rattle.lines.specs.declared.Map.{Map}
 use Rattle.lines.specs.declared.Route.the-variants.{Arrives}
 use Rattle.lines.specs.declared.Trace.the-variants.{Nothing, LioInput, BioInput, LpcCascade, MsiSlot}
-use Rattle.madt.specs.Adding.{noEio, noBio, noMsi}
 use Rattle.map_promises.specs.Sources.{Source, input, pin, slot, eioAt, bioAt, msiAt, IsSource, arrives, isShared, name}
 use Rattle.map_promises.specs.Statements.{TracingNames, Arrived, NothingExactly}
 use Rattle.map_promises.proofs.Bridges.{pin-told}

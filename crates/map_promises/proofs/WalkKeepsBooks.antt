@@ -1,110 +1,353 @@
 -- The walk of a MADT that refuses nothing keeps its books: every structure of the map has its own place, the map keeps 36 to
 -- 38, and "its unused places, an unused half's byte among them, hold 0".
-use Prim.Native.Nat.{ℕ, suc, _+_, _≤_}
+use Prim.Native.Nat.{ℕ, zero, suc, _+_, _<_, _≤_}
+use native.Mathlib.Nat.{eq-or-lt-of-le}
 use native.Mathlib.Omega.{arith}
-use mathlib.Core.Path.{_≡_, refl}
+use mathlib.Core.Path.{_≡_, refl, sym, _∙_, ap, subst}
+use mathlib.Core.Logic.{_⊎_, inl, inr, ⊎-elim}
 use mathlib.Core.List.{List, [], _∷_}
-use mathlib.Core.Bool.{true, false, not}
-use borrow.Author.Tests.{le-ltb}
+use mathlib.Core.Bool.{Bool, true, false, not, _&&_, true≢false}
+use borrow.Author.Tests.{eqb-true, eqb-false, eq-eqb, le-ltb, not-false}
 use lib.Dec.{eqb}
-use lib.ListN.{length, length-take}
+use lib.ListN.{length, getD, take, length-take}
+use Rattle.words.specs.Bytes.{byteAt}
+use Rattle.words.specs.Choice.{if}
+use Rattle.words.specs.Lists.{every}
+use Rattle.words.specs.Refusals.{firstRefusal}
 use Rattle.words.specs.declared.Verdict.the-variants.{Sound}
-use Rattle.words.proofs.Verdicts.{not-sound}
-use Rattle.lines.specs.Says.{says}
+use Rattle.words.proofs.Choices.{if-cases}
+use Rattle.clashes.proofs.Logic.{and-left, and-right}
+use Rattle.kinds.specs.Makers.{lioOf, eioOf, msiOf, bioOf, lpcOf}
+use Rattle.kinds.specs.Ranges.{halfFits, bitInBoth, lioField, eioField, bioField, msiField, lpcField}
+use Rattle.kinds.specs.Used.{noLio, noEio, noBio, noMsi, noLpc, usedHalf, saidLio, saidLpc}
+use Rattle.kinds.specs.declared.Lio.{Lio}
+use Rattle.kinds.specs.declared.Lpc.{Lpc}
+use Rattle.lines.specs.Says.{Said, says}
 use Rattle.lines.specs.Rules.{eiosFit, biosFit, msisFit, rangesKept, tooMany}
 use Rattle.lines.specs.declared.Map.{Map}
 use Rattle.lines.specs.declared.Places.{Places}
-use Rattle.madt.specs.Pieces.{Piece, whole, cut, pieces}
-use Rattle.madt.specs.Adding.{nothing}
-use Rattle.madt.specs.Takes.{takeOne}
-use Rattle.madt.specs.Walk.{turnedAway, afterTaking, walk, walked}
+use Rattle.madt.specs.Pieces.{Whole, pieces, structures}
+use Rattle.madt.specs.Rules.{isType, brokenField, outOfRange, sharedBit}
+use Rattle.madt.specs.Contents.{ofType, howMany, made, standing, inFour, mapOf, placesOf, foundIn}
+use Rattle.madt.specs.Walk.{walkRules, walked}
 use Rattle.madt.specs.declared.Found.{Found}
-use Rattle.madt.specs.declared.Walked.{Walked}
-use Rattle.madt.proofs.Taking.{is-zero}
-use Rattle.words.proofs.Choices.{if-cases}
-use Rattle.map_promises.specs.Structures.{Structure, lio, eio, bio, msi, IsIn, Placed}
+use Rattle.madt.proofs.Types.{type-yes, of-lio, of-eio, of-msi, of-bio, of-lpc}
+use Rattle.madt.proofs.Contents.{made-many, standing-many}
+use Rattle.madt.proofs.Checks.{Kept}
+use Rattle.madt.proofs.Accepted.{noWhole, rules-sound, found-is, few-eios, few-msis, few-bios, kept-at}
+use Rattle.map_promises.specs.Structures.{Structure, lio, eio, bio, msi, IsIn, placeOf, Placed}
 use Rattle.map_promises.specs.Walks.{Normal, WellKept, WalkKeepsBooks}
-use Rattle.map_promises.proofs.Shelves.{fits-all}
-use Rattle.map_promises.proofs.InOrder.{InOrder, pieces-in-order}
-use Rattle.map_promises.proofs.Books.{Used, Books, opened, later}
-use Rattle.map_promises.proofs.Unused.{lio-unused, lpc-unused}
-use Rattle.map_promises.proofs.Takings.{takes-keep}
+use Rattle.map_promises.proofs.Shelves.{take-four, past, at-four, at-every, map-at}
+use Rattle.map_promises.proofs.InOrder.{pieces-in-order}
+use Rattle.map_promises.proofs.Rising.{Rising, structures-rise, those-rise, rises-at, one-index, those-among}
+use Rattle.map_promises.proofs.Unused.{half-mask, half-fits, half-again, lio-unused, lpc-unused}
 
--- ---- the walk
-module _ (base until sci : ℕ) where
-  abbrev Kept : Walked → Type 0
-  Kept w = w .verdict ≡ Sound → Books sci (base + until) (w .found .map) (w .found .places)
+-- ---- some structures that stand one behind the other, behind the MADT's header, and each keep 32 to 38
+pub record Good (until : ℕ) (all : List Whole) : Type 0 where
+  pub rise : Rising until 44 all
+  pub kept : (i : ℕ) → i < length all → (n : ℕ) × Kept n (getD all i noWhole .bytes)
+  pub eios : howMany 20 all ≤ 4
+  pub bios : howMany 22 all ≤ 4
+  pub msis : howMany 21 all ≤ 4
+  pub first : 44 ≤ until
 
-  walk-keeps : (ps : List Piece) (from : ℕ) (found : Found) → InOrder until from ps → Books sci (base + from) (found .map) (found .places)
-      → Kept (walk base ps found)
-  unfolding walk afterTaking turnedAway
-  walk-keeps [] from found o b = λ h. later (omega arith) b
-  walk-keeps (cut at ∷ ps) from found o b = λ h. not-sound h
-  walk-keeps (whole at s ∷ ps) from found o b =
-      if-cases Kept (not (eqb (takeOne s (base + at) found .number) 0)) _ _
-      (λ t h. not-sound h)
-      (λ t.
-      let here : Books sci (base + at) (found .map) (found .places) = later (omega (arith, o .0)) b in
-      walk-keeps ps (suc at) (takeOne s (base + at) found .found) (o .2)
-      (later (omega arith) (takes-keep s found here (is-zero _ t))))
+-- those of a MADT that is not refused
+pub good : (table : List ℕ) (base until : ℕ) → firstRefusal (walkRules table base) ≡ Sound → 44 ≤ until → length table ≤ until
+    → Good until (structures (pieces table 44))
+good table base until h first all =
+    record {
+      rise = structures-rise until 44 (pieces table 44) (pieces-in-order table until all 44 first);
+      kept = kept-at table base h;
+      eios = few-eios table base h;
+      bios = few-bios table base h;
+      msis = few-msis table base h;
+      first = first;
+    }
 
--- the walk of a MADT, from its first structure to the end
-pub walked-keeps : (table : List ℕ) (base sci until : ℕ) → 44 ≤ until → length table ≤ until → walked table base sci .verdict ≡ Sound
-    → Books sci (base + until) (walked table base sci .found .map) (walked table base sci .found .places)
-unfolding walked
-walked-keeps table base sci until first all =
-    walk-keeps base until sci (pieces table 44) 44 (nothing sci) (pieces-in-order table until all 44 first)
-    (opened sci (base + 44) (omega arith))
+-- the structure at an index of those of one type
+abbrev wholeAt : ℕ → List Whole → ℕ → Whole
+wholeAt number all i = getD (ofType number all) i noWhole
 
--- ---- what the books tell
-module _ {sci next : ℕ} {map : Map} {places : Places} (b : Books sci next map places) where
-  -- a structure of what is said is one by the counts
-  pub counted : (s : Structure) → IsIn (says map) s → Used map s
-  counted lio u = u
-  counted (eio e) u = omega (arith, length-take (map .eiocount) (map .eios))
-  counted (bio j) u = omega (arith, length-take (map .biocount) (map .bios))
-  counted (msi m) u = omega (arith, length-take (map .msicount) (map .msis))
+module _ {until : ℕ} {all : List Whole} (g : Good until all) (number i : ℕ) (l : i < howMany number all) where
+  -- it is of its type, and keeps the rules
+  pub typed : byteAt (wholeAt number all i .bytes) 0 ≡ number
+  unfolding ofType isType
+  typed = eqb-true _ _ (those-among (λ x. isType number (x .bytes)) all i l .3)
 
-  placed : Placed (says map) places
+  pub kept : (n : ℕ) × Kept n (wholeAt number all i .bytes)
+  unfolding ofType
+  kept =
+      let r = those-among (λ x. isType number (x .bytes)) all i l in
+      rw (r .2) at (g .kept (r .0) (r .1))
+
+  -- it stands in the table
+  pub inside : (44 ≤ wholeAt number all i .at) × (wholeAt number all i .at < until)
+  unfolding ofType
+  inside = rises-at until 44 (ofType number all) (those-rise until (λ x. isType number (x .bytes)) 44 all (g .rise)) i l
+
+  -- where it stands in the capture, and what it makes
+  pub stands : (base : ℕ) → getD (standing number base all) i 0 ≡ base + wholeAt number all i .at
+  unfolding standing
+  stands base = map-at (λ x. base + x .at) noWhole 0 (ofType number all) i l
+
+  pub makes : {A : Type 0} (maker : List ℕ → A) (none : A) → getD (made number maker all) i none ≡ maker (wholeAt number all i .bytes)
+  unfolding made
+  makes maker none = map-at (λ x. maker (x .bytes)) noWhole none (ofType number all) i l
+
+-- an offset is that of one structure alone
+module _ {until : ℕ} {all : List Whole} (g : Good until all) where
+  same-type : (n i j : ℕ) → i < howMany n all → j < howMany n all → wholeAt n all i .at ≡ wholeAt n all j .at → i ≡ j
+  unfolding ofType
+  same-type n i j = one-index until 44 (ofType n all) (those-rise until (λ x. isType n (x .bytes)) 44 all (g .rise)) i j
+
+  one-structure : (n m i j : ℕ) → i < howMany n all → j < howMany m all → wholeAt n all i .at ≡ wholeAt m all j .at
+      → wholeAt n all i ≡ wholeAt m all j
+  unfolding ofType
+  one-structure n m i j l k e =
+      let a = those-among (λ x. isType n (x .bytes)) all i l in
+      let b = those-among (λ x. isType m (x .bytes)) all j k in
+      let same = one-index until 44 all (g .rise) (a .0) (b .0) (a .1) (b .1) (ap (λ (x : Whole). x .at) (a .2) ∙ e ∙ sym (ap (λ (x : Whole). x .at) (b .2))) in
+      sym (a .2) ∙ ap (λ (k : ℕ). getD all k noWhole) same ∙ b .2
+
+  pub one-place : (n m i j : ℕ) → i < howMany n all → j < howMany m all → wholeAt n all i .at ≡ wholeAt m all j .at → (n ≡ m) × (i ≡ j)
+  one-place n m i j l k e =
+      let type : n ≡ m = sym (typed g n i l) ∙ ap (λ (x : Whole). byteAt (x .bytes) 0) (one-structure n m i j l k e) ∙ typed g m j k in
+      (type, subst (λ (m : ℕ). j < howMany m all → wholeAt n all i .at ≡ wholeAt m all j .at → i ≡ j) type (same-type n i j l) k e)
+
+-- ---- the structures of the map, by type and index
+abbrev numberOf : Structure → ℕ
+numberOf lio = 18
+numberOf (eio e) = 20
+numberOf (bio j) = 22
+numberOf (msi m) = 21
+
+abbrev indexOf : Structure → ℕ
+indexOf lio = 0
+indexOf (eio e) = e
+indexOf (bio j) = j
+indexOf (msi m) = m
+
+same-structure : (s t : Structure) → numberOf s ≡ numberOf t → indexOf s ≡ indexOf t → s ≡ t
+same-structure lio lio n i = refl
+same-structure (eio e) (eio f) n i = ap eio i
+same-structure (bio j) (bio k) n i = ap bio i
+same-structure (msi m) (msi o) n i = ap msi i
+same-structure lio (eio f) n i = absurd (omega arith)
+same-structure lio (bio k) n i = absurd (omega arith)
+same-structure lio (msi o) n i = absurd (omega arith)
+same-structure (eio e) lio n i = absurd (omega arith)
+same-structure (eio e) (bio k) n i = absurd (omega arith)
+same-structure (eio e) (msi o) n i = absurd (omega arith)
+same-structure (bio j) lio n i = absurd (omega arith)
+same-structure (bio j) (eio f) n i = absurd (omega arith)
+same-structure (bio j) (msi o) n i = absurd (omega arith)
+same-structure (msi m) lio n i = absurd (omega arith)
+same-structure (msi m) (eio f) n i = absurd (omega arith)
+same-structure (msi m) (bio k) n i = absurd (omega arith)
+
+-- ---- what is said of the map
+module _ {until : ℕ} {all : List Whole} (g : Good until all) (sci : ℕ) where
+  said-eios : says (mapOf sci all) .eios ≡ made 20 eioOf all
+  unfolding mapOf
+  said-eios = rw (sym (made-many 20 eioOf all)) (take-four noEio (made 20 eioOf all) (rw (made-many 20 eioOf all) (g .eios)))
+
+  said-bios : says (mapOf sci all) .bios ≡ made 22 bioOf all
+  unfolding mapOf
+  said-bios = rw (sym (made-many 22 bioOf all)) (take-four noBio (made 22 bioOf all) (rw (made-many 22 bioOf all) (g .bios)))
+
+  said-msis : says (mapOf sci all) .msis ≡ made 21 msiOf all
+  unfolding mapOf
+  said-msis = rw (sym (made-many 21 msiOf all)) (take-four noMsi (made 21 msiOf all) (rw (made-many 21 msiOf all) (g .msis)))
+
+-- ---- the places
+-- every structure of a map stands before `next`, and so does an LPC; only an absent LIO or LPC stands at 0
+pub record Standing (next : ℕ) (map : Map) (places : Places) : Type 0 where
+  pub before : (s : Structure) → IsIn (says map) s → placeOf places s < next
+  pub behind : (s : Structure) → IsIn (says map) s → (s ≡ lio) ⊎ (0 < placeOf places s)
+  pub lpcbehind : map .lpc .present ≡ true → 0 < places .lpc
+  pub lpcbefore : places .lpc < next
+
+module _ {until : ℕ} {all : List Whole} (g : Good until all) (base sci : ℕ) where
+  -- where a structure that is there stands
+  place-is : (s : Structure) → indexOf s < howMany (numberOf s) all → placeOf (placesOf base all) s ≡ base + wholeAt (numberOf s) all (indexOf s) .at
+  unfolding placesOf
+  place-is lio l = stands g 18 0 l base
+  place-is (eio e) l = at-four 0 (standing 20 base all) (rw (standing-many 20 base all) (g .eios)) e ∙ stands g 20 e l base
+  place-is (bio j) l = at-four 0 (standing 22 base all) (rw (standing-many 22 base all) (g .bios)) j ∙ stands g 22 j l base
+  place-is (msi m) l = at-four 0 (standing 21 base all) (rw (standing-many 21 base all) (g .msis)) m ∙ stands g 21 m l base
+
+  -- a structure of the map is there, but for an absent LIO, whose place is 0
+  abbrev There : Structure → Type 0
+  There s = (indexOf s < howMany (numberOf s) all) ⊎ ((s ≡ lio) × (placeOf (placesOf base all) s ≡ 0))
+
+  is-there : (s : Structure) → IsIn (says (mapOf sci all)) s → There s
+  unfolding placesOf
+  is-there lio h =
+      ⊎-elim (λ (e : 0 ≡ howMany 18 all). inr (refl, past 0 (standing 18 base all) 0 (rw (standing-many 18 base all) (omega arith)))) (λ l. inl l)
+      (eq-or-lt-of-le (let z : 0 ≤ howMany 18 all = omega arith in z))
+  is-there (eio e) h = inl (omega (arith, ap length (said-eios g sci), made-many 20 eioOf all))
+  is-there (bio j) h = inl (omega (arith, ap length (said-bios g sci), made-many 22 bioOf all))
+  is-there (msi m) h = inl (omega (arith, ap length (said-msis g sci), made-many 21 msiOf all))
+
+  behind-header : (s : Structure) → indexOf s < howMany (numberOf s) all → 0 < placeOf (placesOf base all) s
+  behind-header s l = omega (arith, place-is s l, inside g (numberOf s) (indexOf s) l .0)
+
+  -- different structures have different places
+  apart : (s t : Structure) → There s → There t → placeOf (placesOf base all) s ≡ placeOf (placesOf base all) t → s ≡ t
+  apart s t (inl a) (inl b) e =
+      let same = one-place g (numberOf s) (numberOf t) (indexOf s) (indexOf t) a b (omega (arith, place-is s a, place-is t b)) in
+      same-structure s t (same .0) (same .1)
+  apart s t (inl a) (inr w) e = absurd (omega (arith, behind-header s a, w .1))
+  apart s t (inr w) (inl b) e = absurd (omega (arith, behind-header t b, w .1))
+  apart s t (inr v) (inr w) e = v .0 ∙ sym (w .0)
+
+  placed : Placed (says (mapOf sci all)) (placesOf base all)
+  unfolding placesOf
   placed =
       record {
-        eios = omega (arith, length-take (map .eiocount) (map .eios), b .eios .four, b .eios .room);
-        bios = omega (arith, length-take (map .biocount) (map .bios), b .bios .four, b .bios .room);
-        msis = omega (arith, length-take (map .msicount) (map .msis), b .msis .four, b .msis .room);
-        apart = λ s t u v e. b .standing .apart s t (counted s u) (counted t v) e;
+        eios = omega (arith, ap length (said-eios g sci), made-many 20 eioOf all, g .eios);
+        bios = omega (arith, ap length (said-bios g sci), made-many 22 bioOf all, g .bios);
+        msis = omega (arith, ap length (said-msis g sci), made-many 21 msiOf all, g .msis);
+        apart = λ s t u v e. apart s t (is-there s u) (is-there t v) e;
       }
 
-  ranges : rangesKept (says map) ≡ true
-  unfolding rangesKept eiosFit biosFit msisFit
-  ranges =
-      rw (b .onelio .normal, b .onelio .fits, fits-all (b .eios), fits-all (b .bios), fits-all (b .msis), b .onelpc .normal, b .onelpc .fits)
+  -- the LPC, which claims nothing, has a place too
+  lpc-there : (0 < howMany 23 all) ⊎ (howMany 23 all ≡ 0)
+  lpc-there =
+      ⊎-elim (λ (e : 0 ≡ howMany 23 all). inr (sym e)) (λ l. inl l) (eq-or-lt-of-le (let z : 0 ≤ howMany 23 all = omega arith in z))
 
-  few : tooMany map ≡ false
-  few = rw (le-ltb 4 (map .eiocount) (b .eios .few), le-ltb 4 (map .biocount) (b .bios .few), le-ltb 4 (map .msicount) (b .msis .few))
-
-  -- unused places hold 0
-  normal : Normal map
-  normal =
-      let l = lio-unused (map .lio) (map .lio .present) refl (b .onelio .normal) in
+  pub standing-well : Standing (base + until) (mapOf sci all) (placesOf base all)
+  unfolding mapOf placesOf
+  standing-well =
       record {
-        foureios = b .eios .four;
-        fourbios = b .bios .four;
-        fourmsis = b .msis .four;
-        eios = b .eios .rest;
-        bios = b .bios .rest;
-        msis = b .msis .rest;
+        before = λ s u. ⊎-elim (λ l. omega (arith, place-is s l, inside g (numberOf s) (indexOf s) l .1)) (λ w. omega (arith, w .1, g .first)) (is-there s u);
+        behind = λ s u. ⊎-elim (λ l. inr (behind-header s l)) (λ w. inl (w .0)) (is-there s u);
+        lpcbehind = λ h. ⊎-elim (λ l. omega (arith, stands g 23 0 l base, inside g 23 0 l .0))
+            (λ (z : howMany 23 all ≡ 0). absurd (true≢false (sym h ∙ ap (λ (x : Lpc). x .present) (past noLpc (made 23 lpcOf all) 0 (omega (arith, made-many 23 lpcOf all)))))) lpc-there;
+        lpcbefore = ⊎-elim (λ l. omega (arith, stands g 23 0 l base, inside g 23 0 l .1))
+            (λ (z : howMany 23 all ≡ 0). omega (arith, past 0 (standing 23 base all) 0 (omega (arith, standing-many 23 base all)), g .first)) lpc-there;
+      }
+
+-- ---- 36 to 38
+-- a structure whose ranges are kept
+in-range : (s : List ℕ) {n field : ℕ} → Kept n s → brokenField s ≡ field → eqb field 0 ≡ true
+unfolding outOfRange
+in-range s k e = rw (sym e) (not-false _ (k .r36))
+
+-- the LIO, without the bytes of its unused halves
+pub record LioKept (x : Lio) : Type 0 where
+  pub fits : eqb (lioField x) 0 ≡ true
+  pub masks : bitInBoth x ≡ false
+  pub normal : saidLio x ≡ x
+
+no-lio : LioKept noLio
+unfolding lioField saidLio usedHalf if
+no-lio = record { fits = refl; masks = refl; normal = refl }
+
+lio-kept : (x : Lio) → x .present ≡ true → eqb (lioField x) 0 ≡ true → bitInBoth x ≡ false → LioKept (saidLio x)
+unfolding lioField saidLio if
+lio-kept x present field masks =
+    let halves : (halfFits (x .low) && halfFits (x .high)) ≡ true =
+    if-cases (λ (n : ℕ). eqb n 0 ≡ true → (halfFits (x .low) && halfFits (x .high)) ≡ true) (halfFits (x .low) && halfFits (x .high)) 0 1
+    (λ t e. t) (λ t e. absurd (let o : _≡_ {A = ℕ} 1 0 = eqb-true 1 0 e in omega arith)) field in
+    let low = half-fits (x .low) (and-left (halfFits (x .low)) (halfFits (x .high)) halves) in
+    let high = half-fits (x .high) (and-right (halfFits (x .low)) (halfFits (x .high)) halves) in
+    rw present
+    (record {
+      fits = rw (low, high);
+      masks = rw (half-mask (x .low), half-mask (x .high)) masks;
+      normal = rw (half-again (x .low), half-again (x .high));
+    })
+
+module _ {until : ℕ} {all : List Whole} (g : Good until all) (sci : ℕ) where
+  made-lio : (l : 0 < howMany 18 all) → LioKept (saidLio (lioOf (wholeAt 18 all 0 .bytes)))
+  unfolding brokenField sharedBit lioOf
+  made-lio l =
+      let s = wholeAt 18 all 0 .bytes in
+      let k = kept g 18 0 l .1 in
+      let t = typed g 18 0 l in
+      lio-kept (lioOf s) refl (in-range s k (of-lio s _ _ _ _ _ _ _ _ t)) (rw (type-yes 18 s t) at (k .r37))
+
+  the-lio : LioKept (mapOf sci all .lio)
+  unfolding mapOf
+  the-lio =
+      ⊎-elim
+      (λ (e : 0 ≡ howMany 18 all). rw (past noLio (made 18 (λ s. saidLio (lioOf s)) all) 0 (omega (arith, made-many 18 (λ s. saidLio (lioOf s)) all))) no-lio)
+      (λ l. rw (makes g 18 0 l (λ s. saidLio (lioOf s)) noLio) (made-lio l))
+      (eq-or-lt-of-le (let z : 0 ≤ howMany 18 all = omega arith in z))
+
+  -- an LPC says all that it has
+  abbrev LpcKept : Lpc → Type 0
+  LpcKept x = (eqb (lpcField x) 0 ≡ true) × (saidLpc x ≡ x)
+
+  the-lpc : LpcKept (mapOf sci all .lpc)
+  unfolding mapOf lpcField saidLpc lpcOf brokenField if
+  the-lpc =
+      ⊎-elim
+      (λ (e : 0 ≡ howMany 23 all). rw (past noLpc (made 23 lpcOf all) 0 (omega (arith, made-many 23 lpcOf all))) (refl, refl))
+      (λ l. rw (makes g 23 0 l lpcOf noLpc) (in-range (wholeAt 23 all 0 .bytes) (kept g 23 0 l .1) (of-lpc _ _ _ _ _ _ _ _ _ (typed g 23 0 l)), refl))
+      (eq-or-lt-of-le (let z : 0 ≤ howMany 23 all = omega arith in z))
+
+  -- each structure of a kind that may repeat
+  fit-all : {A : Type 0} (number : ℕ) (maker : List ℕ → A) (none : A) (field : A → ℕ)
+      → ((s : List ℕ) → byteAt s 0 ≡ number → brokenField s ≡ field (maker s))
+      → every (λ x. eqb (field x) 0) (made number maker all) ≡ true
+  fit-all number maker none field broken =
+      at-every none (λ x. eqb (field x) 0) (made number maker all)
+      (λ i l.
+      let here : i < howMany number all = omega (arith, made-many number maker all) in
+      let s = wholeAt number all i .bytes in
+      rw (makes g number i here maker none) (in-range s (kept g number i here .1) (broken s (typed g number i here))))
+
+  ranges : rangesKept (says (mapOf sci all)) ≡ true
+  unfolding rangesKept eiosFit biosFit msisFit brokenField
+  ranges =
+      rw (the-lio .normal, the-lio .fits, said-eios g sci, fit-all 20 eioOf noEio eioField (λ s t. of-eio s _ _ _ _ _ _ _ _ t),
+      said-bios g sci, fit-all 22 bioOf noBio bioField (λ s t. of-bio s _ _ _ _ _ _ _ _ t),
+      said-msis g sci, fit-all 21 msiOf noMsi msiField (λ s t. of-msi s _ _ _ _ _ _ _ _ t), the-lpc .1, the-lpc .0)
+
+  few : tooMany (mapOf sci all) ≡ false
+  unfolding mapOf
+  few = rw (le-ltb 4 (howMany 20 all) (g .eios), le-ltb 4 (howMany 22 all) (g .bios), le-ltb 4 (howMany 21 all) (g .msis))
+
+  -- ---- unused places hold 0
+  unused : {A : Type 0} (number : ℕ) (maker : List ℕ → A) (none : A) → howMany number all ≤ 4 → (i : ℕ) → howMany number all ≤ i
+      → getD (inFour none (made number maker all)) i none ≡ none
+  unused number maker none few i l =
+      at-four none (made number maker all) (omega (arith, made-many number maker all)) i
+      ∙ past none (made number maker all) i (omega (arith, made-many number maker all))
+
+  normal : Normal (mapOf sci all)
+  unfolding mapOf
+  normal =
+      let l = lio-unused (mapOf sci all .lio) (mapOf sci all .lio .present) refl (the-lio .normal) in
+      record {
+        foureios = refl;
+        fourbios = refl;
+        fourmsis = refl;
+        eios = unused 20 eioOf noEio (g .eios);
+        bios = unused 22 bioOf noBio (g .bios);
+        msis = unused 21 msiOf noMsi (g .msis);
         low = l .0;
         high = l .1;
         nolio = l .2;
-        nolpc = lpc-unused (map .lpc) (b .onelpc .normal);
+        nolpc = lpc-unused (mapOf sci all .lpc) (the-lpc .1);
       }
 
-  well-kept : WellKept map places
-  well-kept =
-      record { placed = placed; r36 = ranges; r37 = rw (b .onelio .normal) (b .onelio .masks); r38 = few; normal = normal }
+  pub well-kept : (base : ℕ) → WellKept (mapOf sci all) (placesOf base all)
+  well-kept base =
+      record { placed = placed g base sci; r36 = ranges; r37 = rw (the-lio .normal) (the-lio .masks); r38 = few; normal = normal }
+
+-- the walk of a MADT, from its first structure to the end
+pub walk-stands : (table : List ℕ) (base sci until : ℕ) → 44 ≤ until → length table ≤ until → walked table base sci .verdict ≡ Sound
+    → Standing (base + until) (walked table base sci .found .map) (walked table base sci .found .places)
+unfolding foundIn
+walk-stands table base sci until first all h =
+    rw (found-is table base sci h) (standing-well (good table base until (rules-sound table base sci h) first all) base sci)
 
 -- THE PROMISE
 pub walk-keeps-books : (table : List ℕ) (base sci : ℕ) → WalkKeepsBooks table base sci
+unfolding foundIn mapOf
 walk-keeps-books table base sci h =
-    let b = walked-keeps table base sci (44 + length table) (omega arith) (omega arith) h in
-    (well-kept b, b .number)
+    let g = good table base (44 + length table) (rules-sound table base sci h) (omega arith) (omega arith) in
+    rw (found-is table base sci h) (well-kept g sci base, refl)

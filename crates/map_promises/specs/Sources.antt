@@ -8,10 +8,10 @@ use lib.Dec.{eqb, leb}
 use lib.ListN.{length, getD, take}
 use Rattle.words.specs.Choice.{if}
 use Rattle.words.specs.Lists.{every}
+use Rattle.kinds.specs.Used.{noEio, noBio, noMsi}
 use Rattle.kinds.specs.declared.Eio.{Eio}
 use Rattle.kinds.specs.declared.Bio.{Bio}
 use Rattle.kinds.specs.declared.Msi.{Msi}
-use Rattle.madt.specs.Adding.{noEio, noBio, noMsi}
 use Rattle.parts.specs.Inputs.{wired, pins}
 use Rattle.lines.specs.Says.{Said}
 use Rattle.lines.specs.Routes.{lioArrival, through}

@@ -7,13 +7,12 @@ use mathlib.Core.Path.{_≡_}
 use lib.ListN.{length, getD}
 use Rattle.words.specs.declared.Verdict.the-variants.{Sound}
 use Rattle.kinds.specs.Ranges.{bitInBoth}
-use Rattle.kinds.specs.Used.{noHalf}
+use Rattle.kinds.specs.Used.{noHalf, noEio, noBio, noMsi}
 use Rattle.lines.specs.Says.{says, Same}
 use Rattle.lines.specs.Rules.{tooMany, rangesKept}
 use Rattle.lines.specs.declared.Map.{Map}
 use Rattle.lines.specs.declared.Places.{Places}
 use Rattle.madt.specs.Walk.{walked}
-use Rattle.madt.specs.Adding.{noEio, noBio, noMsi}
 use Rattle.map_promises.specs.Structures.{Placed}
 
 -- "its unused places, an unused half's byte among them, hold 0": of the four places for EIO, BIO and MSI those past the count;

@@ -13,8 +13,8 @@ use Rattle.words.specs.Bytes.{partAt}
 use Rattle.words.specs.Choice.{if}
 use Rattle.words.proofs.Choices.{yes-if, no-if, if-cases}
 use Rattle.kinds.specs.Makers.{coreOf}
-use Rattle.madt.specs.Pieces.{Piece, whole, cut, pieces, sizeAt}
-use Rattle.madt.proofs.Pieces.{pieces-end, pieces-cut, pieces-next}
+use Rattle.madt.specs.Pieces.{Piece, whole, cut, pieces}
+use Rattle.madt.proofs.Pieces.{sizeAt, pieces-end, pieces-cut, pieces-next}
 use Rattle.processors.specs.Listing.{isEnabledCore, entriesOf, entriesIn, processors, countOf, countIn, count, hasRoom, written, filled, filling}
 use Rattle.processors.specs.declared.Filled.{Filled}
 use Rattle.processors.specs.declared.Filled.the-variants.{Whole, NoRoom}

@@ -18,8 +18,8 @@ use Rattle.kinds.specs.declared.makers.Core.{Core}
 use Rattle.tables.specs.Structures.{stepAt}
 use Rattle.tables.specs.declared.Step.{Step}
 use Rattle.tables.specs.declared.Step.the-variants.{End, Structure, Broken}
-use Rattle.madt.specs.Pieces.{Piece, whole, pieceAt, piecesFrom, pieces, sizeAt}
-use Rattle.madt.proofs.Pieces.{pieces-end, pieces-cut, pieces-next}
+use Rattle.madt.specs.Pieces.{Piece, whole, pieceAt, piecesFrom, pieces}
+use Rattle.madt.proofs.Pieces.{sizeAt, pieces-end, pieces-cut, pieces-next}
 use Rattle.processors.specs.Listing.{isCore}
 use Rattle.processors.specs.Repeats.{sameId, twins, earlierTwin, hasTwin, repeats, spot, firstRepeat}
 use Rattle.processors.specs.declared.repeats.Seen.{Seen}

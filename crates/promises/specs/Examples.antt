@@ -8,6 +8,7 @@ use lib.ListN.{replicate}
 use Rattle.words.specs.Refusals.{refused}
 use Rattle.words.specs.declared.Verdict.{Verdict}
 use Rattle.words.specs.declared.Verdict.the-variants as verdicts
+use Rattle.kinds.specs.Used.{noEio, noBio, noMsi}
 use Rattle.lines.specs.Answers.{routeOf, traceOf}
 use Rattle.lines.specs.declared.Map.{Map}
 use Rattle.lines.specs.declared.Route.{Route}
@@ -20,7 +21,6 @@ use Rattle.reading.specs.Entries.{readResult, bytesAfter}
 use Rattle.reading.specs.declared.Answer.the-variants.{Read}
 use Rattle.text.specs.Numerals.{letters}
 use Rattle.text.specs.Text.{textOf}
-use Rattle.madt.specs.Adding.{noEio, noBio, noMsi}
 use Rattle.promises.specs.BoardA.{boardA, msiFrom63, msiTo257, eioAt2}
 
 -- what is asked: where a number of board A arrives; what arrives at a vector of board A with a number; what becomes of a

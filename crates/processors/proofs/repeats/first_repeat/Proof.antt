@@ -6,7 +6,7 @@ use lib.ListN.{length}
 use borrow.Author.Tests.{not-true, not-false}
 use Rattle.words.specs.Bytes.{partAt}
 use Rattle.kinds.specs.Makers.{coreOf}
-use Rattle.madt.specs.Pieces.{sizeAt}
+use Rattle.madt.proofs.Pieces.{sizeAt}
 use Rattle.processors.proofs.Twins.{Inner, Outer, start, reach-size, pass, caught, past, stopped, skip, enter, leave, named, twin-told}
 use borrow.Author.Needs.{needs}
 use Rattle.processors.proofs.repeats.first_repeat.Statement.{statement}

@@ -1,0 +1,120 @@
+-- What it tells that the walk of a MADT refused nothing: what it found is what the structures make, each of them keeps 32 to 38,
+-- and no kind has too many.
+use mathlib.Core.Path.{_≡_, refl, sym, ap, _∙_}
+use mathlib.Core.Bool.{Bool, true, false}
+use mathlib.Core.List.{List, [], _∷_, _++_, append-nil, append-assoc}
+use Prim.Native.Nat.{ℕ, zero, suc, _+_, _≤_, _<_}
+use native.Mathlib.Omega.{arith}
+use lib.ListN.{length, getD}
+use borrow.Author.Tests.{eqb-true}
+use Rattle.words.specs.Bytes.{byteAt}
+use Rattle.words.specs.Lists.{those}
+use Rattle.words.specs.Refusals.{unless, firstRefusal}
+use Rattle.words.specs.declared.Verdict.{Verdict}
+use Rattle.words.specs.declared.Verdict.the-variants.{Sound, Refused}
+use Rattle.words.proofs.Verdicts.{not-sound, both-sound, first-joined}
+use Rattle.kinds.specs.Makers.{coreOf, isEnabled}
+use Rattle.madt.specs.Pieces.{Piece, whole, cut, Whole, pieces, structures}
+use Rattle.madt.specs.Rules.{isType, structureRules}
+use Rattle.madt.specs.Contents.{ofType, howMany, made, enabledIn, foundIn}
+use Rattle.madt.specs.Walk.{rulesInTurn, walkRules, turnedAway, walked}
+use Rattle.madt.specs.declared.Found.{Found}
+use Rattle.madt.specs.declared.Walked.{Walked}
+use Rattle.madt.proofs.Those.{those-fewer}
+use Rattle.madt.proofs.Contents.{count-more, count-same, made-many}
+use Rattle.madt.proofs.Checks.{Kept, all-kept, room-core, room-eio, room-msi, room-bio}
+
+-- ---- what it found
+stands : (v : Verdict) (w : Walked) → unless turnedAway v w .verdict ≡ Sound → (v ≡ Sound) × (unless turnedAway v w ≡ w)
+unfolding unless turnedAway
+stands Sound w h = (refl, refl)
+stands (Refused r) w h = not-sound h
+
+module _ (table : List ℕ) (base sci : ℕ) (h : walked table base sci .verdict ≡ Sound) where
+  pub rules-sound : firstRefusal (walkRules table base) ≡ Sound
+  unfolding walked
+  rules-sound = stands _ _ h .0
+
+  pub found-is : walked table base sci .found ≡ foundIn base sci (structures (pieces table 44))
+  unfolding walked
+  found-is = ap (λ (w : Walked). w .found) (stands _ _ h .1)
+
+-- ---- the structures in turn
+-- past the end of a list of structures there is none
+abbrev pub noWhole : Whole
+noWhole = record { at = 0; bytes = [] }
+
+module _ (base : ℕ) where
+  -- the rules of the first structure, and of those behind it
+  in-turn : (before : List Whole) (at : ℕ) (s : List ℕ) (later : List Piece) → firstRefusal (rulesInTurn base before (whole at s ∷ later)) ≡ Sound
+      → Kept (howMany (byteAt s 0) before) s × (firstRefusal (rulesInTurn base (before ++ (record { at = at; bytes = s } ∷ [])) later) ≡ Sound)
+  unfolding rulesInTurn
+  in-turn before at s later h =
+      let b = both-sound _ _ (sym (first-joined (structureRules (base + at) (howMany (byteAt s 0) before) s) _) ∙ h) in
+      (all-kept _ _ _ (b .0), b .1)
+
+  -- each structure keeps the rules, after so many of its kind
+  pub each-kept : (before : List Whole) (ps : List Piece) → firstRefusal (rulesInTurn base before ps) ≡ Sound → (i : ℕ) → i < length (structures ps)
+      → (n : ℕ) × Kept n (getD (structures ps) i noWhole .bytes)
+  unfolding structures
+  each-kept before [] h i l = absurd (omega arith)
+  each-kept before (cut at ∷ ps) h i l = absurd (omega arith)
+  each-kept before (whole at s ∷ ps) h zero l = (howMany (byteAt s 0) before, in-turn before at s ps h .0)
+  each-kept before (whole at s ∷ ps) h (suc i) l = each-kept _ ps (in-turn before at s ps h .1) i (omega arith)
+
+  -- a kind of which a structure that keeps the rules is never one too many has no more than `most`
+  module _ (number most : ℕ) (room : (n : ℕ) (s : List ℕ) → Kept n s → byteAt s 0 ≡ number → n < most) where
+    one-more : (before : List Whole) (x : Whole) → Kept (howMany (byteAt (x .bytes) 0) before) (x .bytes) → howMany number before ≤ most
+        → howMany number (before ++ (x ∷ [])) ≤ most
+    unfolding isType
+    one-more before x k few = go (isType number (x .bytes)) refl
+      where
+        go : (b : Bool) → isType number (x .bytes) ≡ b → howMany number (before ++ (x ∷ [])) ≤ most
+        go true t =
+            let e = eqb-true (byteAt (x .bytes) 0) number t in
+            let free : howMany number before < most = rw e at (room _ (x .bytes) k e) in
+            rw (count-more number before x t) (omega arith)
+        go false t = rw (count-same number before x t) few
+
+    few-in-turn : (before : List Whole) (ps : List Piece) → howMany number before ≤ most → firstRefusal (rulesInTurn base before ps) ≡ Sound
+        → howMany number (before ++ structures ps) ≤ most
+    unfolding structures
+    few-in-turn before [] few h = rw append-nil few
+    few-in-turn before (cut at ∷ ps) few h = rw append-nil few
+    few-in-turn before (whole at s ∷ ps) few h =
+        let x : Whole = record { at = at; bytes = s } in
+        let t = in-turn before at s ps h in
+        rw (sym (append-assoc before (x ∷ []) (structures ps))) (few-in-turn (before ++ (x ∷ [])) ps (one-more before x (t .0) few) (t .1))
+
+-- ---- "At most 256 CORE, 1 LIO, 4 EIO, 4 BIO, 4 MSI, 1 LPC"
+module _ (table : List ℕ) (base : ℕ) (h : firstRefusal (walkRules table base) ≡ Sound) where
+  abbrev all : List Whole
+  all = structures (pieces table 44)
+
+  few-of : (number most : ℕ) → ((n : ℕ) (s : List ℕ) → Kept n s → byteAt s 0 ≡ number → n < most) → howMany number all ≤ most
+  unfolding walkRules ofType those
+  few-of number most room = few-in-turn base number most room [] (pieces table 44) (omega arith) h
+
+  pub few-cores : howMany 17 all ≤ 256
+  few-cores = few-of 17 256 (λ n s k t. room-core k t)
+
+  pub few-eios : howMany 20 all ≤ 4
+  few-eios = few-of 20 4 (λ n s k t. room-eio k t)
+
+  pub few-msis : howMany 21 all ≤ 4
+  few-msis = few-of 21 4 (λ n s k t. room-msi k t)
+
+  pub few-bios : howMany 22 all ≤ 4
+  few-bios = few-of 22 4 (λ n s k t. room-bio k t)
+
+  -- enabled or not
+  pub few-enabled : enabledIn all ≤ 256
+  unfolding enabledIn
+  few-enabled =
+      let fewer = those-fewer isEnabled (made 17 coreOf all) in
+      omega (arith, fewer, made-many 17 coreOf all, few-cores)
+
+  -- each of them keeps 32 to 38
+  pub kept-at : (i : ℕ) → i < length all → (n : ℕ) × Kept n (getD all i noWhole .bytes)
+  unfolding walkRules
+  kept-at i l = each-kept base [] (pieces table 44) h i l
