@@ -10,6 +10,7 @@ use Rattle.words.specs.Refusals.{refused, rule, unless, firstRefusal}
 use Rattle.words.specs.declared.Refusal.{Refusal}
 use Rattle.words.specs.declared.Verdict.{Verdict}
 use Rattle.words.specs.declared.Verdict.the-variants.{Sound, Refused}
+use Rattle.words.proofs.Choices.{passed}
 
 -- ---- a verdict is sound or a refusal, and never both
 pub not-sound : {refusal : Refusal} {X : Type 0} → _≡_ {A = Verdict} (Refused refusal) Sound → X
@@ -43,6 +44,13 @@ unfolding unless
 both-sound Sound w h = (refl, h)
 both-sound (Refused r) w h = not-sound h
 
+-- an answer tells the verdict before it, if `says` reads the refusal off what comes of one, and none off the answer
+pub unless-told : {A : Type 0} (turned : Refusal → A) (says : A → Verdict) → ((refusal : Refusal) → says (turned refusal) ≡ Refused refusal)
+    → (v : Verdict) (answer : A) → says answer ≡ Sound → says (unless turned v answer) ≡ v
+unfolding unless
+unless-told turned says back Sound answer fine = fine
+unless-told turned says back (Refused r) answer fine = back r
+
 -- ---- the first refusal
 module _ (broken : Bool) (number place : ℕ) (later : List Verdict) where
   pub first-broken : broken ≡ true → firstRefusal (rule broken number place ∷ later) ≡ Refused (refused number place)
@@ -53,11 +61,26 @@ module _ (broken : Bool) (number place : ℕ) (later : List Verdict) where
   unfolding firstRefusal unless if
   first-kept h e = rw h e
 
+  -- where nothing is refused, the first rule is kept, and so are the later ones
+  pub first-sound : firstRefusal (rule broken number place ∷ later) ≡ Sound → (broken ≡ false) × (firstRefusal later ≡ Sound)
+  unfolding firstRefusal
+  first-sound h =
+      let both = both-sound (rule broken number place) (firstRefusal later) h in
+      (passed broken _ _ _ (both .0) not-sound .0, both .1)
+
 -- of one list behind another
 pub first-joined : (xs ys : List Verdict) → firstRefusal (xs ++ ys) ≡ unless Refused (firstRefusal xs) (firstRefusal ys)
 unfolding firstRefusal unless
 first-joined [] ys = refl
 first-joined (v ∷ xs) ys = ap (unless Refused v) (first-joined xs ys) ∙ sym (unless-again Refused v (firstRefusal xs) (firstRefusal ys))
+
+-- an answer after one list behind another
+module _ {A : Type 0} (turned : Refusal → A) (xs ys : List Verdict) (answer : A) where
+  pub joined-refused : {refusal : Refusal} → firstRefusal xs ≡ Refused refusal → unless turned (firstRefusal (xs ++ ys)) answer ≡ turned refusal
+  joined-refused h = unless-refused turned _ answer (first-joined xs ys ∙ unless-refused Refused _ _ h)
+
+  pub joined-sound : firstRefusal xs ≡ Sound → unless turned (firstRefusal (xs ++ ys)) answer ≡ unless turned (firstRefusal ys) answer
+  joined-sound h = ap (λ (v : Verdict). unless turned v answer) (first-joined xs ys ∙ unless-sound Refused _ _ h)
 
 -- of one rule, asked of some things in turn: that of the first thing that breaks it
 pub first-in-turn {ℓ} : {A : Type ℓ} (broken : A → Bool) (number : ℕ) (place : A → ℕ) (xs : List A)
