@@ -13,7 +13,7 @@ use Rattle.words.specs.Lists.{numbersBelow}
 use Rattle.words.specs.Refusals.{firstRefusal}
 use Rattle.words.proofs.Searches.{Hit, search-found}
 use Rattle.words.proofs.Tests.{neither-right}
-use Rattle.words.proofs.Verdicts.{unless-sound, unless-told, both-sound, first-sound, first-joined}
+use Rattle.words.proofs.Verdicts.{unless-sound, unless-told, first-sound, joined-kept}
 use Rattle.capture.specs.Fields.{version, headerSize, descriptor, segmentCount, totalLength, rsdpAddress, descriptorsEnd, segmentLength, lengths, segmentPlace, segments}
 use Rattle.capture.specs.Rules.{wrongSize, wrongTotal, segmentRules, containerRules, verdict}
 use Rattle.capture.specs.Presence.{Stretch, Present, Absent, isPresent, placeOf, holds, placeIn, located, rsdpSize, rsdpStretch, presenceRules, rsdpPlace, rsdp}
@@ -112,7 +112,18 @@ behind capture address size place h =
     let there = held-place capture address size place s in
     omega arith
 
--- what the answer for the RSDP tells of the rules before it
+-- a stretch that is present stands at its place, and so does the RSDP where 10 is kept
+pub present-at : (s : Stretch) → isPresent s ≡ true → s ≡ Present (placeOf s)
+unfolding isPresent placeOf
+present-at (Present place) h = refl
+present-at Absent h = absurd (true≢false (sym h))
+
+pub rsdp-there : (capture : List ℕ) → firstRefusal (presenceRules capture) ≡ verdicts.Sound
+    → located capture (rsdpAddress capture) rsdpSize ≡ Present (rsdpPlace capture)
+unfolding presenceRules rsdpPlace rsdpStretch
+rsdp-there capture h = present-at (located capture (rsdpAddress capture) rsdpSize) (not-false _ (first-sound _ 10 10 _ h .0))
+
+-- what the answer for the RSDP tells of the rules before it, and of the place
 abbrev said : Root → Verdict
 said (roots.At place) = verdicts.Sound
 said (roots.Refused refusal) = verdicts.Refused refusal
@@ -121,35 +132,12 @@ pub root-told : (capture : List ℕ) {root : Root} → rsdp capture ≡ root →
 unfolding rsdp
 root-told capture h = sym (unless-told roots.Refused said (λ r. refl) _ _ refl) ∙ ap said h
 
--- a stretch that is present stands at its place
-pub present-at : (s : Stretch) → isPresent s ≡ true → s ≡ Present (placeOf s)
-unfolding isPresent placeOf
-present-at (Present place) h = refl
-present-at Absent h = absurd (true≢false (sym h))
-
--- where the RSDP was found, the capture is sound and the RSDP is located there
-rsdp-kept : (capture : List ℕ) (place : ℕ) → rsdp capture ≡ roots.At place → Sound capture × (firstRefusal (presenceRules capture) ≡ verdicts.Sound)
-unfolding verdict
-rsdp-kept capture place h =
-    both-sound _ _ (sym (first-joined (containerRules capture) (presenceRules capture)) ∙ root-told capture h)
-
 pub rsdp-of-sound : (capture : List ℕ) (place : ℕ) → rsdp capture ≡ roots.At place → Sound capture
-rsdp-of-sound capture place h = rsdp-kept capture place h .0
+unfolding verdict
+rsdp-of-sound capture place h = joined-kept (containerRules capture) (presenceRules capture) (root-told capture h) .0
 
 pub rsdp-at : (capture : List ℕ) (place : ℕ) → rsdp capture ≡ roots.At place → rsdpPlace capture ≡ place
 unfolding rsdp
 rsdp-at capture place h =
     let at : roots.At (rsdpPlace capture) ≡ roots.At place = sym (unless-sound roots.Refused _ _ (root-told capture h)) ∙ h in
     cc
-
-pub rsdp-located : (capture : List ℕ) (place : ℕ) → rsdp capture ≡ roots.At place
-    → located capture (rsdpAddress capture) rsdpSize ≡ Present place
-unfolding presenceRules rsdpPlace rsdpStretch
-rsdp-located capture place h =
-    present-at (located capture (rsdpAddress capture) rsdpSize) (not-false _ (first-sound _ 10 10 _ (rsdp-kept capture place h .1) .0))
-    ∙ ap Present (rsdp-at capture place h)
-
--- so the RSDP's bytes are all there
-pub rsdp-within : (capture : List ℕ) (place : ℕ) → rsdp capture ≡ roots.At place → place + rsdpSize ≤ length capture
-rsdp-within capture place h =
-    within capture (rsdpAddress capture) rsdpSize place (rsdp-of-sound capture place h) (rsdp-located capture place h)

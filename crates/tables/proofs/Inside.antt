@@ -1,5 +1,5 @@
 -- The tables of an accepted answer lie inside the capture: the theorem `tables-inside`.
-use mathlib.Core.Bool.{false, not}
+use mathlib.Core.Bool.{false, not, true≢false}
 use mathlib.Core.List.{List}
 use mathlib.Core.Path.{_≡_, refl, sym, ap, _∙_}
 use Prim.Native.Nat.{ℕ, _+_, _≤_, _<_}
@@ -13,14 +13,14 @@ use Rattle.words.specs.declared.Verdict.the-variants as verdicts
 use Rattle.words.proofs.Tests.{neither-left, neither-right}
 use Rattle.words.proofs.Verdicts.{unless-told, unless-sound, first-sound, joined-kept}
 use Rattle.capture.specs.Rules.{containerRules, verdict}
-use Rattle.capture.specs.Presence.{Present, isPresent, located, presenceRules, rsdpPlace}
+use Rattle.capture.specs.Presence.{isPresent, placeOf, located, presenceRules, rsdpPlace}
 use Rattle.capture.proofs.Within.{Sound, within, behind, present-at}
 use Rattle.capture.proofs.Apart.{one-place}
 use Rattle.tables.specs.Rsdp.{rsdpRules, xsdtField}
 use Rattle.tables.specs.Table.{headerSize, addressAt, headerAt, tableNamed, tableLength, cutShort, tableRules}
 use Rattle.tables.specs.Xsdt.{entryField, entryRules, xsdtRules}
 use Rattle.tables.specs.Finder.{firstNamed}
-use Rattle.tables.specs.Survey.{apic, facp, nameRules, bodyRules, withSci, tableOfEntry, madtOf, fadtOf, tablesFrom, xsdtOf, tablesOf, surveyRules, survey}
+use Rattle.tables.specs.Survey.{apic, facp, isNowhere, nameRules, bodyRules, withSci, tableOfEntry, madtOf, fadtOf, tablesFrom, xsdtOf, tablesOf, surveyRules, survey}
 use Rattle.tables.specs.declared.Table.{Table}
 use Rattle.tables.specs.declared.Tables.{Tables}
 use Rattle.tables.specs.declared.Entry.{Entry}
@@ -31,40 +31,46 @@ use Rattle.tables.proofs.Laws.{table-kept, entries-kept, named-counted}
 
 -- a table of a capture that is whole and has a body
 pub record Lies (capture : List ℕ) (table : Table) (least : ℕ) : Type 0 where
+  pub behind : 0 < table .place
   pub inside : table .place + table .length ≤ length capture
   pub long : least ≤ table .length
 
--- a whole table stands behind the header, and ends inside the capture
-pub whole-inside : (capture : List ℕ) (address place : ℕ) → Sound capture → located capture address headerSize ≡ Present place
-    → cutShort capture address place ≡ false
-    → (0 < place) × (36 ≤ tableLength capture place) × (place + tableLength capture place ≤ length capture)
-unfolding cutShort
-whole-inside capture address place sound h whole =
-    let size = tableLength capture place in
-    let long = ltb-false size headerSize (neither-left _ (not (isPresent (located capture address size))) whole) in
-    let there = present-at (located capture address size) (not-false _ (neither-right (ltb size headerSize) _ whole)) in
-    let same = one-place capture sound address headerSize size place _ (omega arith) (omega arith) h there in
-    let ends = within capture address size _ sound there in
-    (omega (arith, behind capture address headerSize place h), long, omega arith)
-
--- so does a table that a field names, if no rule refuses it
-named-inside : (capture : List ℕ) (field : ℕ) → Sound capture → firstRefusal (tableRules capture field) ≡ verdicts.Sound
-    → tableNamed capture field .place + tableNamed capture field .length ≤ length capture
-unfolding tableNamed headerAt
+-- a table that a field names and no rule refuses stands behind the container's header, and ends inside the capture
+pub named-inside : (capture : List ℕ) (field : ℕ) → Sound capture → firstRefusal (tableRules capture field) ≡ verdicts.Sound
+    → Lies capture (tableNamed capture field) 36
+unfolding tableNamed headerAt cutShort
 named-inside capture field sound h =
     let kept = table-kept capture field h in
-    whole-inside capture (addressAt capture field) _ sound (kept .0) (kept .1) .2
+    let address = addressAt capture field in
+    let place = placeOf (headerAt capture field) in
+    let size = tableLength capture place in
+    let long = ltb-false size headerSize (neither-left _ (not (isPresent (located capture address size))) (kept .1)) in
+    let there = present-at (located capture address size) (not-false _ (neither-right (ltb size headerSize) _ (kept .1))) in
+    let same = one-place capture sound address headerSize size place _ (omega arith) (omega arith) (kept .0) there in
+    let ends = within capture address size _ sound there in
+    record { behind = omega (arith, behind capture address headerSize place (kept .0)); inside = omega arith; long = long }
 
-entry-inside : (capture : List ℕ) (xsdt : Table) (letters : ℕ) → Sound capture → firstRefusal (entryRules capture xsdt) ≡ verdicts.Sound
-    → tableOfEntry capture xsdt (firstNamed capture xsdt letters) .place + tableOfEntry capture xsdt (firstNamed capture xsdt letters) .length ≤ length capture
-unfolding tableOfEntry
-entry-inside capture xsdt letters sound through = go (firstNamed capture xsdt letters) refl
+-- so does a table that the finder finds, where no entry was refused
+pub found-inside : (capture : List ℕ) (xsdt : Table) (letters : ℕ) → Sound capture → firstRefusal (entryRules capture xsdt) ≡ verdicts.Sound
+    → isNowhere (firstNamed capture xsdt letters) ≡ false → Lies capture (tableOfEntry capture xsdt (firstNamed capture xsdt letters)) 36
+unfolding tableOfEntry isNowhere
+found-inside capture xsdt letters sound through = go (firstNamed capture xsdt letters) refl
   where
-    go : (e : Entry) → firstNamed capture xsdt letters ≡ e → tableOfEntry capture xsdt e .place + tableOfEntry capture xsdt e .length ≤ length capture
-    go Nowhere h = omega arith
-    go (At entry) h =
+    go : (e : Entry) → firstNamed capture xsdt letters ≡ e → isNowhere e ≡ false → Lies capture (tableOfEntry capture xsdt e) 36
+    go Nowhere h some = absurd (true≢false some)
+    go (At entry) h some =
         named-inside capture (entryField xsdt entry) sound
         (entries-kept capture xsdt entry through (named-counted capture xsdt letters entry h))
+
+-- and where 26 is kept, both MADT and FADT are found
+pub both-inside : (capture : List ℕ) (xsdt : Table) → Sound capture → firstRefusal (entryRules capture xsdt) ≡ verdicts.Sound
+    → firstRefusal (nameRules capture xsdt) ≡ verdicts.Sound → Lies capture (madtOf capture xsdt) 36 × Lies capture (fadtOf capture xsdt) 36
+unfolding nameRules madtOf fadtOf
+both-inside capture xsdt sound through h =
+    let some = first-sound _ 26 _ _ h .0 in (
+      found-inside capture xsdt apic sound through (neither-left _ (isNowhere (firstNamed capture xsdt facp)) some),
+      found-inside capture xsdt facp sound through (neither-right (isNowhere (firstNamed capture xsdt apic)) _ some),
+    )
 
 long-enough : (capture : List ℕ) (madt fadt : Table) → firstRefusal (bodyRules capture madt fadt) ≡ verdicts.Sound
     → (44 ≤ madt .length) × (48 ≤ fadt .length)
@@ -96,20 +102,21 @@ pub record Accepted (capture : List ℕ) (t : Tables) : Type 0 where
 
 -- the MADT has its 44 bytes, the FADT its 48, and both lie wholly inside the capture
 pub tables-inside : (capture : List ℕ) (t : Tables) → survey capture ≡ Found t → Accepted capture t
-unfolding verdict surveyRules tablesOf tablesFrom withSci madtOf fadtOf
+unfolding verdict surveyRules tablesOf tablesFrom withSci
 tables-inside capture t h =
     let xsdt = xsdtOf capture in
-    let sound = joined-kept (containerRules capture) _ (survey-told capture h) in
-    let rsdp = joined-kept (presenceRules capture) _ (sound .1) in
-    let field = joined-kept (rsdpRules capture (rsdpPlace capture)) _ (rsdp .1) in
-    let table = joined-kept (tableRules capture (xsdtField (rsdpPlace capture))) _ (field .1) in
+    let container = joined-kept (containerRules capture) _ (survey-told capture h) in
+    let present = joined-kept (presenceRules capture) _ (container .1) in
+    let rsdp = joined-kept (rsdpRules capture (rsdpPlace capture)) _ (present .1) in
+    let table = joined-kept (tableRules capture (xsdtField (rsdpPlace capture))) _ (rsdp .1) in
     let index = joined-kept (xsdtRules capture xsdt) _ (table .1) in
     let entries = joined-kept (entryRules capture xsdt) _ (index .1) in
-    let bodies = joined-kept (nameRules capture xsdt) _ (entries .1) in
-    let long = long-enough capture (madtOf capture xsdt) (fadtOf capture xsdt) (bodies .1) in
+    let names = joined-kept (nameRules capture xsdt) _ (entries .1) in
+    let lie = both-inside capture xsdt (container .0) (entries .0) (names .0) in
+    let long = long-enough capture (madtOf capture xsdt) (fadtOf capture xsdt) (names .1) in
     rw (← survey-is capture h)
     (record {
-      sound = sound .0;
-      madt = record { inside = entry-inside capture xsdt apic (sound .0) (entries .0); long = long .0 };
-      fadt = record { inside = entry-inside capture xsdt facp (sound .0) (entries .0); long = long .1 };
+      sound = container .0;
+      madt = record { behind = lie .0 .behind; inside = lie .0 .inside; long = long .0 };
+      fadt = record { behind = lie .1 .behind; inside = lie .1 .inside; long = long .1 };
     })
