@@ -6,9 +6,10 @@ use mathlib.Core.Path.{_≡_, refl, sym, _∙_, ap}
 use mathlib.Core.Logic.{⊎-elim}
 use mathlib.Core.List.{List}
 use borrow.Author.Tests.{ne-eqb}
-use Rattle.words.specs.Refusals.{refused}
+use Rattle.words.specs.Refusals.{refused, firstRefusal}
 use Rattle.words.specs.declared.Refusal.{Refusal}
 use Rattle.words.proofs.Choices.{no-if}
+use Rattle.words.proofs.Verdicts.{unless-refused, unless-sound, first-alone}
 use Rattle.words.specs.declared.Verdict.the-variants.{Sound, Refused}
 use Rattle.tables.specs.declared.Tables.{Tables}
 use Rattle.lines.specs.Rules.{firstBroken}
@@ -19,12 +20,12 @@ use Rattle.processors.specs.Listing.{count}
 use Rattle.map_promises.specs.Statements.{KeepsTo43, RefusedForClash}
 use Rattle.map_promises.proofs.ClashExactly.{clash-exactly}
 use Rattle.map_promises.proofs.WalkKeepsBooks.{walk-keeps-books}
-use Rattle.reading.specs.Scan.{madtBytes, walkOf, processorRule, mapRule, rulesAfterWalk, afterSurvey, scan}
-use Rattle.reading.specs.Reading.{withoutMap}
+use Rattle.reading.specs.Scan.{madtBytes, walkOf, processorRule, mapRule, rulesAfterWalk, madtRules, scan}
+use Rattle.reading.specs.Reading.{withoutMap, readingOf}
 use Rattle.reading.specs.declared.Reading.{Reading}
-use Rattle.reading.proofs.Laws.{repeat-none, turn-sound, walk-sound, scan-found, reading-refused}
+use Rattle.reading.proofs.Laws.{repeat-none}
 use Rattle.promises.specs.Captures.{NothingBefore51, RefusedAsClash, RefusedExactlyForSharing, ReadRefusedAsClash, ReadRefusedExactlyForSharing}
-use Rattle.reading.proofs.Scanned.{verdict-left}
+use Rattle.reading.proofs.Scanned.{found-verdict}
 use Rattle.promises.proofs.WhyRefused.{why-refused}
 
 -- 40: some processor is enabled
@@ -47,12 +48,13 @@ module _ (capture : List ℕ) (t : Tables) (h : NothingBefore51 capture t) where
 
   -- the verdict is what the map breaks first
   pub of-map : scan capture .verdict ≡ mapRule first
-  unfolding afterSurvey rulesAfterWalk
+  unfolding madtRules rulesAfterWalk firstRefusal
   of-map =
-      ap (λ s. s .verdict) (scan-found capture (h .tables) ∙ walk-sound (madtBytes capture (t .madt)) t (walkOf capture t) (h .structures))
-      ∙ verdict-left t map _
-      ∙ turn-sound _ _ (repeat-none (t .madt .place) _ (h .r39))
-      ∙ turn-sound _ _ (enabled (t .madt .place) (count (madtBytes capture (t .madt))) (h .r40core))
+      found-verdict capture (h .tables)
+      ∙ unless-sound _ _ _ (h .structures)
+      ∙ unless-sound _ _ _ (repeat-none (t .madt .place) _ (h .r39))
+      ∙ unless-sound _ _ _ (enabled (t .madt .place) (count (madtBytes capture (t .madt))) (h .r40core))
+      ∙ first-alone _
 
   to-43 : KeepsTo43 map (walkOf capture t .found .places) (t .madt .place)
   to-43 =
@@ -85,8 +87,8 @@ of-read capture list c =
     (why-refused capture list (refused (c .0) (c .1)) (c .4))
 
 to-read : (capture list : List ℕ) → RefusedAsClash capture → ReadRefusedAsClash capture list
-unfolding withoutMap
-to-read capture list c = (c .0, c .1, c .2, c .3, ap (λ (r : Reading). r .answer) (reading-refused capture list (c .4)))
+unfolding readingOf withoutMap
+to-read capture list c = (c .0, c .1, c .2, c .3, ap (λ (r : Reading). r .answer) (unless-refused _ _ _ (c .4)))
 
 pub read-refused-exactly-for-sharing : (capture list : List ℕ) (t : Tables) → ReadRefusedExactlyForSharing capture list t
 read-refused-exactly-for-sharing capture list t h =
