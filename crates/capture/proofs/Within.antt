@@ -132,12 +132,21 @@ pub root-told : (capture : List ℕ) {root : Root} → rsdp capture ≡ root →
 unfolding rsdp
 root-told capture h = sym (unless-told roots.Refused said (λ r. refl) _ _ refl) ∙ ap said h
 
-pub rsdp-of-sound : (capture : List ℕ) (place : ℕ) → rsdp capture ≡ roots.At place → Sound capture
+rsdp-kept : (capture : List ℕ) (place : ℕ) → rsdp capture ≡ roots.At place → Sound capture × (firstRefusal (presenceRules capture) ≡ verdicts.Sound)
 unfolding verdict
-rsdp-of-sound capture place h = joined-kept (containerRules capture) (presenceRules capture) (root-told capture h) .0
+rsdp-kept capture place h = joined-kept (containerRules capture) (presenceRules capture) (root-told capture h)
+
+pub rsdp-of-sound : (capture : List ℕ) (place : ℕ) → rsdp capture ≡ roots.At place → Sound capture
+rsdp-of-sound capture place h = rsdp-kept capture place h .0
 
 pub rsdp-at : (capture : List ℕ) (place : ℕ) → rsdp capture ≡ roots.At place → rsdpPlace capture ≡ place
 unfolding rsdp
 rsdp-at capture place h =
     let at : roots.At (rsdpPlace capture) ≡ roots.At place = sym (unless-sound roots.Refused _ _ (root-told capture h)) ∙ h in
     cc
+
+-- where the RSDP was found, its bytes are all there
+pub rsdp-within : (capture : List ℕ) (place : ℕ) → rsdp capture ≡ roots.At place → place + rsdpSize ≤ length capture
+rsdp-within capture place h =
+    let kept = rsdp-kept capture place h in
+    rw (← rsdp-at capture place h) (within capture (rsdpAddress capture) rsdpSize (rsdpPlace capture) (kept .0) (rsdp-there capture (kept .1)))

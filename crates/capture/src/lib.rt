@@ -267,7 +267,8 @@ fn rsdp_address(capture: &[u8]) -> u64
 // Refusal 10, of a sound capture.
 fn locate_rsdp(capture: &[u8]) -> Root
     requires { ⌜ verdict (now capture) ≡ Verdict.Sound ⌝ }
-    ensures { λ r. ⌜ r ≡ unless Root.Refused (firstRefusal (presenceRules (now (capture .entry)))) (Root.At (rsdpPlace (now (capture .entry)))) ⌝ }
+    ensures { λ r. let c = now (capture .entry) in
+        ⌜ r ≡ unless Root.Refused (firstRefusal (presenceRules c)) (Root.At (rsdpPlace c)) ⌝ }
 {
     let reach = reach_of(capture, rsdp_address(capture));
     if reach.room < RSDP_SIZE {

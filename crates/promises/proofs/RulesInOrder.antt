@@ -37,7 +37,7 @@ use Rattle.processors.specs.declared.Repeat.{Repeat}
 use Rattle.processors.specs.declared.Repeat.the-variants as repeats
 use Rattle.map_promises.proofs.Verdicts.{kept-check}
 use Rattle.map_promises.proofs.WalkKeepsBooks.{walk-keeps-books}
-use Rattle.reading.specs.Scan.{madtBytes, walkOf, turnedDown, repeatRule, processorRule, mapRule, rulesAfterWalk, madtRules, scan}
+use Rattle.reading.specs.Scan.{madtBytes, walkOf, turnedDown, repeatRule, processorRule, mapRule, rulesAfterWalk, madtRules}
 use Rattle.reading.proofs.Laws.{repeat-none, map-broken, scan-refused}
 use Rattle.promises.specs.Captures.{NothingBefore51, NotRefusedBefore51, RulesInOrder}
 use Rattle.promises.proofs.EveryRefusal.{walk-of-told}

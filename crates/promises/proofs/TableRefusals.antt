@@ -1,14 +1,13 @@
 -- Refusals 11 to 30: of the RSDP, of a table by its address field, of the XSDT and its entries, of MADT and FADT.
 use Prim.Native.Nat.{ℕ, _+_, _-_, _<_, _≤_}
 use native.Mathlib.Omega.{arith}
-use mathlib.Core.Path.{_≡_, refl, sym, _∙_}
+use mathlib.Core.Path.{_≡_, refl}
 use mathlib.Core.List.{List}
 use lib.Dec.{leb}
 use lib.ListN.{length}
 use borrow.Author.Tests.{not-false}
 use Rattle.words.specs.Lists.{numbersBelow}
 use Rattle.words.specs.Refusals.{firstRefusal}
-use Rattle.words.specs.declared.Verdict.{Verdict}
 use Rattle.words.specs.declared.Verdict.the-variants as verdicts
 use Rattle.words.proofs.Choices.{if-cases}
 use Rattle.capture.specs.Fields.{rsdpAddress}
@@ -16,7 +15,7 @@ use Rattle.capture.specs.Rules.{containerRules, verdict}
 use Rattle.capture.specs.Presence.{placeOf, rsdpSize, presenceRules, rsdpPlace}
 use Rattle.capture.proofs.Within.{Sound, within, behind, present-at, rsdp-there}
 use Rattle.tables.specs.Rsdp.{rsdpRules, xsdtField}
-use Rattle.tables.specs.Table.{headerSize, addressAt, headerAt, tableNamed, tableRules}
+use Rattle.tables.specs.Table.{headerSize, addressAt, headerAt, tableRules}
 use Rattle.tables.specs.Xsdt.{entryCount, entryField, entries, xsdtRules, entryRules}
 use Rattle.tables.specs.Finder.{names, namedFrom, firstNamed, namedAfter, secondNamed}
 use Rattle.tables.specs.Survey.{apic, facp, earlier, secondRule, nameRules, bodyRules, madtOf, fadtOf, xsdtOf, surveyRules, survey}

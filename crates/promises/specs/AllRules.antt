@@ -41,7 +41,7 @@ laterRules table t found =
     ∷ processorRule (t .madt .place) (count table)
     ∷ map mapRule (verdictsFrom40 (says (found .map)) (found .places) (t .madt .place) (t .fadt .place))
 
--- ---- all of them: those of the container and the tables stand in `surveyRules`
+-- ---- all of them: first 1 to 30, which are listed in `surveyRules` of crates/tables/specs/Survey
 unfoldable pub allRules : List ℕ → List Verdict
 allRules capture =
     let t = tablesOf capture in

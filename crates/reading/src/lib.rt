@@ -131,7 +131,8 @@ fn judge(t: Tables, map: Map, verdict: Verdict) -> Scan
 
 // The walk of the MADT that a survey found, and what comes after it.
 fn scan_tables(capture: &[u8], t: Tables) -> Scan
-    ensures { λ r. let c = now (capture .entry) in ⌜ r ≡ unless turnedDown (firstRefusal (madtRules c t)) (accepted t (walkOf c t .found .map)) ⌝ }
+    ensures { λ r. let c = now (capture .entry) in
+        ⌜ r ≡ unless turnedDown (firstRefusal (madtRules c t)) (accepted t (walkOf c t .found .map)) ⌝ }
 {
     let madt = t.madt;
     let walked = madt::walk::walk_madt(capture, madt, t.sci);

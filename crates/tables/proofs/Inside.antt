@@ -51,7 +51,7 @@ named-inside capture field sound h =
     record { behind = omega (arith, behind capture address headerSize place (kept .0)); inside = omega arith; long = long }
 
 -- so does a table that the finder finds, where no entry was refused
-pub found-inside : (capture : List ℕ) (xsdt : Table) (letters : ℕ) → Sound capture → firstRefusal (entryRules capture xsdt) ≡ verdicts.Sound
+found-inside : (capture : List ℕ) (xsdt : Table) (letters : ℕ) → Sound capture → firstRefusal (entryRules capture xsdt) ≡ verdicts.Sound
     → isNowhere (firstNamed capture xsdt letters) ≡ false → Lies capture (tableOfEntry capture xsdt (firstNamed capture xsdt letters)) 36
 unfolding tableOfEntry isNowhere
 found-inside capture xsdt letters sound through = go (firstNamed capture xsdt letters) refl

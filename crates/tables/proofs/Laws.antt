@@ -15,7 +15,7 @@ use Rattle.words.proofs.Choices.{yes-if, no-if}
 use Rattle.words.proofs.Searches.{search-found}
 use Rattle.words.proofs.Verdicts.{unless-told, unless-sound, first-sound, joined-refused, joined-sound, each-kept}
 use Rattle.capture.specs.Rules.{containerRules}
-use Rattle.capture.specs.Presence.{Present, Absent, isPresent, placeOf, presenceRules, rsdpPlace, rsdp}
+use Rattle.capture.specs.Presence.{Present, isPresent, placeOf, presenceRules, rsdpPlace, rsdp}
 use Rattle.capture.specs.declared.Root.the-variants as roots
 use Rattle.capture.proofs.Within.{present-at, root-told, rsdp-at}
 use Rattle.tables.specs.Rsdp.{rsdpRules, xsdtField}
@@ -63,11 +63,6 @@ entries-kept capture xsdt k h counted =
     each-kept (λ (j : ℕ). tableRules capture (entryField xsdt j)) 0 (entryCount xsdt) k h (omega arith) (omega arith)
 
 -- an entry that names a table with the signature
-pub names-absent : (capture : List ℕ) (xsdt : Table) (letters entry : ℕ) → headerAt capture (entryField xsdt entry) ≡ Absent
-    → names capture xsdt letters entry ≡ false
-unfolding names isPresent
-names-absent capture xsdt letters entry h = rw h
-
 pub names-present : (capture : List ℕ) (xsdt : Table) (letters entry : ℕ) {place : ℕ} → headerAt capture (entryField xsdt entry) ≡ Present place
     → names capture xsdt letters entry ≡ eqb (signature capture place) letters
 unfolding names isPresent placeOf
@@ -95,7 +90,7 @@ module _ (capture : List ℕ) where
       ++ (xsdtRules capture xsdt
       ++ (entryRules capture xsdt ++ (nameRules capture xsdt ++ bodyRules capture (madtOf capture xsdt) (fadtOf capture xsdt)))))
 
-  pub survey-split : survey capture
+  survey-split : survey capture
       ≡ unless Refused (firstRefusal ((containerRules capture ++ presenceRules capture) ++ fromRsdp (rsdpPlace capture))) (Found (tablesOf capture))
   unfolding survey surveyRules xsdtOf
   survey-split =

@@ -4,7 +4,6 @@ use mathlib.Core.List.{List}
 use mathlib.Core.Path.{_≡_, refl, sym, ap, _∙_}
 use Prim.Native.Nat.{ℕ, _+_, _-_, _≤_, _<_}
 use native.Mathlib.Nat.{sub-zero}
-use native.Mathlib.Omega.{arith}
 use lib.Dec.{eqb}
 use Rattle.words.specs.Choice.{if}
 use Rattle.words.specs.Lists.{first, numbersFrom, numbersBelow}

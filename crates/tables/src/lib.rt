@@ -145,7 +145,8 @@ fn sci_number(capture: &[u8], fadt: Table) -> u16
 
 // Refusals 28 to 30, and what is found.
 fn survey_tables(capture: &[u8], madt: Table, fadt: Table) -> Survey
-    ensures { λ r. let c = now (capture .entry) in ⌜ r ≡ unless Survey.Refused (firstRefusal (bodyRules c madt fadt)) (Survey.Found (withSci c madt fadt)) ⌝ }
+    ensures { λ r. let c = now (capture .entry) in
+        ⌜ r ≡ unless Survey.Refused (firstRefusal (bodyRules c madt fadt)) (Survey.Found (withSci c madt fadt)) ⌝ }
 {
     match body_rules(capture, madt, fadt) {
         Verdict::Refused(refusal) => Survey::Refused(refusal),
@@ -161,7 +162,9 @@ fn survey_tables(capture: &[u8], madt: Table, fadt: Table) -> Survey
 fn survey_names(capture: &[u8], xsdt: Table, madt: Named, fadt: Named) -> Survey
     requires { ⌜ madt ≡ named (now capture) xsdt apic ⌝ }
     requires { ⌜ fadt ≡ named (now capture) xsdt facp ⌝ }
-    ensures { λ r. let c = now (capture .entry) in ⌜ r ≡ unless Survey.Refused (firstRefusal (nameRules c xsdt ++ bodyRules c (madtOf c xsdt) (fadtOf c xsdt))) (Survey.Found (tablesFrom c xsdt)) ⌝ }
+    ensures { λ r. let c = now (capture .entry) in
+        let rules = nameRules c xsdt ++ bodyRules c (madtOf c xsdt) (fadtOf c xsdt) in
+        ⌜ r ≡ unless Survey.Refused (firstRefusal rules) (Survey.Found (tablesFrom c xsdt)) ⌝ }
 {
     let first_madt = madt.first;
     let first_fadt = fadt.first;
@@ -179,7 +182,9 @@ fn survey_names(capture: &[u8], xsdt: Table, madt: Named, fadt: Named) -> Survey
 // Refusals 23 to 25, those of the entries, and what comes after.
 fn survey_xsdt(capture: &[u8], xsdt: Table) -> Survey
     requires { ⌜ verdict (now capture) ≡ Sound ⌝ }
-    ensures { λ r. let c = now (capture .entry) in ⌜ r ≡ unless Survey.Refused (firstRefusal (xsdtRules c xsdt ++ (entryRules c xsdt ++ (nameRules c xsdt ++ bodyRules c (madtOf c xsdt) (fadtOf c xsdt))))) (Survey.Found (tablesFrom c xsdt)) ⌝ }
+    ensures { λ r. let c = now (capture .entry) in
+        let rules = xsdtRules c xsdt ++ (entryRules c xsdt ++ (nameRules c xsdt ++ bodyRules c (madtOf c xsdt) (fadtOf c xsdt))) in
+        ⌜ r ≡ unless Survey.Refused (firstRefusal rules) (Survey.Found (tablesFrom c xsdt)) ⌝ }
 {
     match xsdt::xsdt_rules(capture, xsdt) {
         Verdict::Refused(refusal) => Survey::Refused(refusal),
@@ -193,7 +198,14 @@ fn survey_xsdt(capture: &[u8], xsdt: Table) -> Survey
 // Refusals 11 to 14, the XSDT's 20 to 22, and what comes after.
 fn survey_rsdp(capture: &[u8], place: u16) -> Survey
     requires { ⌜ verdict (now capture) ≡ Sound ⌝ }
-    ensures { λ r. let c = now (capture .entry) in let xsdt = tableNamed c (xsdtField place) in ⌜ r ≡ unless Survey.Refused (firstRefusal (rsdpRules c place ++ (tableRules c (xsdtField place) ++ (xsdtRules c xsdt ++ (entryRules c xsdt ++ (nameRules c xsdt ++ bodyRules c (madtOf c xsdt) (fadtOf c xsdt))))))) (Survey.Found (tablesFrom c xsdt)) ⌝ }
+    ensures { λ r. let c = now (capture .entry) in
+        let xsdt = tableNamed c (xsdtField place) in
+        let rules =
+        rsdpRules c place
+        ++ (tableRules c (xsdtField place)
+        ++ (xsdtRules c xsdt
+        ++ (entryRules c xsdt ++ (nameRules c xsdt ++ bodyRules c (madtOf c xsdt) (fadtOf c xsdt))))) in
+        ⌜ r ≡ unless Survey.Refused (firstRefusal rules) (Survey.Found (tablesFrom c xsdt)) ⌝ }
 {
     match rsdp::rsdp_rules(capture, place) {
         Verdict::Refused(refusal) => Survey::Refused(refusal),

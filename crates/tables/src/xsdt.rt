@@ -141,7 +141,8 @@ fn noted(known: Named, signed: bool, table: Table, entry: u16) -> Named
 // The finder, and refusals 20 to 22 of the entries in turn: each entry's table is located and summed once.
 pub(crate) fn find_names(capture: &[u8], xsdt: Table) -> Names
     requires { ⌜ verdict (now capture) ≡ Sound ⌝ }
-    ensures { λ r. let c = now (capture .entry) in ⌜ r ≡ unless Names.Refused (firstRefusal (entryRules c xsdt)) (Names.Are (named c xsdt apic) (named c xsdt facp)) ⌝ }
+    ensures { λ r. let c = now (capture .entry) in
+        ⌜ r ≡ unless Names.Refused (firstRefusal (entryRules c xsdt)) (Names.Are (named c xsdt apic) (named c xsdt facp)) ⌝ }
 {
     let n = entry_count(xsdt);
     let none = not_named();
