@@ -12,25 +12,26 @@ use Rattle.words.specs.Refusals.{refused}
 use Rattle.words.proofs.Order.{order}
 use Rattle.words.proofs.Searches.{search-none}
 use Rattle.words.proofs.Tests.{neither-right}
+use Rattle.words.proofs.Verdicts.{not-sound}
 use Rattle.capture.specs.Fields.{segmentCount, descriptor, segmentAddress, segmentLength, segments}
-use Rattle.capture.specs.Rules.{emptySegment, endsPastMemory, startsEarly, endBefore, segmentBroken, segmentRules}
+use Rattle.capture.specs.Rules.{emptySegment, endsPastMemory, startsEarly, endBefore, segmentBroken}
 use Rattle.capture.specs.Presence.{Present, placeIn, located}
 use Rattle.words.specs.declared.Verdict.the-variants as verdicts
-use Rattle.capture.proofs.Laws.{holds-start, holds-end}
+use Rattle.capture.proofs.Laws.{holds-start, holds-end, segments-first}
 use Rattle.capture.proofs.Within.{Sound, sound-segments, located-held, held-place}
 
 module _ (capture : List ℕ) (sound : Sound capture) where
   -- no segment of it is broken
   unbroken : (i : ℕ) → i < segmentCount capture → segmentBroken capture i ≡ false
-  unfolding segmentRules segments numbersBelow
+  unfolding segments numbersBelow
   unbroken i h =
       search-none (segmentBroken capture) (λ (k : ℕ). verdicts.Refused (refused 6 (descriptor capture k))) verdicts.Sound
       verdicts.Sound
       0
       (segmentCount capture)
       i
-      (sound-segments capture sound)
-      (λ k t e. let z : _≡_ {A = ℕ} 0 1 = cc in omega arith)
+      (sym (segments-first capture) ∙ sound-segments capture sound)
+      (λ k t e. not-sound e)
       (omega arith)
       (omega arith)
 

@@ -8,14 +8,16 @@ use native.Mathlib.Omega.{arith}
 use lib.Dec.{ltb, leb}
 use borrow.Author.Tests.{le-ltb, leb-true}
 use Rattle.words.proofs.Tests.{both-left, both-right}
-use Rattle.capture.specs.Fields.{descriptor, segmentAddress, segmentLength, lengths, segmentPlace}
-use Rattle.capture.specs.Rules.{endBefore, startsEarly, verdict}
-use Rattle.capture.specs.Presence.{holds, placeIn, reachIn, rsdpPresence, afterVerdict, rsdp}
+use Rattle.capture.specs.Fields.{descriptor, segmentAddress, segmentLength, segments, lengths, segmentPlace}
+use Rattle.capture.specs.Rules.{endBefore, startsEarly, segmentBroken, segmentRules}
+use Rattle.capture.specs.Presence.{holds, placeIn}
+use Rattle.capture.specs.Reach.{reachIn}
 use Rattle.words.specs.Bytes.{AllBytes}
+use Rattle.words.specs.Lists.{first}
+use Rattle.words.specs.Refusals.{refused, firstRefusal}
+use Rattle.words.specs.declared.Verdict.the-variants.{Sound, Refused}
 use Rattle.words.proofs.Numbers.{number-small}
-use Rattle.words.specs.declared.Refusal.{Refusal}
-use Rattle.words.specs.declared.Verdict.the-variants as verdicts
-use Rattle.capture.specs.declared.Root.the-variants as roots
+use Rattle.words.proofs.Verdicts.{first-in-turn}
 
 -- one segment more
 pub lengths-next : (capture : List ℕ) (i : ℕ) → lengths capture (i + 1) ≡ lengths capture i + segmentLength capture i
@@ -80,11 +82,8 @@ pub place-next : (capture : List ℕ) (i : ℕ) → segmentPlace capture (i + 1)
 unfolding segmentPlace
 place-next capture i = omega (arith, lengths-next capture i)
 
--- the order of the answers for the RSDP: the verdict comes first
-pub rsdp-refused : (capture : List ℕ) {refusal : Refusal} → verdict capture ≡ verdicts.Refused refusal → rsdp capture ≡ roots.Refused refusal
-unfolding rsdp afterVerdict
-rsdp-refused capture h = rw h
-
-pub rsdp-sound : (capture : List ℕ) → verdict capture ≡ verdicts.Sound → rsdp capture ≡ rsdpPresence capture
-unfolding rsdp afterVerdict
-rsdp-sound capture h = rw h
+-- 6, as a search for the first broken segment
+pub segments-first : (capture : List ℕ)
+    → firstRefusal (segmentRules capture) ≡ first (segmentBroken capture) (λ i. Refused (refused 6 (descriptor capture i))) Sound (segments capture)
+unfolding segmentRules
+segments-first capture = first-in-turn (segmentBroken capture) 6 (descriptor capture) (segments capture)

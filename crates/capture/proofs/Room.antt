@@ -7,11 +7,14 @@ use Prim.Native.Nat.{ℕ, _+_, _-_, _≤_, _<_}
 use native.Mathlib.Omega.{arith}
 use borrow.Author.Tests.{le-leb}
 use Rattle.words.specs.Lists.{first, numbersBelow}
-use Rattle.words.specs.Refusals.{refused}
+use Rattle.words.specs.Choice.{if}
+use Rattle.words.specs.Refusals.{refused, unless, firstRefusal}
 use Rattle.words.proofs.Searches.{Hit, search-found, search-none}
 use Rattle.capture.specs.Fields.{segmentCount, rsdpAddress, segmentAddress, segmentLength, segments}
-use Rattle.capture.specs.Presence.{Stretch, Present, Absent, holds, placeIn, located, reachIn, reached, rsdpSize, presentOr10, rsdpPresence}
+use Rattle.capture.specs.Presence.{Stretch, Present, Absent, holds, placeIn, isPresent, placeOf, located, rsdpSize, rsdpStretch, presenceRules, rsdpPlace}
+use Rattle.capture.specs.Reach.{reachIn, reached}
 use Rattle.capture.specs.declared.Reach.{Reach}
+use Rattle.capture.specs.declared.Root.{Root}
 use Rattle.capture.specs.declared.Root.the-variants as roots
 use Rattle.capture.proofs.Laws.{holds-start, holds-end}
 use Rattle.capture.proofs.Within.{Sound, located-held, within-small}
@@ -110,12 +113,15 @@ module _ (capture : List ℕ) (sound : Sound capture) {reach : Reach} (h : reach
   rsdp-there : rsdpSize ≤ reach .room → located capture (rsdpAddress capture) rsdpSize ≡ Present (reach .place)
   rsdp-there fits = rw h (room-present capture sound (rsdpAddress capture) rsdpSize (omega arith) (rw h at fits))
 
-  pub rsdp-present : rsdpSize ≤ reach .room → rsdpPresence capture ≡ roots.At (reach .place)
-  unfolding rsdpPresence presentOr10
+  abbrev answer : Root
+  answer = unless roots.Refused (firstRefusal (presenceRules capture)) (roots.At (rsdpPlace capture))
+
+  pub rsdp-present : rsdpSize ≤ reach .room → answer ≡ roots.At (reach .place)
+  unfolding presenceRules rsdpPlace rsdpStretch isPresent placeOf firstRefusal unless if
   rsdp-present fits = rw (rsdp-there fits)
 
-  pub rsdp-absent : reach .room < rsdpSize → rsdpPresence capture ≡ roots.Refused (refused 10 10)
-  unfolding rsdpPresence presentOr10
+  pub rsdp-absent : reach .room < rsdpSize → answer ≡ roots.Refused (refused 10 10)
+  unfolding presenceRules rsdpStretch isPresent firstRefusal unless if
   rsdp-absent short = rw (room-absent capture sound (rsdpAddress capture) rsdpSize (rw h at short))
 
   -- its place has 16 bits

@@ -1,25 +1,25 @@
 -- What is located in a sound capture lies inside the capture: the theorem `within`, and what upper crates need beside it.
-use mathlib.Core.Bool.{Bool, false, not, _||_}
-use mathlib.Core.List.{List}
+use mathlib.Core.Bool.{true, false, not, _||_, true≢false}
+use mathlib.Core.List.{List, _++_}
 use mathlib.Core.Logic.{⊎-elim}
-use mathlib.Core.Path.{_≡_, refl, _∙_}
+use mathlib.Core.Path.{_≡_, refl, sym, ap, _∙_}
 use Prim.Native.Nat.{ℕ, zero, suc, _+_, _≤_, _<_}
 use native.Mathlib.Nat.{eq-or-lt-of-le, le-of-suc-le-suc}
 use native.Mathlib.Omega.{arith}
 use lib.Dec.{eqb, ltb}
 use lib.ListN.{length}
 use borrow.Author.Tests.{eqb-true, ltb-false, not-false}
-use Rattle.words.specs.Choice.{if}
 use Rattle.words.specs.Lists.{numbersBelow}
-use Rattle.words.specs.declared.Refusal.{Refusal}
-use Rattle.words.proofs.Choices.{passed}
+use Rattle.words.specs.Refusals.{firstRefusal}
 use Rattle.words.proofs.Searches.{Hit, search-found}
 use Rattle.words.proofs.Tests.{neither-right}
+use Rattle.words.proofs.Verdicts.{unless-sound, unless-told, first-sound, joined-kept}
 use Rattle.capture.specs.Fields.{version, headerSize, descriptor, segmentCount, totalLength, rsdpAddress, descriptorsEnd, segmentLength, lengths, segmentPlace, segments}
-use Rattle.capture.specs.Rules.{wrongSize, wrongTotal, segmentRules, verdict}
-use Rattle.capture.specs.Presence.{Stretch, Present, Absent, holds, placeIn, located, rsdpSize, presentOr10, rsdpPresence, afterVerdict, rsdp}
+use Rattle.capture.specs.Rules.{wrongSize, wrongTotal, segmentRules, containerRules, verdict}
+use Rattle.capture.specs.Presence.{Stretch, Present, Absent, isPresent, placeOf, holds, placeIn, located, rsdpSize, rsdpStretch, presenceRules, rsdpPlace, rsdp}
 use Rattle.words.specs.declared.Verdict.{Verdict}
 use Rattle.words.specs.declared.Verdict.the-variants as verdicts
+use Rattle.capture.specs.declared.Root.{Root}
 use Rattle.capture.specs.declared.Root.the-variants as roots
 use Rattle.capture.proofs.Laws.{holds-start, holds-end}
 
@@ -27,22 +27,19 @@ use Rattle.capture.proofs.Laws.{holds-start, holds-end}
 abbrev pub Sound : List ℕ → Type 0
 Sound capture = verdict capture ≡ verdicts.Sound
 
--- a chain of rules that ends well passed its first test, and the rules behind it
-pub passes : (broken : Bool) (refusal : Refusal) (later : Verdict) → if broken (verdicts.Refused refusal) later ≡ verdicts.Sound
-    → (broken ≡ false) × (later ≡ verdicts.Sound)
-passes broken refusal later h = passed broken _ later _ h (λ e. let z : _≡_ {A = ℕ} 0 1 = cc in omega arith)
-
+-- no rule of its list is broken
 sound-size : (capture : List ℕ) → Sound capture → wrongSize capture ≡ false
-unfolding verdict
-sound-size capture h = passes _ _ _ h .0
+unfolding verdict containerRules
+sound-size capture h = first-sound _ 1 0 _ h .0
 
-sound-total : (capture : List ℕ) → Sound capture → wrongTotal capture ≡ false
-unfolding verdict
-sound-total capture h = passes _ _ _ (passes _ _ _ (passes _ _ _ (passes _ _ _ (passes _ _ _ h .1) .1) .1) .1) .0
+-- what 5 says, and the segments
+sound-rest : (capture : List ℕ) → Sound capture → (wrongTotal capture ≡ false) × (firstRefusal (segmentRules capture) ≡ verdicts.Sound)
+unfolding verdict containerRules
+sound-rest capture h =
+    first-sound _ 5 0 _ (first-sound _ 4 0 _ (first-sound _ 3 0 _ (first-sound _ 2 0 _ (first-sound _ 1 0 _ h .1) .1) .1) .1)
 
-pub sound-segments : (capture : List ℕ) → Sound capture → segmentRules capture ≡ verdicts.Sound
-unfolding verdict
-sound-segments capture h = passes _ _ _ (passes _ _ _ (passes _ _ _ (passes _ _ _ (passes _ _ _ h .1) .1) .1) .1) .1
+pub sound-segments : (capture : List ℕ) → Sound capture → firstRefusal (segmentRules capture) ≡ verdicts.Sound
+sound-segments capture h = sound-rest capture h .1
 
 -- a sound capture has at most 65,536 bytes
 pub sound-small : (capture : List ℕ) → Sound capture → length capture ≤ 65536
@@ -60,7 +57,7 @@ sound-length capture h =
     (neither-right
     (ltb (length capture) (descriptorsEnd capture) || not (eqb (totalLength capture) (length capture)))
     _
-    (sound-total capture h)))
+    (sound-rest capture h .0)))
 
 -- a segment's bytes lie among those of the segments up to it
 lengths-within : (capture : List ℕ) (i n : ℕ) → i < n → lengths capture i + segmentLength capture i ≤ lengths capture n
@@ -115,27 +112,41 @@ behind capture address size place h =
     let there = held-place capture address size place s in
     omega arith
 
--- where the RSDP was found, the capture is sound and the RSDP is located there
+-- a stretch that is present stands at its place, and so does the RSDP where 10 is kept
+pub present-at : (s : Stretch) → isPresent s ≡ true → s ≡ Present (placeOf s)
+unfolding isPresent placeOf
+present-at (Present place) h = refl
+present-at Absent h = absurd (true≢false (sym h))
+
+pub rsdp-there : (capture : List ℕ) → firstRefusal (presenceRules capture) ≡ verdicts.Sound
+    → located capture (rsdpAddress capture) rsdpSize ≡ Present (rsdpPlace capture)
+unfolding presenceRules rsdpPlace rsdpStretch
+rsdp-there capture h = present-at (located capture (rsdpAddress capture) rsdpSize) (not-false _ (first-sound _ 10 10 _ h .0))
+
+-- what the answer for the RSDP tells of the rules before it, and of the place
+abbrev said : Root → Verdict
+said (roots.At place) = verdicts.Sound
+said (roots.Refused refusal) = verdicts.Refused refusal
+
+pub root-told : (capture : List ℕ) {root : Root} → rsdp capture ≡ root → firstRefusal (containerRules capture ++ presenceRules capture) ≡ said root
+unfolding rsdp
+root-told capture h = sym (unless-told roots.Refused said (λ r. refl) _ _ refl) ∙ ap said h
+
+rsdp-kept : (capture : List ℕ) (place : ℕ) → rsdp capture ≡ roots.At place → Sound capture × (firstRefusal (presenceRules capture) ≡ verdicts.Sound)
+unfolding verdict
+rsdp-kept capture place h = joined-kept (containerRules capture) (presenceRules capture) (root-told capture h)
+
 pub rsdp-of-sound : (capture : List ℕ) (place : ℕ) → rsdp capture ≡ roots.At place → Sound capture
-unfolding rsdp afterVerdict
-rsdp-of-sound capture place h = go (verdict capture) refl h
-  where
-    go : (v : Verdict) → verdict capture ≡ v → afterVerdict v (rsdpPresence capture) ≡ roots.At place → verdict capture ≡ verdicts.Sound
-    go verdicts.Sound e g = e
-    go (verdicts.Refused refusal) e g = absurd (let z : _≡_ {A = ℕ} 0 1 = cc in omega arith)
+rsdp-of-sound capture place h = rsdp-kept capture place h .0
 
-pub rsdp-located : (capture : List ℕ) (place : ℕ) → rsdp capture ≡ roots.At place
-    → located capture (rsdpAddress capture) rsdpSize ≡ Present place
-unfolding rsdp afterVerdict rsdpPresence presentOr10
-rsdp-located capture place h =
-    go (located capture (rsdpAddress capture) rsdpSize) refl (rw (rsdp-of-sound capture place h) at h)
-  where
-    go : (s : Stretch) → located capture (rsdpAddress capture) rsdpSize ≡ s → presentOr10 s ≡ roots.At place
-        → located capture (rsdpAddress capture) rsdpSize ≡ Present place
-    go (Present p) e g = e ∙ (cc)
-    go Absent e g = absurd (let z : _≡_ {A = ℕ} 0 1 = cc in omega arith)
+pub rsdp-at : (capture : List ℕ) (place : ℕ) → rsdp capture ≡ roots.At place → rsdpPlace capture ≡ place
+unfolding rsdp
+rsdp-at capture place h =
+    let at : roots.At (rsdpPlace capture) ≡ roots.At place = sym (unless-sound roots.Refused _ _ (root-told capture h)) ∙ h in
+    cc
 
--- so the RSDP's bytes are all there
+-- where the RSDP was found, its bytes are all there
 pub rsdp-within : (capture : List ℕ) (place : ℕ) → rsdp capture ≡ roots.At place → place + rsdpSize ≤ length capture
 rsdp-within capture place h =
-    within capture (rsdpAddress capture) rsdpSize place (rsdp-of-sound capture place h) (rsdp-located capture place h)
+    let kept = rsdp-kept capture place h in
+    rw (← rsdp-at capture place h) (within capture (rsdpAddress capture) rsdpSize (rsdpPlace capture) (kept .0) (rsdp-there capture (kept .1)))

@@ -1,22 +1,29 @@
 -- Document 01, "The capture": where a stretch of memory stands in the capture; and refusal 10, the RSDP's presence.
 use Prim.Native.Nat.{ℕ, _+_, _-_}
-use mathlib.Core.Bool.{Bool, _&&_}
-use mathlib.Core.List.{List}
+use mathlib.Core.Bool.{Bool, true, false, not, _&&_}
+use mathlib.Core.List.{List, [], _∷_, _++_}
 use lib.Dec.{leb}
 use Rattle.words.specs.Lists.{first}
-use Rattle.words.specs.Refusals.{refused}
+use Rattle.words.specs.Refusals.{rule, unless, firstRefusal}
 use Rattle.capture.specs.Fields.{rsdpAddress, segmentAddress, segmentLength, segmentPlace, segments}
-use Rattle.capture.specs.Rules.{verdict}
+use Rattle.capture.specs.Rules.{containerRules}
 use Rattle.words.specs.declared.Verdict.{Verdict}
-use Rattle.words.specs.declared.Verdict.the-variants as verdicts
-use Rattle.capture.specs.declared.Reach.{Reach}
 use Rattle.capture.specs.declared.Root.{Root}
-use Rattle.capture.specs.declared.Root.the-variants as roots
+use Rattle.capture.specs.declared.Root.the-variants.{At, Refused}
 
 -- a stretch of memory: present at a place of the capture, or absent
 pub data Stretch : Type 0 where
   Present : ℕ → Stretch
   Absent : Stretch
+
+unfoldable pub isPresent : Stretch → Bool
+isPresent (Present place) = true
+isPresent Absent = false
+
+-- one that is absent has place 0 here: what looks at a place comes after the rule that the stretch is present
+unfoldable pub placeOf : Stretch → ℕ
+placeOf (Present place) = place
+placeOf Absent = 0
 
 -- the stretch "lies wholly inside" segment i
 unfoldable pub holds : List ℕ → ℕ → ℕ → ℕ → Bool
@@ -31,32 +38,20 @@ placeIn capture address i = segmentPlace capture i + (address - segmentAddress c
 unfoldable pub located : List ℕ → ℕ → ℕ → Stretch
 located capture address size = first (holds capture address size) (λ i. Present (placeIn capture address i)) Absent (segments capture)
 
--- where an address of segment i stands, and how many bytes the segment has from there on
-unfoldable pub reachIn : List ℕ → ℕ → ℕ → Reach
-reachIn capture address i =
-    record { place = placeIn capture address i; room = segmentAddress capture i + segmentLength capture i - address }
-
--- of the first segment that has the address; no room where none has it
-unfoldable pub reached : List ℕ → ℕ → Reach
-reached capture address =
-    first (holds capture address 1) (reachIn capture address) (record { place = 0; room = 0 }) (segments capture)
-
--- "RSDP, 36 bytes"
+-- "RSDP, 36 bytes": the stretch that the header's address names
 abbrev pub rsdpSize : ℕ
 rsdpSize = 36
 
+unfoldable pub rsdpStretch : List ℕ → Stretch
+rsdpStretch capture = located capture (rsdpAddress capture) rsdpSize
+
+unfoldable pub rsdpPlace : List ℕ → ℕ
+rsdpPlace capture = placeOf (rsdpStretch capture)
+
 -- 10: "RSDP not present", at place 10, the field that names it
-unfoldable pub presentOr10 : Stretch → Root
-presentOr10 (Present place) = roots.At place
-presentOr10 Absent = roots.Refused (refused 10 10)
+unfoldable pub presenceRules : List ℕ → List Verdict
+presenceRules capture = rule (not (isPresent (rsdpStretch capture))) 10 10 ∷ []
 
-unfoldable pub rsdpPresence : List ℕ → Root
-rsdpPresence capture = presentOr10 (located capture (rsdpAddress capture) rsdpSize)
-
--- the order: refusals 1 to 6, then 10
-unfoldable pub afterVerdict : Verdict → Root → Root
-afterVerdict (verdicts.Refused refusal) presence = roots.Refused refusal
-afterVerdict verdicts.Sound presence = presence
-
+-- the order: refusals 1 to 6, then 10; or the RSDP's place
 unfoldable pub rsdp : List ℕ → Root
-rsdp capture = afterVerdict (verdict capture) (rsdpPresence capture)
+rsdp capture = unless Refused (firstRefusal (containerRules capture ++ presenceRules capture)) (At (rsdpPlace capture))

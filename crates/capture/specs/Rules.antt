@@ -2,16 +2,13 @@
 use Prim.Native.Nat.{ℕ, zero, suc, _+_, _^_}
 use Prim.Native.Char.{code}
 use mathlib.Core.Bool.{Bool, not, _&&_, _||_}
-use mathlib.Core.List.{List}
+use mathlib.Core.List.{List, _∷_, map}
 use lib.Dec.{eqb, ltb}
 use lib.ListN.{length}
 use Rattle.words.specs.Bytes.{byteAt}
-use Rattle.words.specs.Choice.{if}
-use Rattle.words.specs.Lists.{first}
-use Rattle.words.specs.Refusals.{refused}
+use Rattle.words.specs.Refusals.{rule, firstRefusal}
 use Rattle.capture.specs.Fields.{version, segmentCount, totalLength, headerSize, descriptor, descriptorsEnd, segmentAddress, segmentLength, segments, lengths}
 use Rattle.words.specs.declared.Verdict.{Verdict}
-use Rattle.words.specs.declared.Verdict.the-variants.{Sound, Refused}
 
 -- 1: "capture under 18 or over 65,536 bytes"
 unfoldable pub wrongSize : List ℕ → Bool
@@ -58,16 +55,19 @@ startsEarly capture i = ltb (segmentAddress capture i) (endBefore capture i)
 unfoldable pub segmentBroken : List ℕ → ℕ → Bool
 segmentBroken capture i = emptySegment capture i || endsPastMemory capture i || startsEarly capture i
 
--- 6, "segments are taken in turn": the first broken one is named by its descriptor
-unfoldable pub segmentRules : List ℕ → Verdict
-segmentRules capture = first (segmentBroken capture) (λ i. Refused (refused 6 (descriptor capture i))) Sound (segments capture)
+-- 6, "segments are taken in turn": a broken one is named by its descriptor
+unfoldable pub segmentRules : List ℕ → List Verdict
+segmentRules capture = map (λ i. rule (segmentBroken capture i) 6 (descriptor capture i)) (segments capture)
 
 -- the order of refusals 1 to 6
+unfoldable pub containerRules : List ℕ → List Verdict
+containerRules capture =
+    rule (wrongSize capture) 1 0
+    ∷ rule (wrongMark capture) 2 0
+    ∷ rule (wrongVersion capture) 3 0
+    ∷ rule (wrongCount capture) 4 0
+    ∷ rule (wrongTotal capture) 5 0
+    ∷ segmentRules capture
+
 unfoldable pub verdict : List ℕ → Verdict
-verdict capture =
-    if (wrongSize capture) (Refused (refused 1 0))
-    (if (wrongMark capture) (Refused (refused 2 0))
-    (if (wrongVersion capture) (Refused (refused 3 0))
-    (if (wrongCount capture) (Refused (refused 4 0))
-    (if (wrongTotal capture) (Refused (refused 5 0))
-    (segmentRules capture)))))
+verdict capture = firstRefusal (containerRules capture)

@@ -6,7 +6,9 @@ ghost use Prim.Native.Nat.{_+_, _^_};
 ghost use lib.Dec.{ltb, leb};
 ghost use Rattle.capture.specs.Fields.{version, segmentCount, rsdpAddress, headerSize, descriptor, descriptorsEnd, segmentAddress, segmentLength, lengths};
 ghost use Rattle.capture.specs.Rules.{wrongSize, wrongMark, wrongVersion, wrongCount, wrongTotal, startsEarly, segmentBroken, segmentRules, verdict};
-ghost use Rattle.capture.specs.Presence.{reached, rsdpPresence, rsdp};
+ghost use Rattle.capture.specs.Presence.{presenceRules, rsdpPlace, rsdp};
+ghost use Rattle.capture.specs.Reach.{reached};
+ghost use Rattle.words.specs.Refusals.{unless, firstRefusal};
 use words::Refusal;
 use words::Verdict;
 
@@ -190,7 +192,7 @@ fn segment_broken(capture: &[u8], i: u8) -> bool
 
 // Refusal 6, segment by segment.
 fn check_segments(capture: &[u8]) -> Verdict
-    ensures { λ r. ⌜ r ≡ segmentRules (now (capture .entry)) ⌝ }
+    ensures { λ r. ⌜ r ≡ firstRefusal (segmentRules (now (capture .entry))) ⌝ }
 {
     let n = segment_count(capture);
     let mut i: u8 = 0;
@@ -265,7 +267,8 @@ fn rsdp_address(capture: &[u8]) -> u64
 // Refusal 10, of a sound capture.
 fn locate_rsdp(capture: &[u8]) -> Root
     requires { ⌜ verdict (now capture) ≡ Verdict.Sound ⌝ }
-    ensures { λ r. ⌜ r ≡ rsdpPresence (now (capture .entry)) ⌝ }
+    ensures { λ r. let c = now (capture .entry) in
+        ⌜ r ≡ unless Root.Refused (firstRefusal (presenceRules c)) (Root.At (rsdpPlace c)) ⌝ }
 {
     let reach = reach_of(capture, rsdp_address(capture));
     if reach.room < RSDP_SIZE {

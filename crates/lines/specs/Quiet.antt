@@ -1,5 +1,6 @@
--- A map in which no two structures clash, by kinds: a test without places. That the search of 41, 42 and 51 to 53 then finds
--- nothing is proved (proofs/NoClash); a LIO or an EIO and a BIO or an MSI have nothing that both could claim.
+-- A shortcut of the program, and no line of document 01: a map in which no two structures clash, by kinds, a test without places. That
+-- the search of 41, 42 and 51 to 53 then finds nothing is proved in proofs/NoClash, so that no answer changes; a LIO or an EIO and a
+-- BIO or an MSI have nothing that both could claim.
 use Prim.Native.Nat.{ℕ}
 use mathlib.Core.List.{List, [], _∷_}
 use mathlib.Core.Bool.{Bool, true, not, _&&_}

@@ -6,6 +6,7 @@ use native.Mathlib.Omega.{arith}
 use mathlib.Core.Path.{_≡_, refl, _∙_}
 use mathlib.Core.List.{List}
 use mathlib.Core.Bool.{true, false, not, _&&_, true≢false}
+use Rattle.words.specs.Refusals.{unless}
 use Rattle.words.specs.declared.Refusal.{Refusal}
 use Rattle.words.proofs.Choices.{yes-if, if-cases}
 use Rattle.words.specs.declared.Verdict.{Verdict}
@@ -27,7 +28,7 @@ use Rattle.map_promises.proofs.Tracing.{tracing-names, nothing-exactly}
 use Rattle.map_promises.proofs.ThereAndBack.{lpc-lines-share, there-and-back}
 use Rattle.map_promises.proofs.Verdicts.{check-kept, both-of-kept, each-kept, kept-yes}
 use Rattle.reading.specs.Scan.{scan}
-use Rattle.reading.specs.Reading.{withoutMap, answered, afterScan, readingOf, madtFound}
+use Rattle.reading.specs.Reading.{withoutMap, answered, madtFound, readingOf}
 use Rattle.reading.specs.declared.Answer.{Answer}
 use Rattle.reading.specs.declared.Answer.the-variants.{Read, Refused}
 use Rattle.reading.specs.declared.Reading.{Reading}
@@ -81,11 +82,11 @@ refused-read : {refusal : Refusal} {count : ℕ} {X : Type 0} → _≡_ {A = Ans
 refused-read e = absurd (let o : _≡_ {A = ℕ} 0 1 = cc in omega arith)
 
 pub read-is-trustworthy : (capture list : List ℕ) → ReadIsTrustworthy capture list
-unfolding readingOf afterScan withoutMap answered
+unfolding readingOf unless withoutMap answered
 read-is-trustworthy capture list count = go (scan capture .verdict) refl
   where
-    go : (v : Verdict) → scan capture .verdict ≡ v → afterScan v (madtFound capture) (scan capture .map) list .answer ≡ Read count
-        → Trustworthy (afterScan v (madtFound capture) (scan capture .map) list .map)
+    go : (v : Verdict) → scan capture .verdict ≡ v → unless withoutMap v (answered (madtFound capture) (scan capture .map) list) .answer ≡ Read count
+        → Trustworthy (unless withoutMap v (answered (madtFound capture) (scan capture .map) list) .map)
     go (verdicts.Refused r) e = λ h. refused-read h
     go verdicts.Sound e =
         if-cases (λ (r : Reading). r .answer ≡ Read count → Trustworthy (r .map)) _ _ _

@@ -8,7 +8,9 @@ use mathlib.Core.List.{List}
 use mathlib.Core.Bool.{Bool, true, false}
 use lib.ListN.{length}
 use Rattle.words.specs.declared.Refusal.{Refusal}
+use Rattle.words.specs.Refusals.{firstRefusal}
 use Rattle.words.proofs.Choices.{no-if, if-cases}
+use Rattle.words.proofs.Verdicts.{unless-refused, unless-sound}
 use Rattle.words.specs.declared.Verdict.{Verdict}
 use Rattle.words.specs.declared.Verdict.the-variants as verdicts
 use Rattle.tables.specs.Survey.{survey}
@@ -31,17 +33,17 @@ use Rattle.processors.specs.declared.Repeat.the-variants.{At, Nowhere}
 use Rattle.processors.proofs.Inside.{repeat-inside}
 use Rattle.map_promises.proofs.RefusedExactly.{refused-exactly}
 use Rattle.map_promises.proofs.WalkKeepsBooks.{walked-keeps}
-use Rattle.reading.specs.Scan.{madtBytes, walkOf, turnedDown, repeatRule, processorRule, mapRule, rulesAfterWalk, afterWalk, afterSurvey, scan}
+use Rattle.reading.specs.Scan.{madtBytes, walkOf, turnedDown, repeatRule, processorRule, mapRule, rulesAfterWalk, madtRules, scan}
 use Rattle.reading.specs.Reading.{listAfter}
 use Rattle.reading.specs.Entries.{routeResult, traceResult}
 use Rattle.reading.specs.declared.Answer.the-variants.{Refused}
-use Rattle.reading.proofs.Laws.{bytes-small, list-refused, list-sound, asked-refused, asked-sound}
+use Rattle.reading.proofs.Laws.{bytes-small, scan-refused}
 use Rattle.promises.specs.RefusalTable.{OfTheTable, ReadingRefusals, RefusedLeavesList, RouteRefusals, TraceRefusals, MapRefusals}
 use Rattle.promises.proofs.AcceptedIsTrustworthy.{accepted-is-trustworthy}
 use Rattle.promises.proofs.MapRefusals.{RuleTold, broken-told}
-use Rattle.reading.proofs.Scanned.{verdict-left}
+use Rattle.reading.proofs.Scanned.{found-verdict}
 use Rattle.promises.proofs.TableRefusals.{SurveyTold, survey-told}
-use Rattle.promises.proofs.Told.{Told, widen, Inside, tell, tell-none, turn-told}
+use Rattle.promises.proofs.Told.{Told, widen, Inside, tell, tell-none, none-told, more-told}
 use Rattle.promises.proofs.WhyRefused.{why-refused}
 use Rattle.promises.proofs.WalkRefusals.{walked-told}
 
@@ -80,27 +82,29 @@ module _ (capture : List ℕ) (t : Tables) (inside : TablesInside capture t) (at
   unfolding processorRule
   processors-told = if-cases (Told 54 capture) _ _ _ (λ z. tell capture 40 (t .madt .place) (refl, refl, omega arith) (at .0)) (λ z. omega arith)
 
-  rules-told : walkOf capture t .verdict ≡ verdicts.Sound → Told 54 capture (rulesAfterWalk (madtBytes capture (t .madt)) t (walkOf capture t .found))
+  rules-told : walkOf capture t .verdict ≡ verdicts.Sound → Told 54 capture (firstRefusal (rulesAfterWalk (madtBytes capture (t .madt)) t (walkOf capture t .found)))
   unfolding rulesAfterWalk
   rules-told sound =
-      turn-told 54 capture _ _ (repeat-told (firstRepeat (madtBytes capture (t .madt))) refl)
-      (λ z. turn-told 54 capture _ _ processors-told
-      (λ z. map-rule-told capture _
+      more-told 54 capture _ _ (repeat-told (firstRepeat (madtBytes capture (t .madt))) refl)
+      (λ z. more-told 54 capture _ _ processors-told
+      (λ z. more-told 54 capture _ _
+      (map-rule-told capture _
       (broken-told capture
       (walked-keeps (madtBytes capture (t .madt)) (t .madt .place) (t .sci) (t .madt .length) (inside .madt .long) (small capture t inside) sound)
-      (inside .madt .inside) (t .madt .place) (t .fadt .place) (at .0) (at .1))))
+      (inside .madt .inside) (t .madt .place) (t .fadt .place) (at .0) (at .1)))
+      (λ z. none-told 54 capture)))
 
 -- ---- 1 to 54
 scan-told : (capture : List ℕ) → Told 54 capture (scan capture .verdict)
-unfolding scan afterSurvey afterWalk turnedDown
+unfolding madtRules turnedDown
 scan-told capture = go (survey capture) refl (survey-told capture)
   where
-    go : (s : Survey) → survey capture ≡ s → SurveyTold capture s → Told 54 capture (afterSurvey capture s .verdict)
-    go (surveys.Refused r) e told = widen 30 54 capture (verdicts.Refused r) (omega arith) told
+    go : (s : Survey) → survey capture ≡ s → SurveyTold capture s → Told 54 capture (scan capture .verdict)
+    go (surveys.Refused r) e told = rw (scan-refused capture e) (widen 30 54 capture (verdicts.Refused r) (omega arith) told)
     go (surveys.Found t) e told =
         let i = tables-inside capture t e in
-        rw (verdict-left t _ _)
-        (turn-told 54 capture _ _
+        rw (found-verdict capture e)
+        (more-told 54 capture _ _
         (widen 38 54 capture (walkOf capture t .verdict) (omega arith) (walk-of-told capture t i))
         (rules-told capture t i told))
 
@@ -115,23 +119,23 @@ reading-refusals capture list r h =
 pub refused-leaves-list : (capture list : List ℕ) → RefusedLeavesList capture list
 unfolding filled listAfter
 refused-leaves-list capture list r h =
-    ⊎-elim (λ w. list-refused capture list _ w) (λ w. list-sound capture list _ (w .0) ∙ no-if _ _ _ (w .2) refl) (why-refused capture list r h)
+    ⊎-elim (λ w. unless-refused _ _ _ w) (λ w. unless-sound _ _ _ (w .0) ∙ no-if _ _ _ (w .2) refl) (why-refused capture list r h)
 
 pub route-refusals : (capture : List ℕ) (number : ℕ) → RouteRefusals capture number
 unfolding routeResult
 route-refusals capture number = go (scan capture .verdict) refl
   where
     go : (v : Verdict) → scan capture .verdict ≡ v → RouteRefusals capture number
-    go (verdicts.Refused r) e = inl (r, e, asked-refused _ _ e, of-scan capture r e)
-    go verdicts.Sound e = inr (e, asked-sound _ _ e, accepted-is-trustworthy capture e .routes number)
+    go (verdicts.Refused r) e = inl (r, e, unless-refused _ _ _ e, of-scan capture r e)
+    go verdicts.Sound e = inr (e, unless-sound _ _ _ e, accepted-is-trustworthy capture e .routes number)
 
 pub trace-refusals : (capture : List ℕ) (vector number : ℕ) → TraceRefusals capture vector number
 unfolding traceResult
 trace-refusals capture vector number = go (scan capture .verdict) refl
   where
     go : (v : Verdict) → scan capture .verdict ≡ v → TraceRefusals capture vector number
-    go (verdicts.Refused r) e = inl (r, e, asked-refused _ _ e, of-scan capture r e)
-    go verdicts.Sound e = inr (e, asked-sound _ _ e, accepted-is-trustworthy capture e .traces vector number)
+    go (verdicts.Refused r) e = inl (r, e, unless-refused _ _ _ e, of-scan capture r e)
+    go verdicts.Sound e = inr (e, unless-sound _ _ _ e, accepted-is-trustworthy capture e .traces vector number)
 
 same-route : {q r : Refusal} → _≡_ {A = Route} (routes.Refused q) (routes.Refused r) → r ≡ q
 same-route e = cc

@@ -4,17 +4,18 @@ use mathlib.Core.List.{List}
 use mathlib.Core.Path.{refl}
 use Rattle.reading.specs.declared.Scan.{Scan}
 use Rattle.words.specs.Choice.{if}
+use Rattle.words.specs.Refusals.{unless, firstRefusal, inEach}
 use Rattle.words.specs.Bytes.{numberAt, spelled, total, byteSum}
 use Rattle.words.specs.Lists.{first, every, numbersFrom, numbersBelow}
 use Rattle.capture.specs.Fields.{version, segmentCount, totalLength, rsdpAddress, headerSize, descriptor, descriptorsEnd, segmentAddress, segmentLength, segments, lengths, segmentPlace}
-use Rattle.capture.specs.Presence.{holds, placeIn, located, presentOr10, rsdpPresence, afterVerdict, rsdp}
-use Rattle.capture.specs.Rules.{wrongSize, wrongMark, wrongVersion, wrongCount, wrongTotal, emptySegment, endsPastMemory, endBefore, startsEarly, segmentBroken, segmentRules, verdict}
-use Rattle.tables.specs.Finder.{isSigned, names, namedFrom, firstNamed, namedAfter, secondNamed}
+use Rattle.capture.specs.Presence.{isPresent, placeOf, holds, placeIn, located, rsdpStretch, rsdpPlace, presenceRules}
+use Rattle.capture.specs.Rules.{wrongSize, wrongMark, wrongVersion, wrongCount, wrongTotal, emptySegment, endsPastMemory, endBefore, startsEarly, segmentBroken, segmentRules, containerRules}
+use Rattle.tables.specs.Finder.{names, namedFrom, firstNamed, namedAfter, secondNamed}
 use Rattle.tables.specs.Rsdp.{rsdPtr, wrongSignature, wrongRevision, wrongLength, wrongSums, rsdpRules, xsdtField}
 use Rattle.tables.specs.Structures.{structureLength, brokenAt, stepAt}
-use Rattle.tables.specs.Survey.{apic, facp, isNowhere, earlier, secondRule, nameRules, wrongMadtRevision, wrongFlags, bodyRules, sciNumber, tableOf, tableNamed, tableOfEntry, madtOf, fadtOf, after, ofTables, ofNames, ofXsdt, ofRsdp, survey}
-use Rattle.tables.specs.Table.{addressAt, signature, tableLength, isPresent, cutShort, wrongSum, tableFound, tableAt}
-use Rattle.tables.specs.Xsdt.{xsdtSignature, revision, notXsdt, wrongXsdtRevision, entryCount, wrongBody, xsdtRules, entryField, entries, isRefused, refusalOf, entryRules}
+use Rattle.tables.specs.Survey.{apic, facp, isNowhere, earlier, secondRule, nameRules, wrongMadtRevision, wrongFlags, bodyRules, sciNumber, withSci, tableOfEntry, madtOf, fadtOf, tablesFrom, xsdtOf, tablesOf, surveyRules}
+use Rattle.tables.specs.Table.{signature, tableLength, revision, addressAt, headerAt, tableNamed, cutShort, wrongSum, tableRules}
+use Rattle.tables.specs.Xsdt.{xsdtSignature, notXsdt, wrongXsdtRevision, entryCount, wrongBody, xsdtRules, entryField, entries, entryRules}
 use Rattle.kinds.specs.Makers.{coreOf, lioOf, htOf, eioOf, msiOf, bioOf, lpcOf}
 use Rattle.kinds.specs.Ranges.{lioField, eioField, msiField, bioField, lpcField}
 use Rattle.kinds.specs.Used.{usedHalf, saidLio, saidLpc}
@@ -35,18 +36,18 @@ use Rattle.madt.specs.Walk.{turnedAway, afterTaking, walk, walked}
 use Rattle.processors.specs.Image.{fourBytes, image}
 use Rattle.processors.specs.Listing.{isEnabledCore, entriesOf, entriesIn, processors, countOf, countIn, count, hasRoom, written, filled}
 use Rattle.processors.specs.Repeats.{twins, earlierTwin, hasTwin, repeats, spot, firstRepeat}
-use Rattle.reading.specs.Entries.{asked, answerIn, readCode, readResult, bytesAfter}
-use Rattle.reading.specs.Reading.{withoutMap, answered, afterScan, madtFound, readingOf, listFrom, listAfter}
-use Rattle.reading.specs.Scan.{madtBytes, emptyMap, turnedDown, repeatRule, processorRule, mapRule, inTurn, rulesAfterWalk, judged as scanJudged, afterWalk, afterSurvey, scan}
+use Rattle.reading.specs.Entries.{answerIn, readCode, readResult, bytesAfter}
+use Rattle.reading.specs.Reading.{withoutMap, answered, madtFound, readingOf, listAfter}
+use Rattle.reading.specs.Scan.{madtBytes, emptyMap, turnedDown, repeatRule, processorRule, mapRule, rulesAfterWalk, madtRules, scanRules, accepted, scan}
 use Rattle.text.specs.Numerals.{letters, digits, decimal}
 use Rattle.text.specs.Lines.{each, field, phrase, line, versionLine, coreLine, coreLines, halfLine, lioLines, eioLine, bioLine, msiLine, lpcLine, sciLine}
-use Rattle.text.specs.Text.{mapParts, mapText, verdictText, textOf}
+use Rattle.text.specs.Text.{mapParts, mapText, textOf}
 use Rattle.promises.specs.BoardA.{boardA, msiFrom63, msiTo257, eioAt2}
 use Rattle.promises.specs.Examples.{told, twelve, TwelveExamples, BoardAIsRead, BoardAIsPrinted}
 
 -- the scan, with all that it and the answers are computed by
 unfoldable computed : List ℕ → Scan
-unfolding if first every fold numberAt spelled total byteSum numbersFrom numbersBelow version segmentCount totalLength rsdpAddress headerSize descriptor descriptorsEnd segmentAddress segmentLength segments lengths segmentPlace holds placeIn located presentOr10 rsdpPresence afterVerdict rsdp wrongSize wrongMark wrongVersion wrongCount wrongTotal emptySegment endsPastMemory endBefore startsEarly segmentBroken segmentRules verdict isSigned names namedFrom firstNamed namedAfter secondNamed rsdPtr wrongSignature wrongRevision wrongLength wrongSums rsdpRules xsdtField structureLength brokenAt stepAt apic facp isNowhere earlier secondRule nameRules wrongMadtRevision wrongFlags bodyRules sciNumber tableOf tableNamed tableOfEntry madtOf fadtOf after ofTables ofNames ofXsdt ofRsdp survey addressAt signature tableLength isPresent cutShort wrongSum tableFound tableAt xsdtSignature revision notXsdt wrongXsdtRevision entryCount wrongBody xsdtRules entryField entries isRefused refusalOf entryRules coreOf lioOf htOf eioOf msiOf bioOf lpcOf lioField eioField msiField bioField lpcField usedHalf saidLio saidLpc clash sooner nearer partner better firstClash lonelier firstLone hasBit lesser hasPin routeOf traceOf placed claims lioArrival through bridge pinArrival bioOwner owner arrivalOf arrival check alone both spotted eiosFit biosFit msisFit rangesKept noBridge lost orElse lowest verdictsFrom40 firstBroken isKept keepsRules slotTold isBridge isLpcPin pinTold landed eioTraced traced noMap noPlaces nothing withCore withLio withEio withMsi withBio withLpc pieceAt piecesFrom pieces sizeOf sizeAt isType coreFault rangeFault lioFault counted judged taking takeCore takeLio takeHt takeEio takeMsi takeBio takeLpc takeOne turnedAway afterTaking walk walked isEnabledCore entriesOf entriesIn processors countOf countIn count hasRoom written filled twins earlierTwin hasTwin repeats spot firstRepeat withoutMap answered afterScan madtFound readingOf listFrom listAfter madtBytes emptyMap turnedDown repeatRule processorRule mapRule inTurn rulesAfterWalk scanJudged afterWalk afterSurvey scan
+unfolding if unless firstRefusal inEach first every fold numberAt spelled total byteSum numbersFrom numbersBelow version segmentCount totalLength rsdpAddress headerSize descriptor descriptorsEnd segmentAddress segmentLength segments lengths segmentPlace isPresent placeOf holds placeIn located rsdpStretch rsdpPlace presenceRules wrongSize wrongMark wrongVersion wrongCount wrongTotal emptySegment endsPastMemory endBefore startsEarly segmentBroken segmentRules containerRules names namedFrom firstNamed namedAfter secondNamed rsdPtr wrongSignature wrongRevision wrongLength wrongSums rsdpRules xsdtField structureLength brokenAt stepAt apic facp isNowhere earlier secondRule nameRules wrongMadtRevision wrongFlags bodyRules sciNumber withSci tableOfEntry madtOf fadtOf tablesFrom xsdtOf tablesOf surveyRules signature tableLength revision addressAt headerAt tableNamed cutShort wrongSum tableRules xsdtSignature notXsdt wrongXsdtRevision entryCount wrongBody xsdtRules entryField entries entryRules coreOf lioOf htOf eioOf msiOf bioOf lpcOf lioField eioField msiField bioField lpcField usedHalf saidLio saidLpc clash sooner nearer partner better firstClash lonelier firstLone hasBit lesser hasPin routeOf traceOf placed claims lioArrival through bridge pinArrival bioOwner owner arrivalOf arrival check alone both spotted eiosFit biosFit msisFit rangesKept noBridge lost orElse lowest verdictsFrom40 firstBroken isKept keepsRules slotTold isBridge isLpcPin pinTold landed eioTraced traced noMap noPlaces nothing withCore withLio withEio withMsi withBio withLpc pieceAt piecesFrom pieces sizeOf sizeAt isType coreFault rangeFault lioFault counted judged taking takeCore takeLio takeHt takeEio takeMsi takeBio takeLpc takeOne turnedAway afterTaking walk walked isEnabledCore entriesOf entriesIn processors countOf countIn count hasRoom written filled twins earlierTwin hasTwin repeats spot firstRepeat withoutMap answered madtFound readingOf listAfter madtBytes emptyMap turnedDown repeatRule processorRule mapRule rulesAfterWalk madtRules scanRules accepted scan
 computed capture = scan capture
 
 -- THE PROMISES
@@ -55,9 +56,9 @@ unfolding boardA msiFrom63 msiTo257 eioAt2 told twelve computed
 twelve-examples = refl
 
 pub board-a-is-read : BoardAIsRead
-unfolding boardA computed fourBytes image asked answerIn readCode readResult bytesAfter
+unfolding boardA computed fourBytes image answerIn readCode readResult bytesAfter
 board-a-is-read = record { accepted = refl; reading = refl; list = refl; result = refl; bytes = refl }
 
 pub board-a-is-printed : BoardAIsPrinted
-unfolding boardA computed textOf verdictText mapText mapParts each field phrase line versionLine coreLine coreLines halfLine lioLines eioLine bioLine msiLine lpcLine sciLine letters digits decimal
+unfolding boardA computed textOf mapText mapParts each field phrase line versionLine coreLine coreLines halfLine lioLines eioLine bioLine msiLine lpcLine sciLine letters digits decimal
 board-a-is-printed = refl

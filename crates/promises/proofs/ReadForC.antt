@@ -11,19 +11,21 @@ use borrow.Author.Tests.{leb-true, leb-false}
 use lib.ListN.{length, drop}
 use Rattle.words.specs.Bytes.{numberAt}
 use Rattle.words.specs.Choice.{if}
-use Rattle.words.specs.Refusals.{refused}
+use Rattle.words.specs.Refusals.{refused, unless}
 use Rattle.words.proofs.Numbers.{number-past}
 use Rattle.words.proofs.Choices.{yes-if, no-if}
+use Rattle.words.proofs.Verdicts.{unless-refused, unless-sound}
+use Rattle.lines.specs.Answers.{refusalCode}
 use Rattle.words.specs.declared.Verdict.{Verdict}
 use Rattle.words.specs.declared.Verdict.the-variants as verdicts
 use Rattle.processors.specs.Image.{fourBytes, image}
 use Rattle.processors.specs.Listing.{processors, count, hasRoom, written, filled}
 use Rattle.processors.proofs.Image.{eight-each, room-image, filled-image}
 use Rattle.reading.specs.Scan.{madtBytes, scan}
-use Rattle.reading.specs.Reading.{withoutMap, answered, madtFound, afterScan, readingOf, listFrom, listAfter}
-use Rattle.reading.specs.Entries.{asked, answerIn, readCode, readResult, bytesAfter}
+use Rattle.reading.specs.Reading.{withoutMap, answered, madtFound, readingOf, listAfter}
+use Rattle.reading.specs.Entries.{answerIn, readCode, readResult, bytesAfter}
 use Rattle.reading.specs.declared.Answer.the-variants.{Read, Refused}
-use Rattle.reading.proofs.Laws.{asked-refused, asked-sound, in-read, in-60, list-refused, list-sound}
+use Rattle.reading.proofs.Laws.{in-read, in-60}
 use Rattle.promises.specs.Calls.{SameReading, ReadBack, TooShort, HasRead, CReading, ReadCodesApart}
 use Rattle.processors.proofs.AtMost256.{at-most-256}
 use Rattle.promises.proofs.EveryRefusal.{of-scan}
@@ -61,8 +63,8 @@ module _ (capture list : List ℕ) (sound : scan capture .verdict ≡ verdicts.S
       record {
         sound = sound;
         short = omega (arith, eight-each (madtFound capture));
-        result = asked-sound _ _ sound ∙ ap readCode (in-60 (madtFound capture) list h);
-        kept = list-sound capture list bytes sound ∙ no-if _ _ _ h refl;
+        result = unless-sound _ _ _ sound ∙ ap readCode (in-60 (madtFound capture) list h);
+        kept = unless-sound _ _ _ sound ∙ no-if _ _ _ h refl;
       }
 
   with-room : hasRoom bytes list ≡ true → HasRead capture list
@@ -72,9 +74,9 @@ module _ (capture list : List ℕ) (sound : scan capture .verdict ≡ verdicts.S
       record {
         sound = sound;
         room = omega (arith, eight-each (madtFound capture));
-        result = asked-sound _ _ sound ∙ ap readCode (in-read (madtFound capture) list h);
+        result = unless-sound _ _ _ sound ∙ ap readCode (in-read (madtFound capture) list h);
         most = count-small capture sound;
-        bytes = list-sound capture list bytes sound ∙ yes-if _ _ _ h ∙ ap (λ (n : ℕ). bytes ++ drop n list) (eight-each (madtFound capture));
+        bytes = unless-sound _ _ _ sound ∙ yes-if _ _ _ h ∙ ap (λ (n : ℕ). bytes ++ drop n list) (eight-each (madtFound capture));
       }
 
 -- ---- reading numbers back
@@ -99,12 +101,12 @@ number-behind (suc k) byte bytes at = rw (suc-add, number-behind k byte bytes (a
 
 -- THE PROMISES
 pub same-reading : (capture list : List ℕ) → SameReading capture list
-unfolding bytesAfter listAfter readResult readingOf listFrom asked afterScan readCode withoutMap
+unfolding bytesAfter listAfter readResult readingOf unless readCode withoutMap
 same-reading capture list = go (scan capture .verdict)
   where
     go : (v : Verdict)
-        → (listFrom v (image (processors (madtFound capture))) (image list) ≡ image (listFrom v (processors (madtFound capture)) list))
-        × (asked v (readCode (answerIn (madtFound capture) (image list))) ≡ readCode (afterScan v (madtFound capture) (scan capture .map) list .answer))
+        → (unless (λ r. image list) v (filled (image (processors (madtFound capture))) (image list)) ≡ image (unless (λ r. list) v (filled (processors (madtFound capture)) list)))
+        × (unless refusalCode v (readCode (answerIn (madtFound capture) (image list))) ≡ readCode (unless withoutMap v (answered (madtFound capture) (scan capture .map) list) .answer))
     go (verdicts.Refused r) = (refl, refl)
     go verdicts.Sound = (filled-image (processors (madtFound capture)) list, ap readCode (same-answer (madtFound capture) list (scan capture .map)))
 
@@ -131,8 +133,8 @@ c-reading capture list = go (scan capture .verdict) refl
           refusal = r;
           broken = e;
           ofthetable = of-scan capture r e;
-          result = asked-refused _ _ e;
-          kept = list-refused capture list (image (processors (madtFound capture))) e;
+          result = unless-refused _ _ _ e;
+          kept = unless-refused _ _ _ e;
         })
     go verdicts.Sound e = room e (hasRoom (image (processors (madtFound capture))) list) refl
 

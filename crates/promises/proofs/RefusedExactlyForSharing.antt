@@ -6,9 +6,10 @@ use mathlib.Core.Path.{_≡_, refl, sym, _∙_, ap}
 use mathlib.Core.Logic.{⊎-elim}
 use mathlib.Core.List.{List}
 use borrow.Author.Tests.{ne-eqb}
-use Rattle.words.specs.Refusals.{refused}
+use Rattle.words.specs.Refusals.{refused, firstRefusal}
 use Rattle.words.specs.declared.Refusal.{Refusal}
 use Rattle.words.proofs.Choices.{no-if}
+use Rattle.words.proofs.Verdicts.{unless-refused, unless-sound, first-alone}
 use Rattle.words.specs.declared.Verdict.the-variants.{Sound, Refused}
 use Rattle.tables.specs.declared.Tables.{Tables}
 use Rattle.lines.specs.Says.{says}
@@ -23,13 +24,13 @@ use Rattle.map_promises.specs.Clashing.{ShareNode, ShareNumber, ShareVector, Sh
 use Rattle.map_promises.specs.Walks.{WellKept}
 use Rattle.map_promises.proofs.Clashing.{node-exactly, lone-exactly, number-exactly, vector-exactly, core-exactly}
 use Rattle.map_promises.proofs.WalkKeepsBooks.{walk-keeps-books}
-use Rattle.reading.specs.Scan.{madtBytes, walkOf, processorRule, mapRule, rulesAfterWalk, afterSurvey, scan}
+use Rattle.reading.specs.Scan.{madtBytes, walkOf, processorRule, mapRule, rulesAfterWalk, madtRules, scan}
 use Rattle.reading.specs.Reading.{withoutMap, readingOf}
 use Rattle.reading.specs.declared.Answer.the-variants.{Refused as NotRead}
 use Rattle.reading.specs.declared.Reading.{Reading}
-use Rattle.reading.proofs.Laws.{repeat-none, map-broken, turn-sound, walk-sound, scan-found, reading-refused}
+use Rattle.reading.proofs.Laws.{repeat-none}
 use Rattle.promises.specs.Captures.{NothingBefore41, NothingBefore51, ExactlyAt, NamesLater, RefusedExactlyForSharing, ReadRefusedExactlyForSharing}
-use Rattle.reading.proofs.Scanned.{verdict-left}
+use Rattle.reading.proofs.Scanned.{found-verdict}
 use Rattle.promises.proofs.WhyRefused.{why-refused}
 
 -- 40: some processor is enabled

@@ -3,13 +3,14 @@
 use Prim.Native.Nat.{ℕ, _<_, _≤_}
 use native.Mathlib.Omega.{arith}
 use mathlib.Core.Path.{_≡_, refl, sym, _∙_, ap}
-use mathlib.Core.List.{List}
+use mathlib.Core.List.{List, [], _∷_}
 use mathlib.Core.Bool.{Bool, true, false}
 use borrow.Author.Tests.{eq-eqb}
 use Rattle.words.specs.Choice.{if}
-use Rattle.words.specs.Refusals.{refused}
+use Rattle.words.specs.Refusals.{refused, firstRefusal}
 use Rattle.words.specs.declared.Refusal.{Refusal}
 use Rattle.words.proofs.Choices.{yes-if, if-cases}
+use Rattle.words.proofs.Verdicts.{unless-refused, unless-sound}
 use Rattle.words.specs.declared.Verdict.{Verdict}
 use Rattle.words.specs.declared.Verdict.the-variants.{Sound, Refused}
 use Rattle.tables.specs.Survey.{survey}
@@ -36,12 +37,12 @@ use Rattle.processors.specs.declared.Repeat.{Repeat}
 use Rattle.processors.specs.declared.Repeat.the-variants as repeats
 use Rattle.map_promises.proofs.Verdicts.{kept-check}
 use Rattle.map_promises.proofs.WalkKeepsBooks.{walk-keeps-books}
-use Rattle.reading.specs.Scan.{madtBytes, walkOf, turnedDown, repeatRule, processorRule, mapRule, inTurn, rulesAfterWalk, afterWalk, afterSurvey, scan}
-use Rattle.reading.proofs.Laws.{repeat-none, map-broken, turn-refused, turn-sound, scan-refused, scan-found}
+use Rattle.reading.specs.Scan.{madtBytes, walkOf, turnedDown, repeatRule, processorRule, mapRule, rulesAfterWalk, madtRules}
+use Rattle.reading.proofs.Laws.{repeat-none, map-broken, scan-refused}
 use Rattle.promises.specs.Captures.{NothingBefore51, NotRefusedBefore51, RulesInOrder}
 use Rattle.promises.proofs.EveryRefusal.{walk-of-told}
 use Rattle.promises.proofs.RefusedExactlyForSharing.{enabled, of-map}
-use Rattle.reading.proofs.Scanned.{verdict-left}
+use Rattle.reading.proofs.Scanned.{found-verdict}
 use Rattle.promises.proofs.TableRefusals.{SurveyTold, survey-told}
 use Rattle.promises.proofs.Told.{Told}
 
@@ -49,11 +50,13 @@ use Rattle.promises.proofs.Told.{Told}
 abbrev Late : Verdict → Type 0
 Late v = (r : Refusal) → v ≡ Refused r → 51 ≤ r .number
 
-first-late : (v later : Verdict) → Late (inTurn v later) → Late v
-first-late v later h r e = h r (turn-refused v later e)
+first-late : (v : Verdict) (later : List Verdict) → Late (firstRefusal (v ∷ later)) → Late v
+unfolding firstRefusal
+first-late v later h r e = h r (unless-refused Refused v _ e)
 
-rest-late : (v later : Verdict) → v ≡ Sound → Late (inTurn v later) → Late later
-rest-late v later s h r e = h r (turn-sound v later s ∙ e)
+rest-late : (v : Verdict) (later : List Verdict) → v ≡ Sound → Late (firstRefusal (v ∷ later)) → Late (firstRefusal later)
+unfolding firstRefusal
+rest-late v later s h r e = h r (unless-sound Refused v _ s ∙ e)
 
 -- 31 to 38
 sound-of : (capture : List ℕ) (v : Verdict) → Told 38 capture v → Late v → v ≡ Sound
@@ -112,35 +115,34 @@ module _ (capture : List ℕ) (t : Tables) (found : survey capture ≡ surveys.F
   abbrev places : Places
   places = walkOf capture t .found .places
 
-  -- its verdict is that of the walk and of the rules after it
-  in-turn : scan capture .verdict ≡ inTurn (walkOf capture t .verdict) (rulesAfterWalk table t (walkOf capture t .found))
-  unfolding afterSurvey afterWalk
-  in-turn = ap (λ s. s .verdict) (scan-found capture found) ∙ verdict-left t map _
-
-  late-turn : Late (inTurn (walkOf capture t .verdict) (rulesAfterWalk table t (walkOf capture t .found)))
-  late-turn r e = late r (in-turn ∙ e)
-
-  structures : walkOf capture t .verdict ≡ Sound
-  structures = sound-of capture (walkOf capture t .verdict) (walk-of-told capture t (tables-inside capture t found)) (first-late _ _ late-turn)
-
   abbrev base : ℕ
   base = t .madt .place
 
-  late-rules : Late (inTurn (repeatRule base (firstRepeat table)) (inTurn (processorRule base (count table)) (mapRule (firstBroken map places base (t .fadt .place)))))
-  unfolding rulesAfterWalk
-  late-rules = rest-late _ _ structures late-turn
+  -- its verdict is that of the walk and of the rules after it
+  late-all : Late (firstRefusal (madtRules capture t))
+  late-all r e = late r (found-verdict capture found ∙ e)
+
+  structures : walkOf capture t .verdict ≡ Sound
+  unfolding madtRules
+  structures = sound-of capture (walkOf capture t .verdict) (walk-of-told capture t (tables-inside capture t found)) (first-late _ _ late-all)
+
+  late-39 : Late (firstRefusal (rulesAfterWalk table t (walkOf capture t .found)))
+  unfolding madtRules
+  late-39 = rest-late _ _ structures late-all
 
   r39 : firstRepeat table ≡ repeats.Nowhere
-  r39 = no-repeat base (firstRepeat table) (first-late _ _ late-rules)
+  unfolding rulesAfterWalk
+  r39 = no-repeat base (firstRepeat table) (first-late _ _ late-39)
 
-  late-40 : Late (inTurn (processorRule base (count table)) (mapRule (firstBroken map places base (t .fadt .place))))
-  late-40 = rest-late _ _ (repeat-none base _ r39) late-rules
+  late-40 : Late (firstRefusal (processorRule base (count table) ∷ mapRule (firstBroken map places base (t .fadt .place)) ∷ []))
+  unfolding rulesAfterWalk
+  late-40 = rest-late _ _ (repeat-none base _ r39) late-39
 
   r40core : count table ≡ 0 → ⊥
   r40core = some-core base (count table) (first-late _ _ late-40)
 
   late-map : LateRule (firstBroken map places base (t .fadt .place))
-  late-map = of-map-rule _ (rest-late _ _ (enabled base (count table) r40core) late-40)
+  late-map = of-map-rule _ (first-late _ _ (rest-late _ _ (enabled base (count table) r40core) late-40))
 
   nothing-before : NothingBefore51 capture t
   unfolding firstBroken verdictsFrom40 lowest

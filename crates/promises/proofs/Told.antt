@@ -3,17 +3,18 @@ use Prim.Native.Nat.{ℕ, zero, suc, _+_, _<_, _≤_}
 use native.Mathlib.Omega.{arith}
 use mathlib.Core.Path.{_≡_, refl}
 use mathlib.Core.Logic.{inl, inr}
-use mathlib.Core.List.{List, [], _∷_, List·Memᴰ, List·Memᴰ·head, List·Memᴰ·tail}
+use mathlib.Core.List.{List, [], _∷_, _++_, List·Memᴰ, List·Memᴰ·head, List·Memᴰ·tail}
 use mathlib.Core.Bool.{Bool, true, false}
 use lib.ListN.{length}
 use Rattle.words.specs.Lists.{first, numbersFrom}
-use Rattle.words.specs.Refusals.{refused}
+use Rattle.words.specs.Choice.{if}
+use Rattle.words.specs.Refusals.{refused, rule, unless, firstRefusal, inEach}
 use Rattle.words.specs.declared.Refusal.{Refusal}
 use Rattle.words.specs.declared.Verdict.{Verdict}
 use Rattle.words.specs.declared.Verdict.the-variants.{Sound, Refused}
 use Rattle.clashes.specs.Folds.{fold}
 use Rattle.words.proofs.Choices.{if-cases}
-use Rattle.reading.specs.Scan.{inTurn}
+use Rattle.words.proofs.Verdicts.{first-none, first-joined}
 use Rattle.promises.specs.RefusalTable.{isRefusalNumber, isPlaceless, OfTheTable}
 
 -- a refusal of the table with a number up to `most`
@@ -44,11 +45,40 @@ pub tell-none : (capture : List ℕ) (n : ℕ) → isRefusalNumber n ≡ true �
 tell-none capture n number none = record { number = number; place = inl (none, refl) }
 
 -- ---- rules in turn
-pub turn-told : (most : ℕ) (capture : List ℕ) (v later : Verdict) → Told most capture v → (v ≡ Sound → Told most capture later)
-    → Told most capture (inTurn v later)
-unfolding inTurn
-turn-told most capture Sound later here after = after refl
-turn-told most capture (Refused r) later here after = here
+module _ (most : ℕ) (capture : List ℕ) where
+  turn-told : (v later : Verdict) → Told most capture v → (v ≡ Sound → Told most capture later) → Told most capture (unless Refused v later)
+  unfolding unless
+  turn-told Sound later here after = after refl
+  turn-told (Refused r) later here after = here
+
+  -- no rule, and one more
+  pub none-told : Told most capture (firstRefusal [])
+  none-told = rw first-none (omega arith)
+
+  pub more-told : (v : Verdict) (later : List Verdict) → Told most capture v → (v ≡ Sound → Told most capture (firstRefusal later))
+      → Told most capture (firstRefusal (v ∷ later))
+  unfolding firstRefusal
+  more-told v later = turn-told v (firstRefusal later)
+
+  pub rule-told : (broken : Bool) (n place : ℕ) (later : List Verdict) → UpTo most capture (refused n place)
+      → (broken ≡ false → Told most capture (firstRefusal later)) → Told most capture (firstRefusal (rule broken n place ∷ later))
+  unfolding firstRefusal unless if
+  rule-told true n place later here after = here
+  rule-told false n place later here after = after refl
+
+  -- one list behind another
+  pub joined-told : (xs ys : List Verdict) → Told most capture (firstRefusal xs) → (firstRefusal xs ≡ Sound → Told most capture (firstRefusal ys))
+      → Told most capture (firstRefusal (xs ++ ys))
+  joined-told xs ys here after = rw (first-joined xs ys) (turn-told (firstRefusal xs) (firstRefusal ys) here after)
+
+  -- those of some numbers in turn
+  pub each-told : (rules : ℕ → List Verdict) (from k : ℕ) → ((i : ℕ) → from ≤ i → i < from + k → Told most capture (firstRefusal (rules i)))
+      → Told most capture (firstRefusal (inEach rules (numbersFrom from k)))
+  unfolding inEach numbersFrom
+  each-told rules from zero each = none-told
+  each-told rules from (suc k) each =
+      joined-told (rules from) _ (each from (omega arith) (omega arith))
+      (λ sound. each-told rules (from + 1) k (λ i l h. each i (omega arith) (omega arith)))
 
 -- ---- a search of numbers gives an answer of one of them that the test takes, or the one for none
 pub search-told : {R : Type 0} (P : R → Type 0) (test : ℕ → Bool) (found : ℕ → R) (none : R) (from k : ℕ)

@@ -5,14 +5,14 @@ use mathlib.Core.Path.{_≡_, refl, _∙_, ap}
 use mathlib.Core.Logic.{_⊎_, inl, inr}
 use mathlib.Core.List.{List}
 use mathlib.Core.Bool.{false}
-use Rattle.words.specs.Refusals.{refused}
+use Rattle.words.specs.Refusals.{refused, unless}
 use Rattle.words.specs.declared.Refusal.{Refusal}
 use Rattle.words.specs.declared.Verdict.{Verdict}
 use Rattle.words.specs.declared.Verdict.the-variants as verdicts
 use Rattle.processors.specs.Listing.{processors, hasRoom}
 use Rattle.words.proofs.Choices.{if-cases}
 use Rattle.reading.specs.Scan.{scan}
-use Rattle.reading.specs.Reading.{withoutMap, answered, madtFound, afterScan, readingOf}
+use Rattle.reading.specs.Reading.{withoutMap, answered, madtFound, readingOf}
 use Rattle.reading.specs.declared.Answer.{Answer}
 use Rattle.reading.specs.declared.Answer.the-variants.{Read, Refused}
 use Rattle.reading.specs.declared.Reading.{Reading}
@@ -31,10 +31,10 @@ Why capture list r =
     × (hasRoom (processors (madtFound capture)) list ≡ false))
 
 pub why-refused : (capture list : List ℕ) (r : Refusal) → readingOf capture list .answer ≡ Refused r → Why capture list r
-unfolding readingOf afterScan withoutMap answered
+unfolding readingOf unless withoutMap answered
 why-refused capture list r = go (scan capture .verdict) refl
   where
-    go : (v : Verdict) → scan capture .verdict ≡ v → afterScan v (madtFound capture) (scan capture .map) list .answer ≡ Refused r → Why capture list r
+    go : (v : Verdict) → scan capture .verdict ≡ v → unless withoutMap v (answered (madtFound capture) (scan capture .map) list) .answer ≡ Refused r → Why capture list r
     go (verdicts.Refused q) e = λ h. inl (e ∙ ap verdicts.Refused (same-refusal h))
     go verdicts.Sound e =
         if-cases (λ (x : Reading). x .answer ≡ Refused r → Why capture list r) _ _ _

@@ -4,21 +4,14 @@ use mathlib.Core.List.{List}
 use lib.Dec.{leb}
 use lib.ListN.{length}
 use Rattle.words.specs.Choice.{if}
-use Rattle.words.specs.Refusals.{refused}
-use Rattle.words.specs.declared.Verdict.{Verdict}
-use Rattle.words.specs.declared.Verdict.the-variants.{Sound, Refused}
+use Rattle.words.specs.Refusals.{refused, unless}
 use Rattle.lines.specs.Answers.{refusalCode, routeOf, traceOf, routeCode, traceCode}
 use Rattle.processors.specs.Image.{image}
-use Rattle.processors.specs.Listing.{processors, count}
+use Rattle.processors.specs.Listing.{processors, count, filled}
 use Rattle.reading.specs.Scan.{scan}
-use Rattle.reading.specs.Reading.{madtFound, listFrom}
+use Rattle.reading.specs.Reading.{madtFound}
 use Rattle.reading.specs.declared.Answer.{Answer}
 use Rattle.reading.specs.declared.Answer.the-variants as answers
-
--- a refusal of the scan, or an answer
-unfoldable pub asked : Verdict → ℕ → ℕ
-asked (Refused refusal) answer = refusalCode refusal
-asked Sound answer = answer
 
 -- ---- the reading: "the list is bytes, four little-endian ones a number, and 60 means under 8 × count bytes"
 unfoldable pub answerIn : List ℕ → List ℕ → Answer
@@ -30,16 +23,16 @@ readCode (answers.Read processors) = processors
 readCode (answers.Refused refusal) = refusalCode refusal
 
 unfoldable pub readResult : List ℕ → List ℕ → ℕ
-readResult capture list = asked (scan capture .verdict) (readCode (answerIn (madtFound capture) list))
+readResult capture list = unless refusalCode (scan capture .verdict) (readCode (answerIn (madtFound capture) list))
 
 -- the bytes afterwards
 unfoldable pub bytesAfter : List ℕ → List ℕ → List ℕ
-bytesAfter capture list = listFrom (scan capture .verdict) (image (processors (madtFound capture))) list
+bytesAfter capture list = unless (λ refusal. list) (scan capture .verdict) (filled (image (processors (madtFound capture))) list)
 
 -- ---- questions to the map: where a global number arrives
 unfoldable pub routeResult : List ℕ → ℕ → ℕ
-routeResult capture number = asked (scan capture .verdict) (routeCode (routeOf (scan capture .map) number))
+routeResult capture number = unless refusalCode (scan capture .verdict) (routeCode (routeOf (scan capture .map) number))
 
 -- what arrives at a core vector of a capture's map with a number
 unfoldable pub traceResult : List ℕ → ℕ → ℕ → ℕ
-traceResult capture vector number = asked (scan capture .verdict) (traceCode (traceOf (scan capture .map) vector number))
+traceResult capture vector number = unless refusalCode (scan capture .verdict) (traceCode (traceOf (scan capture .map) vector number))

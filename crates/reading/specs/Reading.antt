@@ -2,10 +2,8 @@
 use Prim.Native.Nat.{ℕ}
 use mathlib.Core.List.{List}
 use Rattle.words.specs.Choice.{if}
-use Rattle.words.specs.Refusals.{refused}
+use Rattle.words.specs.Refusals.{refused, unless}
 use Rattle.words.specs.declared.Refusal.{Refusal}
-use Rattle.words.specs.declared.Verdict.{Verdict}
-use Rattle.words.specs.declared.Verdict.the-variants as verdicts
 use Rattle.lines.specs.declared.Map.{Map}
 use Rattle.processors.specs.Listing.{processors, count, hasRoom, filled}
 use Rattle.reading.specs.Scan.{madtBytes, emptyMap, scan}
@@ -21,22 +19,13 @@ unfoldable pub answered : List ℕ → Map → List ℕ → Reading
 answered table map list =
     if (hasRoom (processors table) list) (record { answer = Read (count table); map = map }) (withoutMap (refused 60 0))
 
--- the answer after the scan
-unfoldable pub afterScan : Verdict → List ℕ → Map → List ℕ → Reading
-afterScan (verdicts.Refused refusal) table map list = withoutMap refusal
-afterScan verdicts.Sound table map list = answered table map list
-
 -- the MADT's bytes where the scan found one
 unfoldable pub madtFound : List ℕ → List ℕ
 madtFound capture = madtBytes capture (scan capture .madt)
 
 unfoldable pub readingOf : List ℕ → List ℕ → Reading
-readingOf capture list = afterScan (scan capture .verdict) (madtFound capture) (scan capture .map) list
+readingOf capture list = unless withoutMap (scan capture .verdict) (answered (madtFound capture) (scan capture .map) list)
 
--- the list afterwards: filled with entries by an answer, untouched by a refusal
-unfoldable pub listFrom : Verdict → List ℕ → List ℕ → List ℕ
-listFrom (verdicts.Refused refusal) entries list = list
-listFrom verdicts.Sound entries list = filled entries list
-
+-- the list afterwards: filled by an answer, untouched by a refusal
 unfoldable pub listAfter : List ℕ → List ℕ → List ℕ
-listAfter capture list = listFrom (scan capture .verdict) (processors (madtFound capture)) list
+listAfter capture list = unless (λ refusal. list) (scan capture .verdict) (filled (processors (madtFound capture)) list)

@@ -1,18 +1,15 @@
 -- Document 01, "Refusals in order": the order of all rules from 1 to 54, and what is found where none is broken.
 use Prim.Native.Nat.{ℕ, _+_}
-use mathlib.Core.List.{List}
+use mathlib.Core.List.{List, [], _∷_, _++_}
 use lib.Dec.{eqb}
 use Rattle.words.specs.Bytes.{partAt}
-use Rattle.words.specs.Choice.{if}
-use Rattle.words.specs.Refusals.{refused}
+use Rattle.words.specs.Refusals.{refused, rule, unless, firstRefusal}
 use Rattle.words.specs.declared.Refusal.{Refusal}
 use Rattle.words.specs.declared.Verdict.{Verdict}
 use Rattle.words.specs.declared.Verdict.the-variants.{Sound, Refused}
-use Rattle.tables.specs.Survey.{survey}
+use Rattle.tables.specs.Survey.{tablesOf, surveyRules}
 use Rattle.tables.specs.declared.Table.{Table}
 use Rattle.tables.specs.declared.Tables.{Tables}
-use Rattle.tables.specs.declared.Survey.{Survey}
-use Rattle.tables.specs.declared.Survey.the-variants as surveys
 use Rattle.lines.specs.Rules.{firstBroken}
 use Rattle.lines.specs.declared.Map.{Map}
 use Rattle.lines.specs.declared.Verdict.the-variants as rules
@@ -50,37 +47,35 @@ repeatRule base (At offset) = Refused (refused 39 (base + offset))
 
 -- 40: "no enabled CORE", at the MADT
 unfoldable pub processorRule : ℕ → ℕ → Verdict
-processorRule base processors = if (eqb processors 0) (Refused (refused 40 base)) Sound
+processorRule base processors = rule (eqb processors 0) 40 base
 
 -- the rest of 40, and 41 to 54: what the map breaks first
 unfoldable pub mapRule : Kept → Verdict
 mapRule rules.Kept = Sound
 mapRule (rules.Broken refusal partner) = Refused refusal
 
--- the first of two verdicts that refuses
-unfoldable pub inTurn : Verdict → Verdict → Verdict
-inTurn (Refused refusal) later = Refused refusal
-inTurn Sound later = later
-
--- 39 to 54: "39 after all structures"
-unfoldable pub rulesAfterWalk : List ℕ → Tables → Found → Verdict
+-- 39 to 54
+unfoldable pub rulesAfterWalk : List ℕ → Tables → Found → List Verdict
 rulesAfterWalk table t found =
-    inTurn (repeatRule (t .madt .place) (firstRepeat table))
-    (inTurn (processorRule (t .madt .place) (count table))
-    (mapRule (firstBroken (found .map) (found .places) (t .madt .place) (t .fadt .place))))
+    repeatRule (t .madt .place) (firstRepeat table)
+    ∷ processorRule (t .madt .place) (count table)
+    ∷ mapRule (firstBroken (found .map) (found .places) (t .madt .place) (t .fadt .place))
+    ∷ []
 
--- what a verdict leaves of what was found
-unfoldable pub judged : Tables → Map → Verdict → Scan
-judged t map (Refused refusal) = turnedDown refusal
-judged t map Sound = record { verdict = Sound; madt = t .madt; map = map }
+-- 31 to 38 of the structures in turn, then the rest: "39 after all structures"
+unfoldable pub madtRules : List ℕ → Tables → List Verdict
+madtRules capture t =
+    walkOf capture t .verdict ∷ rulesAfterWalk (madtBytes capture (t .madt)) t (walkOf capture t .found)
 
--- the order of all rules: 1 to 30, then 31 to 38 structure by structure, then 39 to 54
-unfoldable pub afterWalk : List ℕ → Tables → Walked → Scan
-afterWalk table t w = judged t (w .found .map) (inTurn (w .verdict) (rulesAfterWalk table t (w .found)))
+-- the order of all rules: 1 to 30, then 31 to 54
+unfoldable pub scanRules : List ℕ → List Verdict
+scanRules capture = surveyRules capture ++ madtRules capture (tablesOf capture)
 
-unfoldable pub afterSurvey : List ℕ → Survey → Scan
-afterSurvey capture (surveys.Refused refusal) = turnedDown refusal
-afterSurvey capture (surveys.Found t) = afterWalk (madtBytes capture (t .madt)) t (walkOf capture t)
+-- what is found where none of them is broken
+unfoldable pub accepted : Tables → Map → Scan
+accepted t map = record { verdict = Sound; madt = t .madt; map = map }
 
 unfoldable pub scan : List ℕ → Scan
-scan capture = afterSurvey capture (survey capture)
+scan capture =
+    let t = tablesOf capture in
+    unless turnedDown (firstRefusal (scanRules capture)) (accepted t (walkOf capture t .found .map))

@@ -5,8 +5,8 @@ ghost use lib.ListN.{length};
 ghost use Rattle.lines.specs.Rules.{firstBroken};
 ghost use Rattle.processors.specs.Listing.{processors, count, filled};
 ghost use Rattle.processors.specs.Repeats.{firstRepeat};
-ghost use Rattle.tables.specs.declared.Survey.the-variants as surveys;
-ghost use Rattle.reading.specs.Scan.{madtBytes, emptyMap, turnedDown, repeatRule, processorRule, mapRule, rulesAfterWalk, judged, afterSurvey, scan};
+ghost use Rattle.words.specs.Refusals.{unless, firstRefusal};
+ghost use Rattle.reading.specs.Scan.{madtBytes, emptyMap, turnedDown, repeatRule, processorRule, mapRule, rulesAfterWalk, madtRules, accepted, walkOf, scan};
 ghost use Rattle.reading.specs.Reading.{withoutMap, answered, readingOf, listAfter};
 use lines::Map;
 use lines::Verdict as Kept;
@@ -102,7 +102,7 @@ fn check_map(found: Found, madt: u16, fadt: u16) -> Verdict
 fn rules_after_walk(table: &[u8], t: Tables, found: Found) -> Verdict
     requires { ⌜ length (now table) < 65536 ⌝ }
     requires { ⌜ found .enabled ≡ count (now table) ⌝ }
-    ensures { λ r. ⌜ r ≡ rulesAfterWalk (now (table .entry)) t found ⌝ }
+    ensures { λ r. ⌜ r ≡ firstRefusal (rulesAfterWalk (now (table .entry)) t found) ⌝ }
 {
     let madt = t.madt;
     let fadt = t.fadt;
@@ -117,7 +117,7 @@ fn rules_after_walk(table: &[u8], t: Tables, found: Found) -> Verdict
 
 // What a verdict leaves of what was found.
 fn judge(t: Tables, map: Map, verdict: Verdict) -> Scan
-    ensures { λ r. ⌜ r ≡ judged t map verdict ⌝ }
+    ensures { λ r. ⌜ r ≡ unless turnedDown verdict (accepted t map) ⌝ }
 {
     match verdict {
         Verdict::Refused(refusal) => turn_down(refusal),
@@ -131,7 +131,8 @@ fn judge(t: Tables, map: Map, verdict: Verdict) -> Scan
 
 // The walk of the MADT that a survey found, and what comes after it.
 fn scan_tables(capture: &[u8], t: Tables) -> Scan
-    ensures { λ r. ⌜ r ≡ afterSurvey (now (capture .entry)) (surveys.Found t) ⌝ }
+    ensures { λ r. let c = now (capture .entry) in
+        ⌜ r ≡ unless turnedDown (firstRefusal (madtRules c t)) (accepted t (walkOf c t .found .map)) ⌝ }
 {
     let madt = t.madt;
     let walked = madt::walk::walk_madt(capture, madt, t.sci);

@@ -1,93 +1,98 @@
 -- The tables of an accepted answer lie inside the capture: the theorem `tables-inside`.
-use mathlib.Core.Bool.{true, false, not}
+use mathlib.Core.Bool.{false, not, true≢false}
 use mathlib.Core.List.{List}
-use mathlib.Core.Path.{_≡_, refl}
+use mathlib.Core.Path.{_≡_, refl, sym, ap, _∙_}
 use Prim.Native.Nat.{ℕ, _+_, _≤_, _<_}
 use native.Mathlib.Omega.{arith}
 use lib.Dec.{ltb}
 use lib.ListN.{length}
 use borrow.Author.Tests.{ltb-false, not-false}
-use Rattle.words.specs.Refusals.{refused}
-use Rattle.words.proofs.Tests.{neither-left, neither-right}
-use Rattle.capture.specs.Presence.{Stretch, Present, Absent, located, rsdp}
-use Rattle.capture.specs.declared.Root.{Root}
-use Rattle.capture.specs.declared.Root.the-variants as roots
+use Rattle.words.specs.Refusals.{firstRefusal}
 use Rattle.words.specs.declared.Verdict.{Verdict}
 use Rattle.words.specs.declared.Verdict.the-variants as verdicts
-use Rattle.capture.proofs.Within.{Sound, passes, within, rsdp-of-sound, behind}
+use Rattle.words.proofs.Tests.{neither-left, neither-right}
+use Rattle.words.proofs.Verdicts.{unless-told, unless-sound, first-sound, joined-kept}
+use Rattle.capture.specs.Rules.{containerRules, verdict}
+use Rattle.capture.specs.Presence.{isPresent, placeOf, located, presenceRules, rsdpPlace}
+use Rattle.capture.proofs.Within.{Sound, within, behind, present-at}
 use Rattle.capture.proofs.Apart.{one-place}
 use Rattle.tables.specs.Rsdp.{rsdpRules, xsdtField}
-use Rattle.tables.specs.Table.{headerSize, addressAt, tableLength, isPresent, cutShort, tableAt}
-use Rattle.tables.specs.Xsdt.{entryField, entryRules, isRefused, xsdtRules}
+use Rattle.tables.specs.Table.{headerSize, addressAt, headerAt, tableNamed, tableLength, cutShort, tableRules}
+use Rattle.tables.specs.Xsdt.{entryField, entryRules, xsdtRules}
 use Rattle.tables.specs.Finder.{firstNamed}
-use Rattle.tables.specs.Survey.{apic, facp, nameRules, bodyRules, tableOf, tableNamed, tableOfEntry, madtOf, fadtOf, after, ofTables, ofNames, ofXsdt, ofRsdp, survey}
+use Rattle.tables.specs.Survey.{apic, facp, isNowhere, nameRules, bodyRules, withSci, tableOfEntry, madtOf, fadtOf, tablesFrom, xsdtOf, tablesOf, surveyRules, survey}
 use Rattle.tables.specs.declared.Table.{Table}
 use Rattle.tables.specs.declared.Tables.{Tables}
-use Rattle.tables.specs.declared.Checked.{Checked}
-use Rattle.tables.specs.declared.Checked.the-variants as checked
 use Rattle.tables.specs.declared.Entry.{Entry}
 use Rattle.tables.specs.declared.Entry.the-variants.{At, Nowhere}
 use Rattle.tables.specs.declared.Survey.{Survey}
 use Rattle.tables.specs.declared.Survey.the-variants.{Found, Refused}
-use Rattle.tables.proofs.Laws.{unrefused-whole, entries-through, named-counted}
+use Rattle.tables.proofs.Laws.{table-kept, entries-kept, named-counted}
 
 -- a table of a capture that is whole and has a body
 pub record Lies (capture : List ℕ) (table : Table) (least : ℕ) : Type 0 where
+  pub behind : 0 < table .place
   pub inside : table .place + table .length ≤ length capture
   pub long : least ≤ table .length
 
--- a stretch that is present stands somewhere
-present-at : (s : Stretch) → isPresent s ≡ true → (place : ℕ) × (s ≡ Present place)
-unfolding isPresent
-present-at (Present place) h = (place, refl)
-present-at Absent h = absurd (let z : _≡_ {A = ℕ} 0 1 = cc in omega arith)
-
--- a whole table stands behind the header, and ends inside the capture
-pub whole-inside : (capture : List ℕ) (address place : ℕ) → Sound capture → located capture address headerSize ≡ Present place
-    → cutShort capture address place ≡ false
-    → (0 < place) × (36 ≤ tableLength capture place) × (place + tableLength capture place ≤ length capture)
-unfolding cutShort
-whole-inside capture address place sound h whole =
+-- a table that a field names and no rule refuses stands behind the container's header, and ends inside the capture
+pub named-inside : (capture : List ℕ) (field : ℕ) → Sound capture → firstRefusal (tableRules capture field) ≡ verdicts.Sound
+    → Lies capture (tableNamed capture field) 36
+unfolding tableNamed headerAt cutShort
+named-inside capture field sound h =
+    let kept = table-kept capture field h in
+    let address = addressAt capture field in
+    let place = placeOf (headerAt capture field) in
     let size = tableLength capture place in
-    let long = ltb-false size headerSize (neither-left _ (not (isPresent (located capture address size))) whole) in
-    let there = present-at (located capture address size) (not-false _ (neither-right (ltb size headerSize) _ whole)) in
-    let same = one-place capture sound address headerSize size place (there .0) (omega arith) (omega arith) h (there .1) in
-    let ends = within capture address size (there .0) sound (there .1) in
-    (omega (arith, behind capture address headerSize place h), long, omega arith)
+    let long = ltb-false size headerSize (neither-left _ (not (isPresent (located capture address size))) (kept .1)) in
+    let there = present-at (located capture address size) (not-false _ (neither-right (ltb size headerSize) _ (kept .1))) in
+    let same = one-place capture sound address headerSize size place _ (omega arith) (omega arith) (kept .0) there in
+    let ends = within capture address size _ sound there in
+    record { behind = omega (arith, behind capture address headerSize place (kept .0)); inside = omega arith; long = long }
 
--- so does a table that an entry names and that was not refused
-named-inside : (capture : List ℕ) (field : ℕ) → Sound capture → isRefused (tableAt capture field) ≡ false
-    → tableNamed capture field .place + tableNamed capture field .length ≤ length capture
-unfolding tableNamed tableOf
-named-inside capture field sound h = go (located capture (addressAt capture field) headerSize) refl
+-- so does a table that the finder finds, where no entry was refused
+found-inside : (capture : List ℕ) (xsdt : Table) (letters : ℕ) → Sound capture → firstRefusal (entryRules capture xsdt) ≡ verdicts.Sound
+    → isNowhere (firstNamed capture xsdt letters) ≡ false → Lies capture (tableOfEntry capture xsdt (firstNamed capture xsdt letters)) 36
+unfolding tableOfEntry isNowhere
+found-inside capture xsdt letters sound through = go (firstNamed capture xsdt letters) refl
   where
-    go : (s : Stretch) → located capture (addressAt capture field) headerSize ≡ s → tableOf capture s .place + tableOf capture s .length ≤ length capture
-    go Absent e = omega arith
-    go (Present place) e =
-        whole-inside capture (addressAt capture field) place sound e (unrefused-whole capture field place e h) .2
-
-entry-inside : (capture : List ℕ) (xsdt : Table) (letters : ℕ) → Sound capture → entryRules capture xsdt ≡ verdicts.Sound
-    → tableOfEntry capture xsdt (firstNamed capture xsdt letters) .place + tableOfEntry capture xsdt (firstNamed capture xsdt letters) .length ≤ length capture
-unfolding tableOfEntry
-entry-inside capture xsdt letters sound through = go (firstNamed capture xsdt letters) refl
-  where
-    go : (e : Entry) → firstNamed capture xsdt letters ≡ e → tableOfEntry capture xsdt e .place + tableOfEntry capture xsdt e .length ≤ length capture
-    go Nowhere h = omega arith
-    go (At entry) h =
+    go : (e : Entry) → firstNamed capture xsdt letters ≡ e → isNowhere e ≡ false → Lies capture (tableOfEntry capture xsdt e) 36
+    go Nowhere h some = absurd (true≢false some)
+    go (At entry) h some =
         named-inside capture (entryField xsdt entry) sound
-        (entries-through capture xsdt entry through (named-counted capture xsdt letters entry h))
+        (entries-kept capture xsdt entry through (named-counted capture xsdt letters entry h))
 
--- what an answer that was found tells of the verdicts before it
-went-on : (v : Verdict) (later : Survey) (t : Tables) → after v later ≡ Found t → (v ≡ verdicts.Sound) × (later ≡ Found t)
-unfolding after
-went-on verdicts.Sound later t h = (refl, h)
-went-on (verdicts.Refused refusal) later t h = absurd (let z : _≡_ {A = ℕ} 0 1 = cc in omega arith)
+-- and where 26 is kept, both MADT and FADT are found
+pub both-inside : (capture : List ℕ) (xsdt : Table) → Sound capture → firstRefusal (entryRules capture xsdt) ≡ verdicts.Sound
+    → firstRefusal (nameRules capture xsdt) ≡ verdicts.Sound → Lies capture (madtOf capture xsdt) 36 × Lies capture (fadtOf capture xsdt) 36
+unfolding nameRules madtOf fadtOf
+both-inside capture xsdt sound through h =
+    let some = first-sound _ 26 _ _ h .0 in (
+      found-inside capture xsdt apic sound through (neither-left _ (isNowhere (firstNamed capture xsdt facp)) some),
+      found-inside capture xsdt facp sound through (neither-right (isNowhere (firstNamed capture xsdt apic)) _ some),
+    )
 
-long-enough : (capture : List ℕ) (madt fadt : Table) → bodyRules capture madt fadt ≡ verdicts.Sound → (44 ≤ madt .length) × (48 ≤ fadt .length)
+long-enough : (capture : List ℕ) (madt fadt : Table) → firstRefusal (bodyRules capture madt fadt) ≡ verdicts.Sound
+    → (44 ≤ madt .length) × (48 ≤ fadt .length)
 unfolding bodyRules
 long-enough capture madt fadt h =
-    let first = passes (ltb (madt .length) 44) _ _ h in
-    (ltb-false (madt .length) 44 (first .0), ltb-false (fadt .length) 48 (passes (ltb (fadt .length) 48) _ _ (first .1) .0))
+    let first = first-sound _ 28 _ _ h in
+    (ltb-false (madt .length) 44 (first .0), ltb-false (fadt .length) 48 (first-sound _ 28 _ _ (first .1) .0))
+
+-- what the answer tells of the rules
+abbrev said : Survey → Verdict
+said (Found t) = verdicts.Sound
+said (Refused refusal) = verdicts.Refused refusal
+
+pub survey-told : (capture : List ℕ) {s : Survey} → survey capture ≡ s → firstRefusal (surveyRules capture) ≡ said s
+unfolding survey
+survey-told capture h = sym (unless-told Refused said (λ r. refl) _ _ refl) ∙ ap said h
+
+pub survey-is : (capture : List ℕ) {t : Tables} → survey capture ≡ Found t → tablesOf capture ≡ t
+unfolding survey
+survey-is capture {t} h =
+    let found : Found (tablesOf capture) ≡ Found t = sym (unless-sound Refused _ _ (survey-told capture h)) ∙ h in
+    cc
 
 -- what was found, from the XSDT on
 pub record Accepted (capture : List ℕ) (t : Tables) : Type 0 where
@@ -95,35 +100,23 @@ pub record Accepted (capture : List ℕ) (t : Tables) : Type 0 where
   pub madt : Lies capture (t .madt) 44
   pub fadt : Lies capture (t .fadt) 48
 
-of-tables : (capture : List ℕ) (xsdt : Table) (t : Tables) → Sound capture → entryRules capture xsdt ≡ verdicts.Sound → ofNames capture xsdt ≡ Found t
-    → Accepted capture t
-unfolding ofNames ofTables madtOf fadtOf
-of-tables capture xsdt t sound through h =
-    let names = went-on (nameRules capture xsdt) _ t h in
-    let bodies = went-on (bodyRules capture (madtOf capture xsdt) (fadtOf capture xsdt)) _ t (names .1) in
-    let long = long-enough capture (madtOf capture xsdt) (fadtOf capture xsdt) (bodies .0) in
-    let is-madt : madtOf capture xsdt ≡ t .madt = cc in
-    let is-fadt : fadtOf capture xsdt ≡ t .fadt = cc in
-    record {
-      sound = sound;
-      madt = record { inside = rw (← is-madt) (entry-inside capture xsdt apic sound through); long = rw (← is-madt) (long .0) };
-      fadt = record { inside = rw (← is-fadt) (entry-inside capture xsdt facp sound through); long = rw (← is-fadt) (long .1) };
-    }
-
-of-xsdt : (capture : List ℕ) (c : Checked) (t : Tables) → Sound capture → ofXsdt capture c ≡ Found t → Accepted capture t
-unfolding ofXsdt
-of-xsdt capture (checked.Refused refusal) t sound h = absurd (let z : _≡_ {A = ℕ} 0 1 = cc in omega arith)
-of-xsdt capture (checked.Is xsdt) t sound h =
-    let rules = went-on (xsdtRules capture xsdt) _ t h in
-    let through = went-on (entryRules capture xsdt) _ t (rules .1) in
-    of-tables capture xsdt t sound (through .0) (through .1)
-
 -- the MADT has its 44 bytes, the FADT its 48, and both lie wholly inside the capture
 pub tables-inside : (capture : List ℕ) (t : Tables) → survey capture ≡ Found t → Accepted capture t
-unfolding survey ofRsdp
-tables-inside capture t h = go (rsdp capture) refl h
-  where
-    go : (r : Root) → rsdp capture ≡ r → ofRsdp capture r ≡ Found t → Accepted capture t
-    go (roots.Refused refusal) e g = absurd (let z : _≡_ {A = ℕ} 0 1 = cc in omega arith)
-    go (roots.At place) e g =
-        of-xsdt capture (tableAt capture (xsdtField place)) t (rsdp-of-sound capture place e) (went-on (rsdpRules capture place) _ t g .1)
+unfolding verdict surveyRules tablesOf tablesFrom withSci
+tables-inside capture t h =
+    let xsdt = xsdtOf capture in
+    let container = joined-kept (containerRules capture) _ (survey-told capture h) in
+    let present = joined-kept (presenceRules capture) _ (container .1) in
+    let rsdp = joined-kept (rsdpRules capture (rsdpPlace capture)) _ (present .1) in
+    let table = joined-kept (tableRules capture (xsdtField (rsdpPlace capture))) _ (rsdp .1) in
+    let index = joined-kept (xsdtRules capture xsdt) _ (table .1) in
+    let entries = joined-kept (entryRules capture xsdt) _ (index .1) in
+    let names = joined-kept (nameRules capture xsdt) _ (entries .1) in
+    let lie = both-inside capture xsdt (container .0) (entries .0) (names .0) in
+    let long = long-enough capture (madtOf capture xsdt) (fadtOf capture xsdt) (names .1) in
+    rw (← survey-is capture h)
+    (record {
+      sound = container .0;
+      madt = record { behind = lie .0 .behind; inside = lie .0 .inside; long = long .0 };
+      fadt = record { behind = lie .1 .behind; inside = lie .1 .inside; long = long .1 };
+    })

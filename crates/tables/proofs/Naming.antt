@@ -2,29 +2,31 @@
 use mathlib.Core.Bool.{Bool, true, false, _||_}
 use mathlib.Core.List.{List}
 use mathlib.Core.Path.{_≡_, refl, sym, ap, _∙_}
-use Prim.Native.Nat.{ℕ, _+_, _≤_, _<_}
-use native.Mathlib.Omega.{arith}
+use Prim.Native.Nat.{ℕ, _+_, _-_, _≤_, _<_}
+use native.Mathlib.Nat.{sub-zero}
 use lib.Dec.{eqb}
 use Rattle.words.specs.Choice.{if}
-use Rattle.words.specs.Lists.{first}
+use Rattle.words.specs.Lists.{first, numbersFrom, numbersBelow}
 use Rattle.words.proofs.Searches.{next-number, no-number}
-use Rattle.words.specs.declared.Refusal.{Refusal}
-use Rattle.words.specs.Refusals.{refused}
-use Rattle.words.proofs.Choices.{yes-if, no-if}
+use Rattle.words.specs.Refusals.{refused, unless, firstRefusal}
+use Rattle.words.proofs.Verdicts.{Asking, unless-told, unless-sound, first-alone, first-broken, first-kept}
 use Rattle.words.specs.declared.Verdict.{Verdict}
 use Rattle.words.specs.declared.Verdict.the-variants as verdicts
-use Rattle.tables.specs.Table.{signature, tableAt}
-use Rattle.tables.specs.Xsdt.{entryCount, entryField}
+use Rattle.tables.specs.Table.{signature, headerAt, tableNamed, tableRules, tableAt}
+use Rattle.tables.specs.Xsdt.{entryCount, entryField, entries, entryRules}
 use Rattle.tables.specs.Finder.{names, namedFrom, firstNamed, namedAfter, secondNamed}
-use Rattle.tables.specs.Survey.{apic, facp, isNowhere, earlier, secondRule, nameRules, tableNamed, tableOfEntry, madtOf, fadtOf, ofTables}
-use Rattle.tables.specs.Naming.{named, namesAfter, notNamed, oneMore}
+use Rattle.tables.specs.Survey.{apic, facp, isNowhere, earlier, secondRule, nameRules, bodyRules, withSci, tableOfEntry, madtOf, fadtOf, tablesFrom}
+use Rattle.tables.specs.Naming.{named, notNamed, oneMore}
 use Rattle.tables.specs.declared.Table.{Table}
 use Rattle.tables.specs.declared.Checked.the-variants as checked
 use Rattle.tables.specs.declared.Entry.{Entry}
 use Rattle.tables.specs.declared.Entry.the-variants.{At, Nowhere}
 use Rattle.tables.specs.declared.Named.{Named}
+use Rattle.tables.specs.declared.Names.{Names}
 use Rattle.tables.specs.declared.Names.the-variants.{Are, Refused}
-use Rattle.tables.proofs.Laws.{checked-stands, names-present}
+use Rattle.tables.specs.declared.Survey.the-variants as surveys
+use Rattle.capture.specs.Presence.{Present}
+use Rattle.tables.proofs.Laws.{table-kept, table-told, table-is, names-present}
 
 -- an entry that is known, or else a later one
 unfoldable pub orElse : Entry → Entry → Entry
@@ -94,42 +96,49 @@ module _ (capture : List ℕ) (xsdt : Table) (letters : ℕ) where
   pub note-checked : {known later : Named} {entry : ℕ} (table : Table) → Noting known entry → entry < entryCount xsdt
       → tableAt capture (entryField xsdt entry) ≡ checked.Is table
       → later ≡ oneMore known (eqb (signature capture (table .place)) letters) table entry → Noting later (entry + 1)
+  unfolding tableNamed
   note-checked {known} {later} {entry} table s counted is told =
-      let stands = checked-stands capture (entryField xsdt entry) table is in
-      rw told (note-next (eqb (signature capture (table .place)) letters) table s counted (names-present capture xsdt letters entry (stands .0)) (stands .1))
+      let field = entryField xsdt entry in
+      let stands = table-is capture field is in
+      let there : headerAt capture field ≡ Present (table .place) = table-kept capture field (table-told capture field is) .0 ∙ ap (λ (t : Table). Present (t .place)) stands in
+      rw told (note-next (eqb (signature capture (table .place)) letters) table s counted (names-present capture xsdt letters entry there) stands)
 
-module _ (capture : List ℕ) (xsdt : Table) where
-  -- what the loop gives, by the entries' verdict, and what it tells of that verdict
-  pub names-refused : (v : Verdict) {refusal : Refusal} → v ≡ verdicts.Refused refusal → namesAfter capture xsdt v ≡ Refused refusal
-  unfolding namesAfter
-  names-refused v h = rw h
+-- the entries' rules in turn, before the first entry
+pub ask-start : (capture : List ℕ) (xsdt : Table) {n : ℕ} → n ≡ entryCount xsdt
+    → Asking (λ entry. tableRules capture (entryField xsdt entry)) (firstRefusal (entryRules capture xsdt)) (numbersFrom 0 (n - 0))
+unfolding entryRules entries numbersBelow
+ask-start capture xsdt e = record { gives = rw (sub-zero, e) }
 
-  pub names-sound : (v : Verdict) → v ≡ verdicts.Sound → namesAfter capture xsdt v ≡ Are (named capture xsdt apic) (named capture xsdt facp)
-  unfolding namesAfter
-  names-sound v h = rw h
+-- what the loop's answer tells of the entries' rules, and what it names
+abbrev said : Names → Verdict
+said (Are madt fadt) = verdicts.Sound
+said (Refused refusal) = verdicts.Refused refusal
 
-  pub refused-told : (v : Verdict) {refusal : Refusal} → namesAfter capture xsdt v ≡ Refused refusal → v ≡ verdicts.Refused refusal
-  unfolding namesAfter
-  refused-told (verdicts.Refused refusal) h = cc
-  refused-told verdicts.Sound h = absurd (let z : _≡_ {A = ℕ} 0 1 = cc in omega arith)
+module _ (capture : List ℕ) (xsdt : Table) (v : Verdict) {answer : Names}
+    (h : unless Refused v (Are (named capture xsdt apic) (named capture xsdt facp)) ≡ answer) where
+  pub names-told : v ≡ said answer
+  names-told = sym (unless-told Refused said (λ r. refl) v _ refl) ∙ ap said h
 
-  pub are-told : (v : Verdict) {madt fadt : Named} → namesAfter capture xsdt v ≡ Are madt fadt
-      → (v ≡ verdicts.Sound) × (madt ≡ named capture xsdt apic) × (fadt ≡ named capture xsdt facp)
-  unfolding namesAfter
-  are-told (verdicts.Refused refusal) h = absurd (let z : _≡_ {A = ℕ} 0 1 = cc in omega arith)
-  are-told verdicts.Sound h = (refl, cc, cc)
+pub are-told : (capture : List ℕ) (xsdt : Table) (v : Verdict) {madt fadt : Named}
+    → unless Refused v (Are (named capture xsdt apic) (named capture xsdt facp)) ≡ Are madt fadt
+    → (madt ≡ named capture xsdt apic) × (fadt ≡ named capture xsdt facp)
+are-told capture xsdt v {madt} {fadt} h =
+    let are : Are (named capture xsdt apic) (named capture xsdt facp) ≡ Are madt fadt = sym (unless-sound Refused v _ (names-told capture xsdt v h)) ∙ h in
+    (cc, cc)
 
 -- refusals 26 and 27, and the tables, by what the entries say of both signatures
 module _ (capture : List ℕ) (xsdt : Table) {madt fadt : Named} (m : madt ≡ named capture xsdt apic) (f : fadt ≡ named capture xsdt facp) where
-  pub names-26 : (isNowhere (madt .first) || isNowhere (fadt .first)) ≡ true → nameRules capture xsdt ≡ verdicts.Refused (refused 26 (xsdt .place))
+  pub names-26 : (isNowhere (madt .first) || isNowhere (fadt .first)) ≡ true
+      → firstRefusal (nameRules capture xsdt) ≡ verdicts.Refused (refused 26 (xsdt .place))
   unfolding nameRules named
-  names-26 h = yes-if _ _ _ (rw (m, f) at h)
+  names-26 h = first-broken _ 26 _ _ (rw (m, f) at h)
 
-  pub names-27 : (isNowhere (madt .first) || isNowhere (fadt .first)) ≡ false
-      → nameRules capture xsdt ≡ secondRule xsdt (earlier (madt .second) (fadt .second))
+  pub names-27 : (isNowhere (madt .first) || isNowhere (fadt .first)) ≡ false → {verdict : Verdict}
+      → secondRule xsdt (earlier (madt .second) (fadt .second)) ≡ verdict → firstRefusal (nameRules capture xsdt) ≡ verdict
   unfolding nameRules named
-  names-27 h = no-if _ _ _ (rw (m, f) at h) (rw (m, f))
+  names-27 h {verdict} e = first-kept _ 26 _ _ (rw (m, f) at h) (first-alone _ ∙ (rw (m, f) at e))
 
-  pub names-tables : ofTables capture (madt .table) (fadt .table) ≡ ofTables capture (madtOf capture xsdt) (fadtOf capture xsdt)
-  unfolding named madtOf fadtOf
+  pub names-tables : unless surveys.Refused (firstRefusal (bodyRules capture (madt .table) (fadt .table))) (surveys.Found (withSci capture (madt .table) (fadt .table)))
+      ≡ unless surveys.Refused (firstRefusal (bodyRules capture (madtOf capture xsdt) (fadtOf capture xsdt))) (surveys.Found (tablesFrom capture xsdt))
+  unfolding named madtOf fadtOf tablesFrom
   names-tables = rw (m, f)

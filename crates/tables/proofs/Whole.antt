@@ -2,19 +2,21 @@
 -- whether the table is whole.
 use mathlib.Core.Bool.{Bool, true, false, not, _||_}
 use mathlib.Core.List.{List}
-use mathlib.Core.Path.{_≡_, refl, _∙_}
+use mathlib.Core.Path.{_≡_, refl}
 use Prim.Native.Nat.{ℕ, _≤_, _<_}
 use native.Mathlib.Omega.{arith}
 use lib.Dec.{ltb}
 use borrow.Author.Tests.{ltb-true, ltb-false}
-use Rattle.words.specs.Refusals.{refused}
-use Rattle.capture.specs.Presence.{Present, Absent, located, reached}
+use Rattle.words.specs.Choice.{if}
+use Rattle.words.specs.Refusals.{refused, unless, firstRefusal}
+use Rattle.capture.specs.Presence.{Present, Absent, isPresent, placeOf, located}
+use Rattle.capture.specs.Reach.{reached}
 use Rattle.capture.specs.declared.Reach.{Reach}
 use Rattle.capture.proofs.Room.{room-present, room-absent}
 use Rattle.capture.proofs.Within.{Sound, within-small, behind}
-use Rattle.tables.specs.Table.{headerSize, addressAt, tableLength, isPresent, cutShort, tableFound, tableAt, tableWithin}
+use Rattle.tables.specs.Table.{headerSize, addressAt, headerAt, tableNamed, tableLength, cutShort, tableRules, tableAt}
+use Rattle.tables.specs.Whole.{rulesWithin, tableWithin}
 use Rattle.tables.specs.declared.Checked.the-variants as checked
-use Rattle.tables.proofs.Laws.{table-absent, table-present}
 
 module _ (capture : List ℕ) (field : ℕ) (sound : Sound capture) {reach : Reach} (h : reach ≡ reached capture (addressAt capture field)) where
   there : (size : ℕ) → 0 < size → size ≤ reach .room → located capture (addressAt capture field) size ≡ Present (reach .place)
@@ -46,11 +48,12 @@ module _ (capture : List ℕ) (field : ℕ) (sound : Sound capture) {reach : Rea
           rw (fits-not (tableLength capture place) (omega arith))
 
   pub table-20 : reach .room < headerSize → tableAt capture field ≡ checked.Refused (refused 20 field)
-  table-20 short = table-absent capture field (away headerSize short)
+  unfolding tableAt tableRules headerAt isPresent firstRefusal unless if
+  table-20 short = rw (away headerSize short)
 
   pub table-within : headerSize ≤ reach .room → tableAt capture field ≡ tableWithin capture (reach .place) (reach .room)
-  unfolding tableFound tableWithin
-  table-within fits = table-present capture field (there headerSize (omega arith) fits) ∙ rw (cut-told (reach .place))
+  unfolding tableAt tableRules tableNamed headerAt isPresent placeOf tableWithin rulesWithin firstRefusal unless if
+  table-within fits = rw (there headerSize (omega arith) fits, cut-told (reach .place))
 
   -- place and room have 16 bits
   pub place-small : headerSize ≤ reach .room → reach .place < 65536

@@ -1,26 +1,22 @@
 -- The finder: which entries of the XSDT name a table with a signature. Entries are counted, and not tables: a table that two
 -- entries name is named twice.
 use Prim.Native.Nat.{ℕ, _+_, _-_}
-use mathlib.Core.Bool.{Bool, false}
+use mathlib.Core.Bool.{Bool, _&&_}
 use mathlib.Core.List.{List}
 use lib.Dec.{eqb}
 use Rattle.words.specs.Lists.{first, numbersFrom}
-use Rattle.capture.specs.Presence.{Stretch, Present, Absent, located}
-use Rattle.tables.specs.Table.{headerSize, addressAt, signature}
+use Rattle.capture.specs.Presence.{isPresent, placeOf}
+use Rattle.tables.specs.Table.{headerAt, signature}
 use Rattle.tables.specs.Xsdt.{entryCount, entryField}
 use Rattle.tables.specs.declared.Table.{Table}
 use Rattle.tables.specs.declared.Entry.{Entry}
 use Rattle.tables.specs.declared.Entry.the-variants.{At, Nowhere}
 
--- the table at a place has the signature
-unfoldable pub isSigned : List ℕ → ℕ → Stretch → Bool
-isSigned capture letters Absent = false
-isSigned capture letters (Present place) = eqb (signature capture place) letters
-
 -- an entry names a table with the signature
 unfoldable pub names : List ℕ → Table → ℕ → ℕ → Bool
 names capture xsdt letters entry =
-    isSigned capture letters (located capture (addressAt capture (entryField xsdt entry)) headerSize)
+    let header = headerAt capture (entryField xsdt entry) in
+    isPresent header && eqb (signature capture (placeOf header)) letters
 
 -- the first entry, from one on, that names such a table
 unfoldable pub namedFrom : List ℕ → Table → ℕ → ℕ → Entry

@@ -4,4 +4,5 @@ pub mod Xsdt
 pub mod Finder
 pub mod Survey
 pub mod Structures
+pub mod Whole
 pub mod Naming

@@ -1,18 +1,14 @@
--- What one look at the XSDT's entries tells: their refusals, or what they name. Every definition is a form of those in Finder and
--- Survey, for the loop that looks at each entry once.
+-- A shortcut of the program, and no line of document 01: what the finder finds of a signature, gathered by one loop that looks at
+-- each entry of the XSDT once. It is what Finder and Survey say: proofs/Naming, so that no answer changes.
 use Prim.Native.Nat.{ℕ}
 use mathlib.Core.Bool.{Bool, not}
 use mathlib.Core.List.{List}
 use Rattle.words.specs.Choice.{if}
-use Rattle.words.specs.declared.Verdict.{Verdict}
-use Rattle.words.specs.declared.Verdict.the-variants as verdicts
 use Rattle.tables.specs.Finder.{firstNamed, secondNamed}
-use Rattle.tables.specs.Survey.{apic, facp, isNowhere, tableOfEntry}
+use Rattle.tables.specs.Survey.{isNowhere, tableOfEntry}
 use Rattle.tables.specs.declared.Table.{Table}
 use Rattle.tables.specs.declared.Entry.the-variants.{At, Nowhere}
 use Rattle.tables.specs.declared.Named.{Named}
-use Rattle.tables.specs.declared.Names.{Names}
-use Rattle.tables.specs.declared.Names.the-variants.{Are, Refused}
 
 -- the first entry that names a table with the signature, that table, and the second entry that names one
 unfoldable pub named : List ℕ → Table → ℕ → Named
@@ -22,11 +18,6 @@ named capture xsdt letters =
       table = tableOfEntry capture xsdt (firstNamed capture xsdt letters);
       second = secondNamed capture xsdt letters;
     }
-
--- "exactly one is `APIC`, exactly one is `FACP`": what the entries say of both, where none of them is refused
-unfoldable pub namesAfter : List ℕ → Table → Verdict → Names
-namesAfter capture xsdt (verdicts.Refused refusal) = Refused refusal
-namesAfter capture xsdt verdicts.Sound = Are (named capture xsdt apic) (named capture xsdt facp)
 
 -- what is known of a signature before any entry was looked at
 unfoldable pub notNamed : Named

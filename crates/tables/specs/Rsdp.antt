@@ -5,11 +5,9 @@ use mathlib.Core.Bool.{Bool, not, _||_}
 use mathlib.Core.List.{List, [], _∷_}
 use lib.Dec.{eqb}
 use Rattle.words.specs.Bytes.{byteAt, numberAt, partAt, byteSum, spelled}
-use Rattle.words.specs.Choice.{if}
-use Rattle.words.specs.Refusals.{refused}
+use Rattle.words.specs.Refusals.{rule}
 use Rattle.capture.specs.Presence.{rsdpSize}
 use Rattle.words.specs.declared.Verdict.{Verdict}
-use Rattle.words.specs.declared.Verdict.the-variants.{Sound, Refused}
 
 -- "`RSD PTR ` with its closing blank"
 unfoldable pub rsdPtr : ℕ
@@ -35,13 +33,13 @@ wrongSums capture place =
     not (eqb (byteSum (partAt capture place 20)) 0) || not (eqb (byteSum (partAt capture place rsdpSize)) 0)
 
 -- the order of refusals 11 to 14
-unfoldable pub rsdpRules : List ℕ → ℕ → Verdict
+unfoldable pub rsdpRules : List ℕ → ℕ → List Verdict
 rsdpRules capture place =
-    if (wrongSignature capture place) (Refused (refused 11 place))
-    (if (wrongRevision capture place) (Refused (refused 12 place))
-    (if (wrongLength capture place) (Refused (refused 13 place))
-    (if (wrongSums capture place) (Refused (refused 14 place))
-    Sound)))
+    rule (wrongSignature capture place) 11 place
+    ∷ rule (wrongRevision capture place) 12 place
+    ∷ rule (wrongLength capture place) 13 place
+    ∷ rule (wrongSums capture place) 14 place
+    ∷ []
 
 -- "XSDT address at 24": the place of that field
 unfoldable pub xsdtField : ℕ → ℕ

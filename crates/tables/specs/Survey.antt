@@ -3,23 +3,21 @@
 use Prim.Native.Nat.{ℕ, _+_}
 use Prim.Native.Char.{code}
 use mathlib.Core.Bool.{Bool, true, false, not, _||_}
-use mathlib.Core.List.{List, [], _∷_}
+use mathlib.Core.List.{List, [], _∷_, _++_}
 use lib.Dec.{eqb, leb, ltb}
 use Rattle.words.specs.Bytes.{numberAt, spelled}
 use Rattle.words.specs.Choice.{if}
-use Rattle.words.specs.Refusals.{refused}
-use Rattle.capture.specs.Presence.{Stretch, Present, Absent, located, rsdp}
-use Rattle.capture.specs.declared.Root.{Root}
-use Rattle.capture.specs.declared.Root.the-variants as roots
+use Rattle.words.specs.Refusals.{refused, rule, unless, firstRefusal}
 use Rattle.words.specs.declared.Verdict.{Verdict}
 use Rattle.words.specs.declared.Verdict.the-variants as verdicts
+use Rattle.capture.specs.Rules.{containerRules}
+use Rattle.capture.specs.Presence.{presenceRules, rsdpPlace}
 use Rattle.tables.specs.Rsdp.{rsdpRules, xsdtField}
-use Rattle.tables.specs.Table.{headerSize, addressAt, tableLength, tableAt}
-use Rattle.tables.specs.Xsdt.{revision, entryField, xsdtRules, entryRules}
+use Rattle.tables.specs.Table.{revision, tableNamed, tableRules}
+use Rattle.tables.specs.Xsdt.{entryField, xsdtRules, entryRules}
 use Rattle.tables.specs.Finder.{firstNamed, secondNamed}
 use Rattle.tables.specs.declared.Table.{Table}
-use Rattle.tables.specs.declared.Checked.{Checked}
-use Rattle.tables.specs.declared.Checked.the-variants as checked
+use Rattle.tables.specs.declared.Tables.{Tables}
 use Rattle.tables.specs.declared.Entry.{Entry}
 use Rattle.tables.specs.declared.Entry.the-variants.{At, Nowhere}
 use Rattle.tables.specs.declared.Survey.{Survey}
@@ -48,11 +46,11 @@ secondRule xsdt Nowhere = verdicts.Sound
 secondRule xsdt (At entry) = verdicts.Refused (refused 27 (entryField xsdt entry))
 
 -- 26: "no MADT or no FADT", at the XSDT; then 27
-unfoldable pub nameRules : List ℕ → Table → Verdict
+unfoldable pub nameRules : List ℕ → Table → List Verdict
 nameRules capture xsdt =
-    if (isNowhere (firstNamed capture xsdt apic) || isNowhere (firstNamed capture xsdt facp))
-    (verdicts.Refused (refused 26 (xsdt .place)))
-    (secondRule xsdt (earlier (secondNamed capture xsdt apic) (secondNamed capture xsdt facp)))
+    rule (isNowhere (firstNamed capture xsdt apic) || isNowhere (firstNamed capture xsdt facp)) 26 (xsdt .place)
+    ∷ secondRule xsdt (earlier (secondNamed capture xsdt apic) (secondNamed capture xsdt facp))
+    ∷ []
 
 -- 29: "MADT: revision 1"; how strict the rule is stands here alone
 unfoldable pub wrongMadtRevision : ℕ → Bool
@@ -63,25 +61,21 @@ unfoldable pub wrongFlags : List ℕ → Table → Bool
 wrongFlags capture madt = not (eqb (numberAt 4 capture (madt .place + 40)) 0)
 
 -- 28: "MADT under 44, then FADT under 48"; then 29 and 30
-unfoldable pub bodyRules : List ℕ → Table → Table → Verdict
+unfoldable pub bodyRules : List ℕ → Table → Table → List Verdict
 bodyRules capture madt fadt =
-    if (ltb (madt .length) 44) (verdicts.Refused (refused 28 (madt .place)))
-    (if (ltb (fadt .length) 48) (verdicts.Refused (refused 28 (fadt .place)))
-    (if (wrongMadtRevision (revision capture (madt .place))) (verdicts.Refused (refused 29 (madt .place)))
-    (if (wrongFlags capture madt) (verdicts.Refused (refused 30 (madt .place)))
-    verdicts.Sound)))
+    rule (ltb (madt .length) 44) 28 (madt .place)
+    ∷ rule (ltb (fadt .length) 48) 28 (fadt .place)
+    ∷ rule (wrongMadtRevision (revision capture (madt .place))) 29 (madt .place)
+    ∷ rule (wrongFlags capture madt) 30 (madt .place)
+    ∷ []
 
 -- "SCI_INT is the 16 bits at 46"
 unfoldable pub sciNumber : List ℕ → Table → ℕ
 sciNumber capture fadt = numberAt 2 capture (fadt .place + 46)
 
--- place and length of a table that went through 20 to 22
-unfoldable pub tableOf : List ℕ → Stretch → Table
-tableOf capture Absent = record { place = 0; length = 0 }
-tableOf capture (Present place) = record { place = place; length = tableLength capture place }
-
-unfoldable pub tableNamed : List ℕ → ℕ → Table
-tableNamed capture field = tableOf capture (located capture (addressAt capture field) headerSize)
+-- what the layers above read from
+unfoldable pub withSci : List ℕ → Table → Table → Tables
+withSci capture madt fadt = record { madt = madt; fadt = fadt; sci = sciNumber capture fadt }
 
 -- the table that an entry names
 unfoldable pub tableOfEntry : List ℕ → Table → Entry → Table
@@ -94,26 +88,30 @@ madtOf capture xsdt = tableOfEntry capture xsdt (firstNamed capture xsdt apic)
 unfoldable pub fadtOf : List ℕ → Table → Table
 fadtOf capture xsdt = tableOfEntry capture xsdt (firstNamed capture xsdt facp)
 
--- what comes after a verdict: nothing where it refuses
-unfoldable pub after : Verdict → Survey → Survey
-after (verdicts.Refused refusal) later = Refused refusal
-after verdicts.Sound later = later
+unfoldable pub tablesFrom : List ℕ → Table → Tables
+tablesFrom capture xsdt = withSci capture (madtOf capture xsdt) (fadtOf capture xsdt)
 
--- the order of refusals 1 to 30, from the last to the first: a refusal stops all that comes after
-unfoldable pub ofTables : List ℕ → Table → Table → Survey
-ofTables capture madt fadt =
-    after (bodyRules capture madt fadt) (Found (record { madt = madt; fadt = fadt; sci = sciNumber capture fadt }))
+-- the XSDT that the RSDP of a capture names, and the tables found from there
+unfoldable pub xsdtOf : List ℕ → Table
+xsdtOf capture = tableNamed capture (xsdtField (rsdpPlace capture))
 
-unfoldable pub ofNames : List ℕ → Table → Survey
-ofNames capture xsdt = after (nameRules capture xsdt) (ofTables capture (madtOf capture xsdt) (fadtOf capture xsdt))
+unfoldable pub tablesOf : List ℕ → Tables
+tablesOf capture = tablesFrom capture (xsdtOf capture)
 
-unfoldable pub ofXsdt : List ℕ → Checked → Survey
-ofXsdt capture (checked.Refused refusal) = Refused refusal
-ofXsdt capture (checked.Is xsdt) = after (xsdtRules capture xsdt) (after (entryRules capture xsdt) (ofNames capture xsdt))
-
-unfoldable pub ofRsdp : List ℕ → Root → Survey
-ofRsdp capture (roots.Refused refusal) = Refused refusal
-ofRsdp capture (roots.At place) = after (rsdpRules capture place) (ofXsdt capture (tableAt capture (xsdtField place)))
+-- the order of refusals 1 to 30: "the XSDT goes through 20 to 25, then its entries in turn, each through 20 to 22. 26 and 27 come
+-- after all entries". What stands nowhere has place 0: a rule that looks at a place comes after the rule that the thing is there.
+unfoldable pub surveyRules : List ℕ → List Verdict
+surveyRules capture =
+    let rsdp = rsdpPlace capture in
+    let xsdt = xsdtOf capture in
+    containerRules capture
+    ++ (presenceRules capture
+    ++ (rsdpRules capture rsdp
+    ++ (tableRules capture (xsdtField rsdp)
+    ++ (xsdtRules capture xsdt
+    ++ (entryRules capture xsdt
+    ++ (nameRules capture xsdt
+    ++ bodyRules capture (madtOf capture xsdt) (fadtOf capture xsdt)))))))
 
 unfoldable pub survey : List ℕ → Survey
-survey capture = ofRsdp capture (rsdp capture)
+survey capture = unless Refused (firstRefusal (surveyRules capture)) (Found (tablesOf capture))

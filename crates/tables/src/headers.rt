@@ -3,8 +3,8 @@ ghost use mathlib.Core.Path.{_≡_};
 ghost use Rattle.words.specs.Bytes.{partAt, byteSum};
 ghost use Rattle.capture.specs.Rules.{verdict};
 ghost use Rattle.words.specs.declared.Verdict.the-variants.{Sound};
-ghost use Rattle.tables.specs.Table.{addressAt, signature, tableLength, tableAt, tableWithin};
-ghost use Rattle.tables.specs.Xsdt.{revision};
+ghost use Rattle.tables.specs.Table.{addressAt, signature, tableLength, revision, tableAt};
+ghost use Rattle.tables.specs.Whole.{tableWithin};
 use crate::Checked;
 use crate::Table;
 

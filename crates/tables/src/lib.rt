@@ -3,11 +3,14 @@
 ghost use mathlib.Core.Path.{_≡_};
 ghost use Rattle.capture.specs.Rules.{verdict};
 ghost use Rattle.words.specs.declared.Verdict.the-variants.{Sound};
-ghost use Rattle.capture.specs.declared.Root.the-variants as roots;
-ghost use Rattle.tables.specs.Survey.{apic, facp, earlier, secondRule, wrongMadtRevision, wrongFlags, bodyRules, sciNumber, ofTables, ofNames, ofXsdt, ofRsdp, survey};
+ghost use mathlib.Core.List.{_++_};
+ghost use Rattle.words.specs.Refusals.{unless, firstRefusal};
+ghost use Rattle.tables.specs.Rsdp.{rsdpRules, xsdtField};
+ghost use Rattle.tables.specs.Table.{tableRules, tableNamed};
+ghost use Rattle.tables.specs.Xsdt.{xsdtRules, entryRules};
+ghost use Rattle.tables.specs.Survey.{apic, facp, earlier, secondRule, nameRules, wrongMadtRevision, wrongFlags, bodyRules, sciNumber, withSci, madtOf, fadtOf, tablesFrom, survey};
 ghost use Rattle.tables.specs.Naming.{named};
 ghost use Rattle.tables.specs.Structures.{stepAt};
-ghost use Rattle.tables.specs.declared.Checked.the-variants.{Is};
 use capture::Root;
 use words::Refusal;
 use words::Verdict;
@@ -117,7 +120,7 @@ fn wrong_flags(capture: &[u8], madt: Table) -> bool
 
 // Refusals 28 to 30.
 fn body_rules(capture: &[u8], madt: Table, fadt: Table) -> Verdict
-    ensures { λ r. ⌜ r ≡ bodyRules (now (capture .entry)) madt fadt ⌝ }
+    ensures { λ r. ⌜ r ≡ firstRefusal (bodyRules (now (capture .entry)) madt fadt) ⌝ }
 {
     if madt.length < MADT_LEAST {
         return Verdict::Refused(words::refuse(28, madt.place as u32));
@@ -142,7 +145,8 @@ fn sci_number(capture: &[u8], fadt: Table) -> u16
 
 // Refusals 28 to 30, and what is found.
 fn survey_tables(capture: &[u8], madt: Table, fadt: Table) -> Survey
-    ensures { λ r. ⌜ r ≡ ofTables (now (capture .entry)) madt fadt ⌝ }
+    ensures { λ r. let c = now (capture .entry) in
+        ⌜ r ≡ unless Survey.Refused (firstRefusal (bodyRules c madt fadt)) (Survey.Found (withSci c madt fadt)) ⌝ }
 {
     match body_rules(capture, madt, fadt) {
         Verdict::Refused(refusal) => Survey::Refused(refusal),
@@ -158,7 +162,9 @@ fn survey_tables(capture: &[u8], madt: Table, fadt: Table) -> Survey
 fn survey_names(capture: &[u8], xsdt: Table, madt: Named, fadt: Named) -> Survey
     requires { ⌜ madt ≡ named (now capture) xsdt apic ⌝ }
     requires { ⌜ fadt ≡ named (now capture) xsdt facp ⌝ }
-    ensures { λ r. ⌜ r ≡ ofNames (now (capture .entry)) xsdt ⌝ }
+    ensures { λ r. let c = now (capture .entry) in
+        let rules = nameRules c xsdt ++ bodyRules c (madtOf c xsdt) (fadtOf c xsdt) in
+        ⌜ r ≡ unless Survey.Refused (firstRefusal rules) (Survey.Found (tablesFrom c xsdt)) ⌝ }
 {
     let first_madt = madt.first;
     let first_fadt = fadt.first;
@@ -176,7 +182,9 @@ fn survey_names(capture: &[u8], xsdt: Table, madt: Named, fadt: Named) -> Survey
 // Refusals 23 to 25, those of the entries, and what comes after.
 fn survey_xsdt(capture: &[u8], xsdt: Table) -> Survey
     requires { ⌜ verdict (now capture) ≡ Sound ⌝ }
-    ensures { λ r. ⌜ r ≡ ofXsdt (now (capture .entry)) (Is xsdt) ⌝ }
+    ensures { λ r. let c = now (capture .entry) in
+        let rules = xsdtRules c xsdt ++ (entryRules c xsdt ++ (nameRules c xsdt ++ bodyRules c (madtOf c xsdt) (fadtOf c xsdt))) in
+        ⌜ r ≡ unless Survey.Refused (firstRefusal rules) (Survey.Found (tablesFrom c xsdt)) ⌝ }
 {
     match xsdt::xsdt_rules(capture, xsdt) {
         Verdict::Refused(refusal) => Survey::Refused(refusal),
@@ -190,7 +198,14 @@ fn survey_xsdt(capture: &[u8], xsdt: Table) -> Survey
 // Refusals 11 to 14, the XSDT's 20 to 22, and what comes after.
 fn survey_rsdp(capture: &[u8], place: u16) -> Survey
     requires { ⌜ verdict (now capture) ≡ Sound ⌝ }
-    ensures { λ r. ⌜ r ≡ ofRsdp (now (capture .entry)) (roots.At place) ⌝ }
+    ensures { λ r. let c = now (capture .entry) in
+        let xsdt = tableNamed c (xsdtField place) in
+        let rules =
+        rsdpRules c place
+        ++ (tableRules c (xsdtField place)
+        ++ (xsdtRules c xsdt
+        ++ (entryRules c xsdt ++ (nameRules c xsdt ++ bodyRules c (madtOf c xsdt) (fadtOf c xsdt))))) in
+        ⌜ r ≡ unless Survey.Refused (firstRefusal rules) (Survey.Found (tablesFrom c xsdt)) ⌝ }
 {
     match rsdp::rsdp_rules(capture, place) {
         Verdict::Refused(refusal) => Survey::Refused(refusal),

@@ -1,5 +1,6 @@
 // The RSDP: refusals 11 to 14, and where it says the XSDT's address.
 ghost use mathlib.Core.Path.{_≡_};
+ghost use Rattle.words.specs.Refusals.{firstRefusal};
 ghost use Rattle.tables.specs.Rsdp.{wrongSignature, wrongRevision, wrongLength, wrongSums, rsdpRules};
 use crate::headers;
 use words::Verdict;
@@ -49,7 +50,7 @@ fn wrong_sums(capture: &[u8], place: u16) -> bool
 
 // Refusals 11 to 14.
 pub(crate) fn rsdp_rules(capture: &[u8], place: u16) -> Verdict
-    ensures { λ r. ⌜ r ≡ rsdpRules (now (capture .entry)) place ⌝ }
+    ensures { λ r. ⌜ r ≡ firstRefusal (rsdpRules (now (capture .entry)) place) ⌝ }
 {
     if wrong_signature(capture, place) {
         return Verdict::Refused(words::refuse(11, place as u32));

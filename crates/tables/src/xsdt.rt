@@ -3,9 +3,10 @@ ghost use mathlib.Core.Path.{_≡_};
 ghost use Prim.Native.Nat.{_-_};
 ghost use Rattle.capture.specs.Rules.{verdict};
 ghost use Rattle.words.specs.declared.Verdict.the-variants.{Sound};
+ghost use Rattle.words.specs.Refusals.{unless, firstRefusal};
 ghost use Rattle.tables.specs.Xsdt.{notXsdt, wrongXsdtRevision, wrongBody, entryCount, xsdtRules, entryField, entryRules};
-ghost use Rattle.tables.specs.Survey.{isNowhere};
-ghost use Rattle.tables.specs.Naming.{namesAfter, notNamed, oneMore};
+ghost use Rattle.tables.specs.Survey.{apic, facp, isNowhere};
+ghost use Rattle.tables.specs.Naming.{named, notNamed, oneMore};
 use crate::Checked;
 use crate::Entry;
 use crate::Named;
@@ -66,7 +67,7 @@ fn wrong_body(xsdt: Table) -> bool
 
 // Refusals 23 to 25.
 pub(crate) fn xsdt_rules(capture: &[u8], xsdt: Table) -> Verdict
-    ensures { λ r. ⌜ r ≡ xsdtRules (now (capture .entry)) xsdt ⌝ }
+    ensures { λ r. ⌜ r ≡ firstRefusal (xsdtRules (now (capture .entry)) xsdt) ⌝ }
 {
     if not_xsdt(capture, xsdt) {
         return Verdict::Refused(words::refuse(23, xsdt.place as u32));
@@ -140,7 +141,8 @@ fn noted(known: Named, signed: bool, table: Table, entry: u16) -> Named
 // The finder, and refusals 20 to 22 of the entries in turn: each entry's table is located and summed once.
 pub(crate) fn find_names(capture: &[u8], xsdt: Table) -> Names
     requires { ⌜ verdict (now capture) ≡ Sound ⌝ }
-    ensures { λ r. ⌜ r ≡ namesAfter (now (capture .entry)) xsdt (entryRules (now (capture .entry)) xsdt) ⌝ }
+    ensures { λ r. let c = now (capture .entry) in
+        ⌜ r ≡ unless Names.Refused (firstRefusal (entryRules c xsdt)) (Names.Are (named c xsdt apic) (named c xsdt facp)) ⌝ }
 {
     let n = entry_count(xsdt);
     let none = not_named();

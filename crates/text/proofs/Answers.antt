@@ -16,13 +16,16 @@ use Rattle.words.specs.declared.Verdict.the-variants as verdicts
 use Rattle.processors.specs.Listing.{processors, count, hasRoom, written, filled}
 use Rattle.processors.proofs.Filling.{twice-all, too-short, enough-room}
 use Rattle.reading.specs.Scan.{scan}
-use Rattle.reading.specs.Reading.{withoutMap, madtFound, readingOf, listAfter}
+use Rattle.reading.specs.Reading.{withoutMap, answered, madtFound, readingOf, listAfter}
 use Rattle.reading.specs.declared.Answer.{Answer}
 use Rattle.reading.specs.declared.Answer.the-variants.{Read, Refused}
 use Rattle.reading.specs.declared.Reading.{Reading}
-use Rattle.reading.proofs.Laws.{reading-refused, reading-sound, answered-read, list-sound}
+use Rattle.reading.proofs.Laws.{answered-read}
+use Rattle.words.specs.Refusals.{unless}
+use Rattle.words.proofs.Verdicts.{unless-refused, unless-sound}
 use Rattle.text.specs.Lines.{refusalLine}
-use Rattle.text.specs.Text.{mapText, verdictText, textOf, lent, outcome}
+use Rattle.text.specs.Text.{mapText, textOf, outcome}
+use Rattle.text.specs.Rooms.{lent}
 use Rattle.text.specs.declared.Written.the-variants.{Whole, NoRoom}
 use Rattle.text.proofs.Few.{list-long-enough}
 
@@ -52,12 +55,12 @@ module _ (capture : List ℕ) where
     room = le-leb (length (processors (madtFound capture))) 512 (list-long-enough capture sound)
 
     read : readingOf capture lent ≡ record { answer = Read (count (madtFound capture)); map = scan capture .map }
-    unfolding madtFound
-    read = reading-sound capture lent sound ∙ answered-read _ _ _ room
+    unfolding readingOf
+    read = unless-sound _ _ _ sound ∙ answered-read _ _ _ room
 
     after : listAfter capture lent ≡ processors (madtFound capture) ++ drop (length (processors (madtFound capture))) lent
     unfolding listAfter filled written
-    after = list-sound capture lent _ sound ∙ yes-if _ _ _ room
+    after = unless-sound _ _ _ sound ∙ yes-if _ _ _ room
 
     sound-listed : {n : ℕ} → count (madtFound capture) ≡ n → Listed capture n
     sound-listed {n} e =
@@ -74,26 +77,26 @@ module _ (capture : List ℕ) where
         }
 
   pub listed : {n : ℕ} → readingOf capture lent .answer ≡ Read n → Listed capture n
-  unfolding withoutMap
+  unfolding readingOf withoutMap
   listed {n} h = by-verdict (scan capture .verdict) refl
     where
       by-verdict : (v : Verdict) → scan capture .verdict ≡ v → Listed capture n
       by-verdict verdicts.Sound sound = sound-listed sound (same-count (sym (ap (λ (r : Reading). r .answer) (read sound)) ∙ h))
-      by-verdict (verdicts.Refused refusal) refused = not-read (sym (ap (λ (r : Reading). r .answer) (reading-refused capture lent refused)) ∙ h)
+      by-verdict (verdicts.Refused refusal) refused = not-read (sym (ap (λ (r : Reading). r .answer) (unless-refused withoutMap _ (answered _ _ _) refused)) ∙ h)
 
   -- the text by the reading's answer
   pub text-refused : {refusal : Refusal} → readingOf capture lent .answer ≡ Refused refusal → textOf capture ≡ refusalLine refusal
-  unfolding textOf verdictText withoutMap
+  unfolding readingOf textOf unless withoutMap
   text-refused {refusal} h = by-verdict (scan capture .verdict) refl
     where
       by-verdict : (v : Verdict) → scan capture .verdict ≡ v → textOf capture ≡ refusalLine refusal
       by-verdict verdicts.Sound sound = not-read (sym h ∙ ap (λ (r : Reading). r .answer) (read sound))
       by-verdict (verdicts.Refused r) refused =
-          rw (refused, same-refusal (sym (ap (λ (r : Reading). r .answer) (reading-refused capture lent refused)) ∙ h))
+          rw (refused, same-refusal (sym (ap (λ (r : Reading). r .answer) (unless-refused withoutMap _ (answered _ _ _) refused)) ∙ h))
 
   pub text-read : {n : ℕ} → readingOf capture lent .answer ≡ Read n
       → textOf capture ≡ mapText (version capture) (processors (madtFound capture)) (readingOf capture lent .map)
-  unfolding textOf verdictText
+  unfolding textOf unless
   text-read h = let l = listed h in rw (l .sound, l .map)
 
 -- what is written of a map is the capture's text

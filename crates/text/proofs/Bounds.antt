@@ -20,7 +20,8 @@ use Rattle.lines.specs.declared.Route.the-variants.{Arrives, Unwired, NoOwner, 
 use Rattle.words.proofs.Choices.{if-cases}
 use Rattle.text.specs.Numerals.{letters}
 use Rattle.text.specs.Lines.{each, field, phrase, line, versionLine, coreLine, coreLines, halfLine, lioLines, eioLine, bioLine, msiLine, lpcLine, sciLine, refusalLine}
-use Rattle.text.specs.Text.{joined, mapParts, mapText, Fits}
+use Rattle.text.specs.Text.{joined, mapParts, mapText}
+use Rattle.text.specs.Rooms.{Fits}
 use Rattle.text.proofs.Numerals.{decimal-length}
 
 each-length : {A : Type 0} (f : A → List ℕ) (most : ℕ) → ((x : A) → length (f x) ≤ most) → (xs : List A) → length (each f xs) ≤ most * length xs

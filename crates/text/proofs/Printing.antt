@@ -14,7 +14,8 @@ use Rattle.words.specs.declared.Refusal.{Refusal}
 use Rattle.kinds.specs.declared.Lio.{Lio}
 use Rattle.text.specs.Numerals.{letters, digit, decimal}
 use Rattle.text.specs.Lines.{each, field, phrase, line, coreLine, coreLines, halfLine, lioLines, refusalLine}
-use Rattle.text.specs.Text.{joined, Fits}
+use Rattle.text.specs.Text.{joined}
+use Rattle.text.specs.Rooms.{Fits}
 use Rattle.text.proofs.Numerals.{decimal-more}
 
 -- what is to be written begins with some bytes

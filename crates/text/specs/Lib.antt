@@ -1,3 +1,4 @@
 pub mod Numerals
 pub mod Lines
 pub mod Text
+pub mod Rooms

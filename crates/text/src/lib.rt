@@ -11,7 +11,8 @@ ghost use lib.ListN.{length};
 ghost use lib.Seq.{sets};
 ghost use Rattle.processors.specs.Listing.{filled};
 ghost use Rattle.reading.specs.Reading.{readingOf, listAfter};
-ghost use Rattle.text.specs.Text.{mapText, lent, textOf, outcome};
+ghost use Rattle.text.specs.Text.{mapText, textOf, outcome};
+ghost use Rattle.text.specs.Rooms.{lent};
 
 mod put; // bytes, numbers and lines
 mod tell; // a line or some lines for each kind of structure

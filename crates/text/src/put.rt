@@ -7,7 +7,7 @@ ghost use lib.ListN.{length};
 ghost use lib.Seq.{sets};
 ghost use Rattle.text.specs.Numerals.{decimal};
 ghost use Rattle.text.specs.Lines.{each, field, phrase, line};
-ghost use Rattle.text.specs.Text.{Fits};
+ghost use Rattle.text.specs.Rooms.{Fits};
 
 // A byte.
 fn put_byte(room: &mut [u8], n: usize, byte: u8) -> usize

@@ -15,7 +15,7 @@ ghost use Prim.Native.Nat.{_+_, _≤_};
 ghost use lib.ListN.{length, take};
 ghost use lib.Seq.{sets};
 ghost use Rattle.text.specs.Lines.{each, versionLine, coreLine, coreLines, halfLine, lioLines, eioLine, lastOf, bioLine, msiLine, lpcLine, sciLine, refusalLine};
-ghost use Rattle.text.specs.Text.{Fits};
+ghost use Rattle.text.specs.Rooms.{Fits};
 
 // The capture's version.
 pub(crate) fn put_version(room: &mut [u8], n: usize, version: u16) -> usize

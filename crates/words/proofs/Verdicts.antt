@@ -3,13 +3,16 @@ use mathlib.Core.Bool.{Bool, true, false}
 use mathlib.Core.List.{List, [], _∷_, _++_, map}
 use mathlib.Core.Path.{_≡_, refl, sym, ap, _∙_}
 use native.Mathlib.Omega.{arith}
-use Prim.Native.Nat.{ℕ}
+use Prim.Native.Nat.{ℕ, zero, suc, _+_, _≤_, _<_}
+use mathlib.Core.Logic.{⊎-elim}
+use native.Mathlib.Nat.{eq-or-lt-of-le}
 use Rattle.words.specs.Choice.{if}
-use Rattle.words.specs.Lists.{first}
-use Rattle.words.specs.Refusals.{refused, rule, unless, firstRefusal}
+use Rattle.words.specs.Lists.{first, numbersFrom}
+use Rattle.words.specs.Refusals.{refused, rule, unless, firstRefusal, inEach}
 use Rattle.words.specs.declared.Refusal.{Refusal}
 use Rattle.words.specs.declared.Verdict.{Verdict}
 use Rattle.words.specs.declared.Verdict.the-variants.{Sound, Refused}
+use Rattle.words.proofs.Choices.{passed}
 
 -- ---- a verdict is sound or a refusal, and never both
 pub not-sound : {refusal : Refusal} {X : Type 0} → _≡_ {A = Verdict} (Refused refusal) Sound → X
@@ -43,7 +46,23 @@ unfolding unless
 both-sound Sound w h = (refl, h)
 both-sound (Refused r) w h = not-sound h
 
+-- an answer tells the verdict before it, if `says` reads the refusal off what comes of one, and none off the answer
+pub unless-told : {A : Type 0} (turned : Refusal → A) (says : A → Verdict) → ((refusal : Refusal) → says (turned refusal) ≡ Refused refusal)
+    → (v : Verdict) (answer : A) → says answer ≡ Sound → says (unless turned v answer) ≡ v
+unfolding unless
+unless-told turned says back Sound answer fine = fine
+unless-told turned says back (Refused r) answer fine = back r
+
 -- ---- the first refusal
+pub first-none : firstRefusal [] ≡ Sound
+unfolding firstRefusal
+first-none = refl
+
+pub first-alone : (verdict : Verdict) → firstRefusal (verdict ∷ []) ≡ verdict
+unfolding firstRefusal unless
+first-alone Sound = refl
+first-alone (Refused r) = refl
+
 module _ (broken : Bool) (number place : ℕ) (later : List Verdict) where
   pub first-broken : broken ≡ true → firstRefusal (rule broken number place ∷ later) ≡ Refused (refused number place)
   unfolding firstRefusal unless if
@@ -53,11 +72,29 @@ module _ (broken : Bool) (number place : ℕ) (later : List Verdict) where
   unfolding firstRefusal unless if
   first-kept h e = rw h e
 
+  -- where nothing is refused, the first rule is kept, and so are the later ones
+  pub first-sound : firstRefusal (rule broken number place ∷ later) ≡ Sound → (broken ≡ false) × (firstRefusal later ≡ Sound)
+  unfolding firstRefusal
+  first-sound h =
+      let both = both-sound (rule broken number place) (firstRefusal later) h in
+      (passed broken _ _ _ (both .0) not-sound .0, both .1)
+
 -- of one list behind another
 pub first-joined : (xs ys : List Verdict) → firstRefusal (xs ++ ys) ≡ unless Refused (firstRefusal xs) (firstRefusal ys)
 unfolding firstRefusal unless
 first-joined [] ys = refl
 first-joined (v ∷ xs) ys = ap (unless Refused v) (first-joined xs ys) ∙ sym (unless-again Refused v (firstRefusal xs) (firstRefusal ys))
+
+pub joined-kept : (xs ys : List Verdict) → firstRefusal (xs ++ ys) ≡ Sound → (firstRefusal xs ≡ Sound) × (firstRefusal ys ≡ Sound)
+joined-kept xs ys h = both-sound _ _ (sym (first-joined xs ys) ∙ h)
+
+-- an answer after one list behind another
+module _ {A : Type 0} (turned : Refusal → A) (xs ys : List Verdict) (answer : A) where
+  pub joined-refused : {refusal : Refusal} → firstRefusal xs ≡ Refused refusal → unless turned (firstRefusal (xs ++ ys)) answer ≡ turned refusal
+  joined-refused h = unless-refused turned _ answer (first-joined xs ys ∙ unless-refused Refused _ _ h)
+
+  pub joined-sound : firstRefusal xs ≡ Sound → unless turned (firstRefusal (xs ++ ys)) answer ≡ unless turned (firstRefusal ys) answer
+  joined-sound h = ap (λ (v : Verdict). unless turned v answer) (first-joined xs ys ∙ unless-sound Refused _ _ h)
 
 -- of one rule, asked of some things in turn: that of the first thing that breaks it
 pub first-in-turn {ℓ} : {A : Type ℓ} (broken : A → Bool) (number : ℕ) (place : A → ℕ) (xs : List A)
@@ -70,3 +107,32 @@ first-in-turn broken number place (x ∷ xs) = go (broken x) (first-in-turn brok
         → unless Refused (rule b number (place x)) later ≡ if b (Refused (refused number (place x))) late
     go true e = refl
     go false e = e
+
+-- of the rules of some things in turn, in a loop: those of `rest` give the answer
+pub record Asking {A : Type 0} (rules : A → List Verdict) (answer : Verdict) (rest : List A) : Type 0 where
+  pub gives : firstRefusal (inEach rules rest) ≡ answer
+
+module _ {A : Type 0} {rules : A → List Verdict} {answer : Verdict} {rest : List A} (s : Asking rules answer rest) where
+  next : {x : A} {later : List A} → rest ≡ x ∷ later → unless Refused (firstRefusal (rules x)) (firstRefusal (inEach rules later)) ≡ answer
+  unfolding inEach
+  next {x} {later} e = sym (first-joined (rules x) (inEach rules later)) ∙ (rw e at (s .gives))
+
+  pub ask-refused : {x : A} {later : List A} {refusal : Refusal} → rest ≡ x ∷ later → firstRefusal (rules x) ≡ Refused refusal → answer ≡ Refused refusal
+  ask-refused e h = sym (next e) ∙ unless-refused Refused _ _ h
+
+  pub ask-kept : {x : A} {later : List A} → rest ≡ x ∷ later → firstRefusal (rules x) ≡ Sound → Asking rules answer later
+  ask-kept e h = record { gives = sym (unless-sound Refused _ _ h) ∙ next e }
+
+  pub ask-over : rest ≡ [] → answer ≡ Sound
+  unfolding inEach firstRefusal
+  ask-over e = sym (rw e at (s .gives))
+
+-- where the rules of some numbers in turn refuse nothing, those of each refuse nothing
+pub each-kept : (rules : ℕ → List Verdict) (from k j : ℕ) → firstRefusal (inEach rules (numbersFrom from k)) ≡ Sound → from ≤ j → j < from + k
+    → firstRefusal (rules j) ≡ Sound
+unfolding inEach numbersFrom
+each-kept rules from zero j h low high = absurd (omega arith)
+each-kept rules from (suc k) j h low high =
+    let both = joined-kept (rules from) (inEach rules (numbersFrom (from + 1) k)) h in
+    ⊎-elim (λ (e : from ≡ j). rw (← e) (both .0)) (λ (l : from < j). each-kept rules (from + 1) k j (both .1) (omega arith) (omega arith))
+    (eq-or-lt-of-le low)

@@ -1,6 +1,8 @@
 -- `capture::find_rsdp` gives the refusals 1 to 6 first.
 use mathlib.Core.Path.{sym, _∙_}
-use Rattle.capture.proofs.Laws.{rsdp-refused, rsdp-sound}
+use Rattle.words.proofs.Verdicts.{joined-refused, joined-sound}
+use Rattle.capture.specs.Rules.{containerRules, verdict}
+use Rattle.capture.specs.Presence.{rsdp}
 use borrow.Author.Needs.{needs}
 use Rattle.capture.proofs.find_rsdp.Statement.{statement}
 use Rattle.capture.proofs.find_rsdp.Tie as tie
@@ -18,10 +20,12 @@ locate-rsdp-requires : tie.Need-locate-rsdp-requires
 locate-rsdp-requires c κs = cc
 
 returns : tie.Need-returns
-returns c = sym (rsdp-refused _ (cc))
+unfolding rsdp verdict
+returns c = sym (joined-refused _ (containerRules _) _ _ (cc))
 
 returns-2 : tie.Need-returns-2
-returns-2 c = (cc) ∙ sym (rsdp-sound _ (cc))
+unfolding rsdp verdict
+returns-2 c = (cc) ∙ sym (joined-sound _ (containerRules _) _ _ (cc))
 
 pub find-rsdp-spec : {M : Type 1} → statement M
 find-rsdp-spec =

@@ -2,7 +2,7 @@
 use mathlib.Core.Path.{_≡_, ap, sym, _∙_}
 use native.Mathlib.Omega.{arith}
 use Rattle.capture.specs.Fields.{rsdpAddress}
-use Rattle.capture.specs.Presence.{reached}
+use Rattle.capture.specs.Reach.{reached}
 use Rattle.capture.specs.declared.Root.the-variants.{Refused}
 use Rattle.capture.proofs.Room.{rsdp-present, rsdp-absent, rsdp-small}
 use borrow.Author.Needs.{needs}

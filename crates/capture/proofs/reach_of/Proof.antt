@@ -5,7 +5,8 @@ use native.Mathlib.Omega.{arith}
 use Rattle.words.specs.Lists.{numbersFrom}
 use Rattle.words.proofs.Searches.{search-start, Searching, search-hit, search-miss, search-over, next-number, no-number}
 use Rattle.capture.specs.Fields.{lengths, segmentPlace, segments}
-use Rattle.capture.specs.Presence.{holds, reachIn, reached}
+use Rattle.capture.specs.Presence.{holds}
+use Rattle.capture.specs.Reach.{reachIn, reached}
 use Rattle.capture.proofs.Laws.{has-start-and-end, reach-told, place-next}
 use borrow.Author.Needs.{needs}
 use Rattle.capture.proofs.reach_of.Statement.{statement}

@@ -3,10 +3,10 @@ use mathlib.Core.List.{List}
 use Prim.Native.Nat.{ℕ}
 use Rattle.processors.specs.Listing.{processors, filled}
 use Rattle.reading.specs.Scan.{madtBytes}
-use Rattle.reading.specs.Reading.{answered, madtFound, listAfter}
+use Rattle.reading.specs.Reading.{answered, madtFound, readingOf, listAfter}
 use Rattle.reading.specs.declared.Scan.{Scan}
 use mathlib.Core.Path.{ap, sym, _∙_}
-use Rattle.reading.proofs.Laws.{reading-refused, list-refused, reading-sound, list-sound}
+use Rattle.words.proofs.Verdicts.{unless-refused, unless-sound}
 use borrow.Author.Needs.{needs}
 use Rattle.reading.proofs.read.Statement.{statement}
 use Rattle.reading.proofs.read.Tie as tie
@@ -30,18 +30,17 @@ answer-list-requires : tie.Need-answer-list-requires
 answer-list-requires c κs = search needs
 
 returns : tie.Need-returns
-unfolding listAfter
+unfolding readingOf listAfter
 returns c =
     let s = c .before .before .before .before .before .before in
-    let a = s .before .before .before .args in
     let refused = ap (λ (x : Scan). x .verdict) (sym (s .scan-capture .ensures)) ∙ c .before .before .verdict .given .1 in
-    (c .without-map .ensures ∙ sym (reading-refused (a .capture .now) (a .list .now) refused), sym (list-refused (a .capture .now) (a .list .now) _ refused))
+    (c .without-map .ensures ∙ sym (unless-refused _ _ _ refused), sym (unless-refused _ _ _ refused))
 
 same-length : tie.Need-same-length
 same-length c = search needs
 
 returns-2 : tie.Need-returns-2
-unfolding listAfter madtFound
+unfolding readingOf listAfter madtFound
 returns-2 c =
     let l = c .before .before in
     let b = l .before .before in
@@ -54,11 +53,11 @@ returns-2 c =
       l .answer-list .ensures .0
           ∙ ap (λ (x : List ℕ). answered x (r .map) list) (b .madt-bytes .ensures)
           ∙ ap (λ (x : Scan). answered (madtBytes capture (x .madt)) (x .map) list) (s .scan-capture .ensures)
-          ∙ sym (reading-sound capture list sound),
+          ∙ sym (unless-sound _ _ _ sound),
       l .answer-list .ensures .1
           ∙ ap (λ (x : List ℕ). filled (processors x) list) (b .madt-bytes .ensures)
           ∙ ap (λ (x : Scan). filled (processors (madtBytes capture (x .madt))) list) (s .scan-capture .ensures)
-          ∙ sym (list-sound capture list _ sound),
+          ∙ sym (unless-sound _ _ _ sound),
     )
 
 pub read-spec : {M : Type 1} → statement M

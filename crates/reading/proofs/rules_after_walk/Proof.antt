@@ -1,7 +1,8 @@
 -- `reading::rules_after_walk` gives 39, then 40 to 54.
 use mathlib.Core.Path.{ap, sym, _∙_}
 use Rattle.reading.specs.Scan.{processorRule, rulesAfterWalk}
-use Rattle.reading.proofs.Laws.{turn-refused, turn-sound}
+use Rattle.words.specs.Refusals.{firstRefusal}
+use Rattle.words.proofs.Verdicts.{unless-refused, unless-sound, first-alone}
 use borrow.Author.Needs.{needs}
 use Rattle.reading.proofs.rules_after_walk.Statement.{statement}
 use Rattle.reading.proofs.rules_after_walk.Tie as tie
@@ -28,27 +29,28 @@ check-map-requires : tie.Need-check-map-requires
 check-map-requires c κs = search needs
 
 returns : tie.Need-returns
-unfolding rulesAfterWalk
-returns c = sym (turn-refused _ _ (sym (c .before .before .before .check-repeats .ensures) ∙ c .before .refusal .given .1))
+unfolding rulesAfterWalk firstRefusal
+returns c = sym (unless-refused _ _ _ (sym (c .before .before .before .check-repeats .ensures) ∙ c .before .refusal .given .1))
 
 returns-2 : tie.Need-returns-2
-unfolding rulesAfterWalk
+unfolding rulesAfterWalk firstRefusal
 returns-2 c =
     let p = c .before .before .before in
     let r = p .before .before .before in
     let told = p .check-processors .ensures ∙ ap (processorRule (r .before .before .before .before .args .t .madt .place)) (r .before .before .before .before .pre .1) in
-    sym (turn-sound _ _ (sym (r .check-repeats .ensures) ∙ p .before .enum-told .given .1)
-    ∙ turn-refused _ _ (sym told ∙ c .before .refusal2 .given .1))
+    sym (unless-sound _ _ _ (sym (r .check-repeats .ensures) ∙ p .before .enum-told .given .1)
+    ∙ unless-refused _ _ _ (sym told ∙ c .before .refusal2 .given .1))
 
 returns-3 : tie.Need-returns-3
-unfolding rulesAfterWalk
+unfolding rulesAfterWalk firstRefusal
 returns-3 c =
     let p = c .before .before .before in
     let r = p .before .before .before in
     let told = p .check-processors .ensures ∙ ap (processorRule (r .before .before .before .before .args .t .madt .place)) (r .before .before .before .before .pre .1) in
     c .check-map .ensures
-    ∙ sym (turn-sound _ _ (sym (r .check-repeats .ensures) ∙ p .before .enum-told .given .1)
-    ∙ turn-sound _ _ (sym told ∙ c .before .enum-told2 .given .1))
+    ∙ sym (first-alone _)
+    ∙ sym (unless-sound _ _ _ (sym (r .check-repeats .ensures) ∙ p .before .enum-told .given .1)
+    ∙ unless-sound _ _ _ (sym told ∙ c .before .enum-told2 .given .1))
 
 pub rules-after-walk-spec : {M : Type 1} → statement M
 rules-after-walk-spec =

@@ -1,12 +1,16 @@
 -- `reading::scan_tables` walks the MADT, then asks 39 to 54.
 use Rattle.madt.specs.declared.Walked.{Walked}
-use Rattle.reading.specs.Scan.{judged, rulesAfterWalk, madtBytes, afterSurvey, afterWalk}
-use mathlib.Core.List.{List}
+use Rattle.words.specs.Refusals.{unless, firstRefusal}
+use Rattle.words.specs.declared.Verdict.{Verdict}
+use Rattle.words.specs.declared.Verdict.the-variants.{Refused}
+use Rattle.words.proofs.Verdicts.{unless-refused, unless-sound}
+use Rattle.reading.specs.Scan.{rulesAfterWalk, madtBytes, madtRules, turnedDown, accepted}
+use mathlib.Core.List.{List, _∷_}
 use Prim.Native.Nat.{ℕ}
 use mathlib.Core.Path.{ap, sym, _∙_}
 use native.Mathlib.Omega.{arith}
 use lib.ListN.{length}
-use Rattle.reading.proofs.Laws.{bytes-small, walk-refused, walk-sound}
+use Rattle.reading.proofs.Laws.{bytes-small}
 use Rattle.processors.specs.Listing.{count}
 use Rattle.processors.proofs.Agreement.{enabled-count}
 use borrow.Author.Needs.{needs}
@@ -44,22 +48,25 @@ judge-requires : tie.Need-judge-requires
 judge-requires c κs = search needs
 
 returns : tie.Need-returns
-unfolding afterSurvey madtBytes
+unfolding madtRules firstRefusal madtBytes
 returns c =
     let w = c .before .before .before .before .before .before in
     c .turn-down .ensures
-    ∙ sym (walk-refused _ _ _ (ap (λ (x : Walked). x .verdict) (sym (w .walk-madt .ensures)) ∙ c .before .before .verdict .given .1))
+    ∙ sym (unless-refused _ _ _ (unless-refused _ _ _ (ap (λ (x : Walked). x .verdict) (sym (w .walk-madt .ensures)) ∙ c .before .before .verdict .given .1)))
 
 returns-2 : tie.Need-returns-2
-unfolding afterSurvey madtBytes
+unfolding madtRules firstRefusal madtBytes
 returns-2 c =
     let w = c .before .before .before .before .before .before .before in
     let a = w .before .before .before .args in
     let r = w .walk-madt .result in
     c .judge .ensures
-    ∙ ap (judged (a .t) (r .found .map)) (c .before .rules-after-walk .ensures ∙ ap (λ (x : List ℕ). rulesAfterWalk x (a .t) (r .found)) (c .before .before .madt-bytes .ensures))
-    ∙ sym (walk-sound (madtBytes (a .capture .now) (a .t .madt)) (a .t) r (c .before .before .before .enum-told .given .1))
-    ∙ ap (afterWalk (madtBytes (a .capture .now) (a .t .madt)) (a .t)) (w .walk-madt .ensures)
+    ∙ ap (λ (v : Verdict). unless turnedDown v (accepted (a .t) (r .found .map)))
+    (c .before .rules-after-walk .ensures
+    ∙ ap (λ (x : List ℕ). firstRefusal (rulesAfterWalk x (a .t) (r .found))) (c .before .before .madt-bytes .ensures)
+    ∙ sym (unless-sound Refused _ _ (c .before .before .before .enum-told .given .1)))
+    ∙ ap (λ (x : Walked). unless turnedDown (firstRefusal (x .verdict ∷ rulesAfterWalk (madtBytes (a .capture .now) (a .t .madt)) (a .t) (x .found))) (accepted (a .t) (x .found .map)))
+    (w .walk-madt .ensures)
 
 pub scan-tables-spec : {M : Type 1} → statement M
 scan-tables-spec =

@@ -1,8 +1,8 @@
 -- `tables::body_rules` gives the first refusal of 28 to 30, in their order.
-use mathlib.Core.Path.{ap, sym, _∙_, refl}
+use mathlib.Core.Path.{ap, sym, _∙_}
 use native.Mathlib.Omega.{arith}
 use borrow.Author.Tests.{lt-ltb, le-ltb}
-use Rattle.words.proofs.Choices.{yes-if, no-if}
+use Rattle.words.proofs.Verdicts.{first-none, first-broken, first-kept}
 use Rattle.words.specs.declared.Verdict.the-variants.{Refused}
 use Rattle.tables.specs.Survey.{bodyRules}
 use borrow.Author.Needs.{needs}
@@ -19,7 +19,7 @@ returns : tie.Need-returns
 unfolding bodyRules
 returns c =
     let a = c .before .before .before .before .before .args in
-    ap Refused (c .refuse .ensures) ∙ sym (yes-if _ _ _ (lt-ltb (a .madt .length) 44 (omega arith)))
+    ap Refused (c .refuse .ensures) ∙ sym (first-broken _ _ _ _ (lt-ltb (a .madt .length) 44 (omega arith)))
 
 cast-refuse-2 : tie.Need-cast-refuse-2
 cast-refuse-2 c = search needs
@@ -32,7 +32,7 @@ unfolding bodyRules
 returns-2 c =
     let a = c .before .before .before .before .before .before .before .args in
     ap Refused (c .refuse2 .ensures)
-    ∙ sym (no-if _ _ _ (le-ltb (a .madt .length) 44 (omega arith)) (yes-if _ _ _ (lt-ltb (a .fadt .length) 48 (omega arith))))
+    ∙ sym (first-kept _ _ _ _ (le-ltb (a .madt .length) 44 (omega arith)) (first-broken _ _ _ _ (lt-ltb (a .fadt .length) 48 (omega arith))))
 
 revision-of-requires : tie.Need-revision-of-requires
 revision-of-requires c κs = search needs
@@ -51,8 +51,8 @@ unfolding bodyRules
 returns-3 c =
     let a = c .before .before .before .before .before .before .before .before .before .before .args in
     ap Refused (c .refuse3 .ensures)
-    ∙ sym (no-if _ _ _ (le-ltb (a .madt .length) 44 (omega arith)) (no-if _ _ _ (le-ltb (a .fadt .length) 48 (omega arith))
-    (yes-if _ _ _ (cc))))
+    ∙ sym (first-kept _ _ _ _ (le-ltb (a .madt .length) 44 (omega arith)) (first-kept _ _ _ _ (le-ltb (a .fadt .length) 48 (omega arith))
+    (first-broken _ _ _ _ (cc))))
 
 wrong-flags-requires : tie.Need-wrong-flags-requires
 wrong-flags-requires c κs = search needs
@@ -68,15 +68,15 @@ unfolding bodyRules
 returns-4 c =
     let a = c .before .before .before .before .before .before .before .before .before .before .before .before .args in
     ap Refused (c .refuse4 .ensures)
-    ∙ sym (no-if _ _ _ (le-ltb (a .madt .length) 44 (omega arith)) (no-if _ _ _ (le-ltb (a .fadt .length) 48 (omega arith))
-    (no-if _ _ _ (cc) (yes-if _ _ _ (cc)))))
+    ∙ sym (first-kept _ _ _ _ (le-ltb (a .madt .length) 44 (omega arith)) (first-kept _ _ _ _ (le-ltb (a .fadt .length) 48 (omega arith))
+    (first-kept _ _ _ _ (cc) (first-broken _ _ _ _ (cc)))))
 
 returns-5 : tie.Need-returns-5
 unfolding bodyRules
 returns-5 c =
     let a = c .before .before .before .before .before .before .before .before .before .before .args in
-    sym (no-if _ _ _ (le-ltb (a .madt .length) 44 (omega arith)) (no-if _ _ _ (le-ltb (a .fadt .length) 48 (omega arith))
-    (no-if _ _ _ (cc) (no-if _ _ _ (cc) refl))))
+    sym (first-kept _ _ _ _ (le-ltb (a .madt .length) 44 (omega arith)) (first-kept _ _ _ _ (le-ltb (a .fadt .length) 48 (omega arith))
+    (first-kept _ _ _ _ (cc) (first-kept _ _ _ _ (cc) first-none))))
 
 pub body-rules-spec : {M : Type 1} → statement M
 body-rules-spec =

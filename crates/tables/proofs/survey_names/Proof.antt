@@ -1,8 +1,8 @@
 -- `tables::survey_names` gives 26 and 27 before what comes after.
 use mathlib.Core.Path.{ap, sym, _∙_}
-use Rattle.tables.specs.Survey.{ofNames}
+use Rattle.tables.specs.Survey.{nameRules}
 use Rattle.tables.specs.declared.Survey.the-variants.{Refused}
-use Rattle.tables.proofs.Laws.{after-refused, after-sound}
+use Rattle.words.proofs.Verdicts.{joined-refused, joined-sound}
 use Rattle.tables.proofs.Naming.{names-26, names-27, names-tables}
 use borrow.Author.Needs.{needs}
 use Rattle.tables.proofs.survey_names.Statement.{statement}
@@ -21,10 +21,9 @@ refuse-requires : tie.Need-refuse-requires
 refuse-requires c κs = search needs
 
 returns : tie.Need-returns
-unfolding ofNames
 returns c =
     let pre = c .before .before .before .before .before .before .pre in
-    ap Refused (c .refuse .ensures) ∙ sym (after-refused _ _ (names-26 _ _ (pre .0) (pre .1) (cc)))
+    ap Refused (c .refuse .ensures) ∙ sym (joined-refused _ (nameRules _ _) _ _ (names-26 _ _ (pre .0) (pre .1) (cc)))
 
 earlier-of-requires : tie.Need-earlier-of-requires
 earlier-of-requires c κs = search needs
@@ -42,16 +41,14 @@ survey-tables-requires : tie.Need-survey-tables-requires
 survey-tables-requires c κs = search needs
 
 returns-2 : tie.Need-returns-2
-unfolding ofNames
 returns-2 c =
     let pre = c .before .before .before .before .before .before .before .before .before .pre in
-    sym (after-refused _ _ (names-27 _ _ (pre .0) (pre .1) (cc) ∙ (cc)))
+    sym (joined-refused _ (nameRules _ _) _ _ (names-27 _ _ (pre .0) (pre .1) (cc) (cc)))
 
 returns-3 : tie.Need-returns-3
-unfolding ofNames
 returns-3 c =
     let pre = c .before .before .before .before .before .before .before .before .before .pre in
-    c .survey-tables .ensures ∙ names-tables _ _ (pre .0) (pre .1) ∙ sym (after-sound _ _ (names-27 _ _ (pre .0) (pre .1) (cc) ∙ (cc)))
+    c .survey-tables .ensures ∙ names-tables _ _ (pre .0) (pre .1) ∙ sym (joined-sound _ (nameRules _ _) _ _ (names-27 _ _ (pre .0) (pre .1) (cc) (cc)))
 
 pub survey-names-spec : {M : Type 1} → statement M
 survey-names-spec =

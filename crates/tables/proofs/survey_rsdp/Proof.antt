@@ -1,9 +1,9 @@
 -- `tables::survey_rsdp` gives 11 to 14, then the XSDT's 20 to 22.
-use Rattle.tables.specs.declared.Checked.the-variants.{Is}
-use mathlib.Core.Path.{ap, sym, _∙_}
-use Rattle.tables.specs.Rsdp.{xsdtField}
-use Rattle.tables.specs.Survey.{ofRsdp, ofXsdt}
-use Rattle.tables.proofs.Laws.{after-refused, after-sound, xsdt-refused}
+use mathlib.Core.Path.{sym, _∙_}
+use Rattle.words.proofs.Verdicts.{joined-refused, joined-sound}
+use Rattle.tables.specs.Rsdp.{rsdpRules, xsdtField}
+use Rattle.tables.specs.Table.{tableRules}
+use Rattle.tables.proofs.Laws.{table-told, table-is}
 use borrow.Author.Needs.{needs}
 use Rattle.tables.proofs.survey_rsdp.Statement.{statement}
 use Rattle.tables.proofs.survey_rsdp.Tie as tie
@@ -33,17 +33,22 @@ survey-xsdt-requires : tie.Need-survey-xsdt-requires
 survey-xsdt-requires c κs = search needs
 
 returns : tie.Need-returns
-unfolding ofRsdp xsdtField
-returns c = sym (after-refused _ _ (cc))
+returns c = sym (joined-refused _ (rsdpRules _ _) _ _ (cc))
 
 returns-2 : tie.Need-returns-2
-unfolding ofRsdp xsdtField
-returns-2 c = sym (after-sound _ _ (cc) ∙ xsdt-refused _ _ (cc))
+unfolding xsdtField
+returns-2 c =
+    let t = c .before .before .before in
+    sym (joined-sound _ (rsdpRules _ _) _ _ (cc)
+    ∙ joined-refused _ (tableRules _ _) _ _ (table-told _ _ (sym (t .check-table .ensures) ∙ c .before .refusal2 .given .1)))
 
 returns-3 : tie.Need-returns-3
-unfolding ofRsdp xsdtField
+unfolding xsdtField
 returns-3 c =
-    (cc) ∙ sym (after-sound _ _ (cc) ∙ ap (ofXsdt _) {y = Is (c .before .before .xsdt .given .0 .0)} (cc))
+    let t = c .before .before .before .before in
+    let is = sym (t .check-table .ensures) ∙ c .before .before .xsdt .given .1 in
+    (rw (← table-is _ _ is) at (c .survey-xsdt .ensures))
+    ∙ sym (joined-sound _ (rsdpRules _ _) _ _ (cc) ∙ joined-sound _ (tableRules _ _) _ _ (table-told _ _ is))
 
 pub survey-rsdp-spec : {M : Type 1} → statement M
 survey-rsdp-spec =

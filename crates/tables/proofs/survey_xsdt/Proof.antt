@@ -1,8 +1,8 @@
 -- `tables::survey_xsdt` gives 23 to 25, then the entries' refusals.
 use mathlib.Core.Path.{sym, _∙_}
-use Rattle.tables.specs.Survey.{ofXsdt}
-use Rattle.tables.proofs.Laws.{after-refused, after-sound}
-use Rattle.tables.proofs.Naming.{refused-told, are-told}
+use Rattle.tables.specs.Xsdt.{xsdtRules, entryRules}
+use Rattle.words.proofs.Verdicts.{joined-refused, joined-sound}
+use Rattle.tables.proofs.Naming.{names-told, are-told}
 use borrow.Author.Needs.{needs}
 use Rattle.tables.proofs.survey_xsdt.Statement.{statement}
 use Rattle.tables.proofs.survey_xsdt.Tie as tie
@@ -28,28 +28,25 @@ enum-known-madt c = search needs
 survey-names-requires : tie.Need-survey-names-requires
 survey-names-requires c κs =
     let told = are-told _ _ _ (sym (c .before .before .before .find-names .ensures) ∙ c .before .madt .given .1) in
-    (told .1, told .2)
+    (told .0, told .1)
 
 returns : tie.Need-returns
-unfolding ofXsdt
-returns c = sym (after-refused _ _ (sym (c .before .before .before .xsdt-rules .ensures) ∙ c .before .refusal .given .1))
+returns c = sym (joined-refused _ (xsdtRules _ _) _ _ (sym (c .before .before .before .xsdt-rules .ensures) ∙ c .before .refusal .given .1))
 
 returns-2 : tie.Need-returns-2
-unfolding ofXsdt
 returns-2 c =
     let n = c .before .before .before in
     let x = n .before .before .before in
-    sym (after-sound _ _ (sym (x .xsdt-rules .ensures) ∙ n .before .enum-told .given .1)
-    ∙ after-refused _ _ (refused-told _ _ _ (sym (n .find-names .ensures) ∙ c .before .refusal2 .given .1)))
+    sym (joined-sound _ (xsdtRules _ _) _ _ (sym (x .xsdt-rules .ensures) ∙ n .before .enum-told .given .1)
+    ∙ joined-refused _ (entryRules _ _) _ _ (names-told _ _ _ (sym (n .find-names .ensures) ∙ c .before .refusal2 .given .1)))
 
 returns-3 : tie.Need-returns-3
-unfolding ofXsdt
 returns-3 c =
     let n = c .before .before .before .before in
     let x = n .before .before .before in
     c .survey-names .ensures
-    ∙ sym (after-sound _ _ (sym (x .xsdt-rules .ensures) ∙ n .before .enum-told .given .1)
-    ∙ after-sound _ _ (are-told _ _ _ (sym (n .find-names .ensures) ∙ c .before .before .madt .given .1) .0))
+    ∙ sym (joined-sound _ (xsdtRules _ _) _ _ (sym (x .xsdt-rules .ensures) ∙ n .before .enum-told .given .1)
+    ∙ joined-sound _ (entryRules _ _) _ _ (names-told _ _ _ (sym (n .find-names .ensures) ∙ c .before .before .madt .given .1)))
 
 pub survey-xsdt-spec : {M : Type 1} → statement M
 survey-xsdt-spec =

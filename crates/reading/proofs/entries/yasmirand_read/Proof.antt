@@ -8,7 +8,7 @@ use Rattle.reading.specs.Scan.{madtBytes}
 use Rattle.reading.specs.Reading.{madtFound}
 use Rattle.reading.specs.Entries.{answerIn, readCode, readResult, bytesAfter}
 use Rattle.reading.specs.declared.Scan.{Scan}
-use Rattle.reading.proofs.Laws.{asked-refused, asked-sound, list-refused, list-sound}
+use Rattle.words.proofs.Verdicts.{unless-refused, unless-sound}
 use borrow.Author.Needs.{needs}
 use Rattle.reading.proofs.entries.yasmirand_read.Statement.{statement}
 use Rattle.reading.proofs.entries.yasmirand_read.Tie as tie
@@ -38,9 +38,8 @@ returns : tie.Need-returns
 unfolding readResult bytesAfter
 returns c =
     let s = c .before .before .before .before .before in
-    let a = s .before .before .before .args in
     let refused = ap (λ (x : Scan). x .verdict) (sym (s .scan-capture .ensures)) ∙ c .before .before .verdict .given .1 in
-    (c .refusal-code .ensures ∙ sym (asked-refused _ _ refused), sym (list-refused (a .capture .now) (a .list .now) _ refused))
+    (c .refusal-code .ensures ∙ sym (unless-refused _ _ _ refused), sym (unless-refused _ _ _ refused))
 
 same-length : tie.Need-same-length
 same-length c = search needs
@@ -59,11 +58,11 @@ returns-2 c =
           ∙ ap readCode (f .answer-bytes .ensures .0)
           ∙ ap (λ (x : List ℕ). readCode (answerIn x list)) (m .madt-bytes .ensures)
           ∙ ap (λ (x : Scan). readCode (answerIn (madtBytes capture (x .madt)) list)) (s .scan-capture .ensures)
-          ∙ sym (asked-sound _ _ sound),
+          ∙ sym (unless-sound _ _ _ sound),
       f .answer-bytes .ensures .1
           ∙ ap (λ (x : List ℕ). filled (image (processors x)) list) (m .madt-bytes .ensures)
           ∙ ap (λ (x : Scan). filled (image (processors (madtBytes capture (x .madt)))) list) (s .scan-capture .ensures)
-          ∙ sym (list-sound capture list _ sound),
+          ∙ sym (unless-sound _ _ _ sound),
     )
 
 pub yasmirand-read-spec : {M : Type 1} → statement M

@@ -5,7 +5,7 @@ use Rattle.lines.specs.Routes.{arrival}
 use Rattle.lines.specs.Answers.{routeCode}
 use Rattle.reading.specs.Entries.{routeResult}
 use Rattle.reading.specs.declared.Scan.{Scan}
-use Rattle.reading.proofs.Laws.{asked-refused, asked-sound}
+use Rattle.words.proofs.Verdicts.{unless-refused, unless-sound}
 use Rattle.reading.proofs.AcceptedKeepsRules.{accepted-route}
 use borrow.Author.Needs.{needs}
 use Rattle.reading.proofs.entries.yasmirand_route.Statement.{statement}
@@ -34,7 +34,7 @@ unfolding routeResult
 returns c =
     let s = c .before .before .before .before .before in
     c .refusal-code .ensures
-    ∙ sym (asked-refused _ _ (ap (λ (x : Scan). x .verdict) (sym (s .scan-capture .ensures)) ∙ c .before .before .verdict .given .1))
+    ∙ sym (unless-refused _ _ _ (ap (λ (x : Scan). x .verdict) (sym (s .scan-capture .ensures)) ∙ c .before .before .verdict .given .1))
 
 returns-2 : tie.Need-returns-2
 unfolding routeResult
@@ -46,7 +46,7 @@ returns-2 c =
     ∙ ap routeCode (c .before .arrival .ensures)
     ∙ ap (λ (x : Scan). routeCode (arrival (says (x .map)) number)) (s .scan-capture .ensures)
     ∙ ap routeCode (sym (accepted-route _ sound number))
-    ∙ sym (asked-sound _ _ sound)
+    ∙ sym (unless-sound _ _ _ sound)
 
 pub yasmirand-route-spec : {M : Type 1} → statement M
 yasmirand-route-spec =

@@ -5,7 +5,7 @@ use Rattle.lines.specs.Traces.{traced}
 use Rattle.lines.specs.Answers.{traceCode}
 use Rattle.reading.specs.Entries.{traceResult}
 use Rattle.reading.specs.declared.Scan.{Scan}
-use Rattle.reading.proofs.Laws.{asked-refused, asked-sound}
+use Rattle.words.proofs.Verdicts.{unless-refused, unless-sound}
 use Rattle.reading.proofs.AcceptedKeepsRules.{accepted-trace}
 use borrow.Author.Needs.{needs}
 use Rattle.reading.proofs.entries.yasmirand_trace.Statement.{statement}
@@ -34,7 +34,7 @@ unfolding traceResult
 returns c =
     let s = c .before .before .before .before .before in
     c .refusal-code .ensures
-    ∙ sym (asked-refused _ _ (ap (λ (x : Scan). x .verdict) (sym (s .scan-capture .ensures)) ∙ c .before .before .verdict .given .1))
+    ∙ sym (unless-refused _ _ _ (ap (λ (x : Scan). x .verdict) (sym (s .scan-capture .ensures)) ∙ c .before .before .verdict .given .1))
 
 returns-2 : tie.Need-returns-2
 unfolding traceResult
@@ -46,7 +46,7 @@ returns-2 c =
     ∙ ap traceCode (c .before .traced .ensures)
     ∙ ap (λ (x : Scan). traceCode (traced (says (x .map)) (a .vector) (a .number))) (s .scan-capture .ensures)
     ∙ ap traceCode (sym (accepted-trace _ sound (a .vector) (a .number)))
-    ∙ sym (asked-sound _ _ sound)
+    ∙ sym (unless-sound _ _ _ sound)
 
 pub yasmirand-trace-spec : {M : Type 1} → statement M
 yasmirand-trace-spec =

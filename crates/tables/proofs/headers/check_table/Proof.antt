@@ -1,7 +1,7 @@
 -- `tables::check_table` gives 20 first.
 use mathlib.Core.Path.{_≡_, ap, sym, _∙_}
 use native.Mathlib.Omega.{arith}
-use Rattle.capture.specs.Presence.{reached}
+use Rattle.capture.specs.Reach.{reached}
 use Rattle.tables.specs.Table.{addressAt}
 use Rattle.tables.specs.declared.Checked.the-variants.{Refused}
 use Rattle.tables.proofs.Whole.{table-20, table-within, place-small, room-small}

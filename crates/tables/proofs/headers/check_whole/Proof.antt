@@ -1,12 +1,13 @@
 -- `tables::check_whole` gives 21 before 22. A table that is not longer than its room has a length of 16 bits.
 use Prim.Native.Nat.{ℕ}
-use mathlib.Core.Path.{ap, sym, _∙_, refl}
+use mathlib.Core.Path.{ap, sym, _∙_}
 use native.Mathlib.Omega.{arith}
 use lib.Dec.{ltb}
 use borrow.Author.Tests.{ltb-false}
-use Rattle.words.proofs.Choices.{yes-if, no-if}
+use Rattle.words.proofs.Verdicts.{unless-refused, unless-sound, first-none, first-broken, first-kept}
 use Rattle.words.proofs.Tests.{neither-right}
-use Rattle.tables.specs.Table.{wrongSum, tableWithin}
+use Rattle.tables.specs.Table.{wrongSum}
+use Rattle.tables.specs.Whole.{rulesWithin, tableWithin}
 use Rattle.tables.specs.declared.Checked.the-variants.{Is, Refused}
 use borrow.Author.Needs.{needs}
 use Rattle.tables.proofs.headers.check_whole.Statement.{statement}
@@ -19,8 +20,8 @@ refuse-requires : tie.Need-refuse-requires
 refuse-requires c κs = search needs
 
 returns : tie.Need-returns
-unfolding tableWithin
-returns c = ap Refused (c .refuse .ensures) ∙ sym (yes-if _ _ _ (cc))
+unfolding tableWithin rulesWithin
+returns c = ap Refused (c .refuse .ensures) ∙ sym (unless-refused _ _ _ (first-broken _ _ _ _ (cc)))
 
 cast-sum-at : tie.Need-cast-sum-at
 cast-sum-at c = search needs
@@ -32,8 +33,8 @@ refuse-requires-2 : tie.Need-refuse-requires-2
 refuse-requires-2 c κs = search needs
 
 returns-2 : tie.Need-returns-2
-unfolding tableWithin wrongSum
-returns-2 c = ap Refused (c .refuse2 .ensures) ∙ sym (no-if _ _ _ (cc) (yes-if _ _ _ (cc)))
+unfolding tableWithin rulesWithin wrongSum
+returns-2 c = ap Refused (c .refuse2 .ensures) ∙ sym (unless-refused _ _ _ (first-kept _ _ _ _ (cc) (first-broken _ _ _ _ (cc))))
 
 cast-t15 : tie.Need-cast-t15
 cast-t15 c =
@@ -42,11 +43,11 @@ cast-t15 c =
     omega (arith, ltb-false (l .before .before .args .room) length (neither-right (ltb length 36) _ (c .before .before .if1 .left)))
 
 returns-3 : tie.Need-returns-3
-unfolding tableWithin wrongSum
+unfolding tableWithin rulesWithin wrongSum
 returns-3 c =
     let l = c .before .before .before in
     ap (λ (n : ℕ). Is (record { place = l .before .before .args .place; length = n })) (l .length-of .ensures)
-    ∙ sym (no-if _ _ _ (cc) (no-if _ _ _ (cc) refl))
+    ∙ sym (unless-sound _ _ _ (first-kept _ _ _ _ (cc) (first-kept _ _ _ _ (cc) first-none)))
 
 pub check-whole-spec : {M : Type 1} → statement M
 check-whole-spec =

@@ -1,5 +1,5 @@
 -- `tables::revision_of` is the revision of a table.
-use Rattle.tables.specs.Xsdt.{revision}
+use Rattle.tables.specs.Table.{revision}
 use borrow.Author.Needs.{needs}
 use Rattle.tables.proofs.headers.revision_of.Statement.{statement}
 use Rattle.tables.proofs.headers.revision_of.Tie as tie

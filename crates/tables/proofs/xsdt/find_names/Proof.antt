@@ -6,22 +6,23 @@ use native.Mathlib.Omega.{arith}
 use lib.Dec.{eqb}
 use Rattle.words.specs.Bytes.{spelled}
 use Rattle.words.specs.Lists.{numbersFrom}
-use Rattle.words.proofs.Searches.{Searching, search-start, search-hit, search-miss, search-over, next-number, no-number}
-use Rattle.words.specs.declared.Verdict.the-variants.{Sound}
-use Rattle.tables.specs.Table.{tableAt}
-use Rattle.tables.specs.Xsdt.{entryCount, entries, entryField, isRefused, refusalOf, entryRules}
+use Rattle.words.specs.Refusals.{firstRefusal}
+use Rattle.words.proofs.Searches.{next-number, no-number}
+use Rattle.words.proofs.Verdicts.{unless-refused, unless-sound, Asking, ask-refused, ask-kept, ask-over}
+use Rattle.tables.specs.Table.{tableRules, tableAt}
+use Rattle.tables.specs.Xsdt.{entryCount, entryField, entryRules}
 use Rattle.tables.specs.Survey.{apic, facp}
 use Rattle.tables.specs.Naming.{oneMore}
 use Rattle.tables.specs.declared.Names.the-variants.{Are}
-use Rattle.tables.proofs.Laws.{entry-refused, entry-refusal, entry-fine}
-use Rattle.tables.proofs.Naming.{Noting, note-start, note-checked, note-end, names-refused, names-sound}
+use Rattle.tables.proofs.Laws.{table-told}
+use Rattle.tables.proofs.Naming.{Noting, note-start, note-checked, note-end, ask-start}
 use borrow.Author.Needs.{needs}
 use Rattle.tables.proofs.xsdt.find_names.Statement.{statement}
 use Rattle.tables.proofs.xsdt.find_names.Tie as tie
 
 abbrev Inv-loop : tie.InvT-loop
 Inv-loop capture xsdt n madt₀ fadt₀ entry₀ madt fadt entry =
-    Searching (λ (k : ℕ). isRefused (tableAt capture (entryField xsdt k))) (λ (k : ℕ). refusalOf (tableAt capture (entryField xsdt k))) Sound (entryRules capture xsdt) (numbersFrom entry (n - entry))
+    Asking (λ (k : ℕ). tableRules capture (entryField xsdt k)) (firstRefusal (entryRules capture xsdt)) (numbersFrom entry (n - entry))
     × Noting capture xsdt apic madt entry
     × Noting capture xsdt facp fadt entry
 
@@ -41,8 +42,7 @@ not-named-requires : tie.Need-not-named-requires Inv-loop μ-loop
 not-named-requires c κs = search needs
 
 loop-holds : tie.Need-loop-holds Inv-loop μ-loop
-unfolding entryRules entries
-loop-holds c = (search-start _ _ (c .before .entry-count .ensures), note-start _ _ _ (c .not-named .ensures), note-start _ _ _ (c .not-named .ensures))
+loop-holds c = (ask-start _ _ (c .before .entry-count .ensures), note-start _ _ _ (c .not-named .ensures), note-start _ _ _ (c .not-named .ensures))
 
 entry-field-requires : tie.Need-entry-field-requires Inv-loop μ-loop
 entry-field-requires c κs = search needs
@@ -58,8 +58,7 @@ returns c =
     let t = c .before .before .before in
     let is = looked t ∙ c .before .refusal .given .1 in
     let known = t .before .before .before .loop .inv in
-    sym (names-refused _ _ _
-    (sym (search-hit (known .0) (next-number _ _ (t .before .before .loop-test .taken)) (entry-refused _ is)) ∙ entry-refusal _ is))
+    sym (unless-refused _ _ _ (ask-refused (known .0) (next-number _ _ (t .before .before .loop-test .taken)) (table-told _ _ is)))
 
 enum-known-table : tie.Need-enum-known-table Inv-loop μ-loop
 enum-known-table c = search needs
@@ -89,7 +88,7 @@ loop-again c =
     let more = c .before .before .before .before .before .before .before .before .loop-test .taken in
     let is = looked (c .before .before .before .before .before .before) ∙ c .before .before .before .before .table .given .1 in
     let counted : l .loop .entry < entryCount (l .before .before .before .before .args .xsdt) = omega (arith, more, l .before .before .entry-count .ensures) in (
-      search-miss (known .0) (next-number _ _ more) (entry-fine _ is),
+      ask-kept (known .0) (next-number _ _ more) (table-told _ _ is),
       note-checked _ _ apic table (known .1) counted is (c .before .noted .ensures ∙ ap (λ (n : ℕ). oneMore (l .loop .madt) (eqb n apic) table (l .loop .entry)) signed),
       note-checked _ _ facp table (known .2) counted is (c .noted2 .ensures ∙ ap (λ (n : ℕ). oneMore (l .loop .fadt) (eqb n facp) table (l .loop .entry)) signed),
     )
@@ -98,7 +97,7 @@ returns-2 : tie.Need-returns-2 Inv-loop μ-loop
 returns-2 c =
     let known = c .before .loop .inv in
     ap₂ Are (note-end _ _ _ (known .1) (omega arith)) (note-end _ _ _ (known .2) (omega arith))
-    ∙ sym (names-sound _ _ _ (sym (search-over (known .0) (no-number _ _ (c .loop-test .left)))))
+    ∙ sym (unless-sound _ _ _ (ask-over (known .0) (no-number _ _ (c .loop-test .left))))
 
 pub find-names-spec : {M : Type 1} → statement M
 find-names-spec =

@@ -1,6 +1,6 @@
 -- `tables::xsdt_rules` gives the first refusal of 23 to 25, in their order.
 use mathlib.Core.Path.{ap, sym, _∙_}
-use Rattle.words.proofs.Choices.{yes-if, no-if}
+use Rattle.words.proofs.Verdicts.{first-none, first-broken, first-kept}
 use Rattle.words.specs.declared.Verdict.the-variants.{Refused}
 use Rattle.tables.specs.Xsdt.{xsdtRules}
 use borrow.Author.Needs.{needs}
@@ -18,7 +18,7 @@ refuse-requires c κs = search needs
 
 returns : tie.Need-returns
 unfolding xsdtRules
-returns c = ap Refused (c .refuse .ensures) ∙ sym (yes-if _ _ _ (cc))
+returns c = ap Refused (c .refuse .ensures) ∙ sym (first-broken _ _ _ _ (cc))
 
 wrong-xsdt-revision-requires : tie.Need-wrong-xsdt-revision-requires
 wrong-xsdt-revision-requires c κs = search needs
@@ -31,7 +31,7 @@ refuse-requires-2 c κs = search needs
 
 returns-2 : tie.Need-returns-2
 unfolding xsdtRules
-returns-2 c = ap Refused (c .refuse2 .ensures) ∙ sym (no-if _ _ _ (cc) (yes-if _ _ _ (cc)))
+returns-2 c = ap Refused (c .refuse2 .ensures) ∙ sym (first-kept _ _ _ _ (cc) (first-broken _ _ _ _ (cc)))
 
 wrong-body-requires : tie.Need-wrong-body-requires
 wrong-body-requires c κs = search needs
@@ -44,11 +44,11 @@ refuse-requires-3 c κs = search needs
 
 returns-3 : tie.Need-returns-3
 unfolding xsdtRules
-returns-3 c = ap Refused (c .refuse3 .ensures) ∙ sym (no-if _ _ _ (cc) (no-if _ _ _ (cc) (yes-if _ _ _ (cc))))
+returns-3 c = ap Refused (c .refuse3 .ensures) ∙ sym (first-kept _ _ _ _ (cc) (first-kept _ _ _ _ (cc) (first-broken _ _ _ _ (cc))))
 
 returns-4 : tie.Need-returns-4
 unfolding xsdtRules
-returns-4 c = sym (no-if _ _ _ (cc) (no-if _ _ _ (cc) (no-if _ _ _ (cc) (cc))))
+returns-4 c = sym (first-kept _ _ _ _ (cc) (first-kept _ _ _ _ (cc) (first-kept _ _ _ _ (cc) first-none)))
 
 pub xsdt-rules-spec : {M : Type 1} → statement M
 xsdt-rules-spec =
