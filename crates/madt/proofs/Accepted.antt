@@ -12,7 +12,8 @@ use Rattle.words.specs.Lists.{those}
 use Rattle.words.specs.Refusals.{unless, firstRefusal}
 use Rattle.words.specs.declared.Verdict.{Verdict}
 use Rattle.words.specs.declared.Verdict.the-variants.{Sound, Refused}
-use Rattle.words.proofs.Verdicts.{not-sound, both-sound, first-joined}
+use Rattle.words.proofs.Verdicts.{not-sound, joined-kept, unless-told}
+use Rattle.words.proofs.Those.{those-fewer}
 use Rattle.kinds.specs.Makers.{coreOf, isEnabled}
 use Rattle.madt.specs.Pieces.{Piece, whole, cut, Whole, pieces, structures}
 use Rattle.madt.specs.Rules.{isType, structureRules}
@@ -20,11 +21,15 @@ use Rattle.madt.specs.Contents.{ofType, howMany, made, enabledIn, foundI
 use Rattle.madt.specs.Walk.{rulesInTurn, walkRules, turnedAway, walked}
 use Rattle.madt.specs.declared.Found.{Found}
 use Rattle.madt.specs.declared.Walked.{Walked}
-use Rattle.madt.proofs.Those.{those-fewer}
 use Rattle.madt.proofs.Contents.{count-more, count-same, made-many}
 use Rattle.madt.proofs.Checks.{Kept, all-kept, room-core, room-eio, room-msi, room-bio}
 
 -- ---- what it found
+-- its verdict is the first refusal of its rules
+pub walk-verdict : (table : List ℕ) (base sci : ℕ) → walked table base sci .verdict ≡ firstRefusal (walkRules table base)
+unfolding walked turnedAway
+walk-verdict table base sci = unless-told turnedAway (λ w. w .verdict) (λ r. refl) _ _ refl
+
 stands : (v : Verdict) (w : Walked) → unless turnedAway v w .verdict ≡ Sound → (v ≡ Sound) × (unless turnedAway v w ≡ w)
 unfolding unless turnedAway
 stands Sound w h = (refl, refl)
@@ -50,7 +55,7 @@ module _ (base : ℕ) where
       → Kept (howMany (byteAt s 0) before) s × (firstRefusal (rulesInTurn base (before ++ (record { at = at; bytes = s } ∷ [])) later) ≡ Sound)
   unfolding rulesInTurn
   in-turn before at s later h =
-      let b = both-sound _ _ (sym (first-joined (structureRules (base + at) (howMany (byteAt s 0) before) s) _) ∙ h) in
+      let b = joined-kept (structureRules (base + at) (howMany (byteAt s 0) before) s) _ h in
       (all-kept _ _ _ (b .0), b .1)
 
   -- each structure keeps the rules, after so many of its kind

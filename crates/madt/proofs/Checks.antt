@@ -1,18 +1,16 @@
 -- What 32 to 38 say of one structure: one law for each of them that is the first to be broken, and one for a structure that keeps
 -- them all.
-use mathlib.Core.Path.{_≡_, refl, sym, ap, _∙_}
+use mathlib.Core.Path.{_≡_, sym, ap, _∙_}
 use mathlib.Core.Bool.{Bool, true, false, not, _&&_, true≢false}
-use mathlib.Core.List.{List, [], _∷_}
+use mathlib.Core.List.{List}
 use Prim.Native.Nat.{ℕ, _≤_, _<_}
 use native.Mathlib.Omega.{arith}
 use lib.Dec.{eqb, leb}
 use borrow.Author.Tests.{eq-eqb, ne-eqb, le-leb, leb-false}
 use Rattle.words.specs.Bytes.{byteAt}
-use Rattle.words.specs.Refusals.{refused, rule, unless, firstRefusal}
-use Rattle.words.specs.Choice.{if}
-use Rattle.words.specs.declared.Verdict.{Verdict}
+use Rattle.words.specs.Refusals.{refused, firstRefusal}
 use Rattle.words.specs.declared.Verdict.the-variants.{Sound, Refused}
-use Rattle.words.proofs.Verdicts.{not-sound, first-broken, first-kept}
+use Rattle.words.proofs.Verdicts.{first-none, first-broken, first-kept, first-sound}
 use Rattle.madt.specs.Rules.{isType, byType, isKnown, lengthOf, wrongLength, wrongVersion, isHt, wrongFlags, brokenField, outOfRange, sharedBit, oneTooMany, structureRules}
 use Rattle.madt.proofs.Types.{type-yes, type-no, of-core, of-lio, of-eio, of-msi, of-bio, of-lpc, of-other}
 
@@ -51,10 +49,6 @@ module _ (s : List ℕ) where
   range-right h = ap not (eq-eqb (brokenField s) 0 h)
 
 -- ---- the first of them that is broken
-first-none : firstRefusal [] ≡ Sound
-unfolding firstRefusal
-first-none = refl
-
 module _ (place before : ℕ) (s : List ℕ) where
   pub at-32 : wrongLength s ≡ true → firstRefusal (structureRules place before s) ≡ Refused (refused 32 place)
   unfolding structureRules
@@ -122,12 +116,6 @@ module _ (place before : ℕ) (s : List ℕ) where
         (range-right s (other-type 0 _ 0 _ _ _ _ 0)) (rw (no-type 18 (omega arith) (omega arith))) (other-type _ _ false _ _ _ _ false)
 
 -- ---- what it tells that none is broken
-first-sound : (broken : Bool) (number place : ℕ) (later : List Verdict) → firstRefusal (rule broken number place ∷ later) ≡ Sound
-    → (broken ≡ false) × (firstRefusal later ≡ Sound)
-unfolding firstRefusal unless if
-first-sound true number place later h = not-sound h
-first-sound false number place later h = (refl, h)
-
 pub record Kept (before : ℕ) (s : List ℕ) : Type 0 where
   pub r32 : wrongLength s ≡ false
   pub r33 : wrongVersion s ≡ false

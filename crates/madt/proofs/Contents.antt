@@ -11,6 +11,7 @@ use Rattle.words.specs.Bytes.{byteAt}
 use Rattle.words.specs.Choice.{if}
 use Rattle.words.specs.Lists.{those}
 use Rattle.words.proofs.Choices.{yes-if, no-if}
+use Rattle.words.proofs.Those.{those-more, those-same, those-fewer, map-more, length-map}
 use Rattle.kinds.specs.Makers.{coreOf, isEnabled, lioOf, eioOf, msiOf, bioOf, lpcOf}
 use Rattle.kinds.specs.Used.{noLio, noEio, noBio, noMsi, noLpc, saidLio}
 use Rattle.kinds.specs.declared.makers.Core.{Core}
@@ -20,7 +21,6 @@ use Rattle.madt.specs.Pieces.{Whole}
 use Rattle.madt.specs.Rules.{isType, oneTooMany}
 use Rattle.madt.specs.Contents.{ofType, howMany, made, standing, theOne, inFour, mapOf, placesOf, MadeBy, enabledIn, foundIn}
 use Rattle.madt.specs.declared.Found.{Found}
-use Rattle.madt.proofs.Those.{those-more, those-same, those-fewer, map-more, length-map}
 use Rattle.madt.proofs.Types.{type-yes, type-no, of-core, of-lio, of-eio, of-msi, of-bio, of-lpc}
 
 -- ---- one element more of a kind

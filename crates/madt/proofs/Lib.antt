@@ -1,6 +1,5 @@
 pub mod Pieces
 pub mod Types
-pub mod Those
 pub mod Contents
 pub mod Checks
 pub mod Walking

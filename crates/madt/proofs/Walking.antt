@@ -1,24 +1,21 @@
 -- The walk: what its loop has found so far, and one law for each way that a turn of it can go.
 use mathlib.Core.Path.{_≡_, refl, sym, ap, _∙_}
-use mathlib.Core.Bool.{Bool, true, false}
+use mathlib.Core.Bool.{true}
 use mathlib.Core.List.{List, [], _∷_, _++_, append-nil, append-assoc}
 use Prim.Native.Nat.{ℕ, _+_, _≤_, _<_}
 use native.Mathlib.Omega.{arith}
-use lib.Dec.{leb}
 use lib.ListN.{length, drop, length-take}
-use borrow.Author.Tests.{leb-false}
 use Rattle.words.specs.Bytes.{byteAt, partAt}
 use Rattle.words.specs.Lists.{those}
 use Rattle.words.specs.Refusals.{refused, unless, firstRefusal}
 use Rattle.words.specs.declared.Refusal.{Refusal}
 use Rattle.words.specs.declared.Verdict.{Verdict}
 use Rattle.words.specs.declared.Verdict.the-variants.{Sound, Refused}
-use Rattle.words.proofs.Choices.{passed}
-use Rattle.words.proofs.Verdicts.{not-sound, both-sound, first-broken, first-joined, unless-refused, unless-sound, unless-again}
+use Rattle.words.proofs.Verdicts.{first-broken, unless-refused, joined-refused, joined-sound}
 use Rattle.lines.specs.declared.Map.{Map}
 use Rattle.lines.specs.declared.Places.{Places}
 use Rattle.madt.specs.Pieces.{Piece, whole, cut, Whole, pieces, structures}
-use Rattle.madt.specs.Rules.{oneTooMany, structureRules}
+use Rattle.madt.specs.Rules.{structureRules}
 use Rattle.madt.specs.Contents.{ofType, howMany, made, standing, mapOf, placesOf, MadeBy, enabledIn, foundIn}
 use Rattle.madt.specs.Walk.{rulesInTurn, walkRules, turnedAway, walked}
 use Rattle.madt.specs.declared.Walked.{Walked}
@@ -38,13 +35,11 @@ module _ (base sci : ℕ) (before : List Whole) (at : ℕ) (s : List ℕ) (later
 
   from-refused : {refusal : Refusal} → firstRefusal rules ≡ Refused refusal → walkFrom base sci before (whole at s ∷ later) ≡ turnedAway refusal
   unfolding walkFrom rulesInTurn
-  from-refused h = rw (first-joined rules (rulesInTurn base (before ++ (record { at = at; bytes = s } ∷ [])) later), unless-again turnedAway (firstRefusal rules)) (unless-refused turnedAway (firstRefusal rules) _ h)
+  from-refused h = joined-refused turnedAway rules _ _ h
 
   from-next : firstRefusal rules ≡ Sound → walkFrom base sci before (whole at s ∷ later) ≡ walkFrom base sci (before ++ (record { at = at; bytes = s } ∷ [])) later
   unfolding walkFrom rulesInTurn structures
-  from-next h =
-      rw (first-joined rules (rulesInTurn base (before ++ (record { at = at; bytes = s } ∷ [])) later), unless-again turnedAway (firstRefusal rules), append-assoc)
-      (unless-sound turnedAway (firstRefusal rules) _ h)
+  from-next h = rw append-assoc (joined-sound turnedAway rules _ _ h)
 
 -- no piece is left
 from-end : (base sci : ℕ) (before : List Whole) → walkFrom base sci before [] ≡ record { verdict = Sound; found = foundIn base sci before }

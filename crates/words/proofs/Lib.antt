@@ -6,3 +6,4 @@ pub mod Order
 pub mod Choices
 pub mod Searches
 pub mod Verdicts
+pub mod Those
