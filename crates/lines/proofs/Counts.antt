@@ -8,11 +8,12 @@ use lib.Dec.{ltb}
 use lib.ListN.{length, take}
 use lib.Seq.{take-all}
 use borrow.Author.Tests.{ltb-false}
-use Rattle.words.specs.Choice.{if}
+use Rattle.words.specs.Refusals.{isSound}
+use Rattle.words.proofs.Verdicts.{first-broken}
 use Rattle.kinds.specs.Ranges.{bitInBoth}
 use Rattle.clashes.proofs.Logic.{and-right, or-neither}
 use Rattle.lines.specs.Says.{says}
-use Rattle.lines.specs.Rules.{tooMany, check, orElse, isKept, firstBroken, slotPlaces, rangesKept, keepsRules}
+use Rattle.lines.specs.Rules.{tooMany, firstBroken, slotPlaces, rangesKept, keepsRules}
 use Rattle.lines.specs.declared.Map.{Map}
 use Rattle.lines.specs.declared.Places.{Places}
 
@@ -23,9 +24,9 @@ counts map h =
     (ltb-false 4 (map .eiocount) (s .0), ltb-false 4 (map .biocount) (s .1), ltb-false 4 (map .msicount) (r .1))
 
 -- a map with one too many breaks a rule
-pub many-broken : (map : Map) (places : Places) (madt fadt : ℕ) → tooMany map ≡ true → isKept (firstBroken map places madt fadt) ≡ false
-unfolding firstBroken orElse check if isKept
-many-broken map places madt fadt h = rw h
+pub many-broken : (map : Map) (places : Places) (madt fadt : ℕ) → tooMany map ≡ true → isSound (firstBroken map places madt fadt) ≡ false
+unfolding firstBroken isSound
+many-broken map places madt fadt h = rw (first-broken _ _ _ _ h)
 
 -- a map that keeps the rules has no more than its arrays hold
 pub few-of-kept : (map : Map) → keepsRules map ≡ true → tooMany map ≡ false
@@ -37,7 +38,7 @@ few-of-kept map h = go (tooMany map) refl
     go true e =
         absurd
         (true≢false
-        (sym (and-right (rangesKept (says map) && not (bitInBoth (says map .lio))) (isKept (firstBroken map slotPlaces 0 0)) h)
+        (sym (and-right (rangesKept (says map) && not (bitInBoth (says map .lio))) (isSound (firstBroken map slotPlaces 0 0)) h)
         ∙ many-broken map slotPlaces 0 0 e))
 
 -- a count that is cut to the array's length uses the same entries

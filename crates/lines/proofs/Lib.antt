@@ -1,5 +1,4 @@
 pub mod Counts
-pub mod Verdicts
 pub mod Stilling
 pub mod NoClash
 pub mod Entries

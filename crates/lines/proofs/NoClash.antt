@@ -10,6 +10,7 @@ use borrow.Author.Tests.{le-ltb, not-true}
 use lib.Dec.{eqb}
 use lib.ListN.{length}
 use Rattle.words.specs.Lists.{every}
+use Rattle.words.specs.Refusals.{unless, firstRefusal}
 use Rattle.kinds.specs.declared.Eio.{Eio}
 use Rattle.kinds.specs.declared.Bio.{Bio}
 use Rattle.clashes.specs.Rules.{noNode, clash, noEio, lone}
@@ -24,9 +25,8 @@ use Rattle.parts.specs.Claims.{noRun, lioClaim, eioClaim, bioClaim, msiClaim}
 use Rattle.lines.specs.Says.{Said}
 use Rattle.lines.specs.Claims.{placed, claims}
 use Rattle.lines.specs.Quiet.{farFrom, stillEach, noEioOf, eiosQuiet, biosQuiet, msisQuiet, quiet}
-use Rattle.lines.specs.Rules.{rule40, rule43, rule54, alone as aloneRule, both, spotted, orElse, lowest, verdictsFrom40}
+use Rattle.lines.specs.Rules.{rule40, rule43, rule54, atLater, spotted, rulesTo43, rulesFrom51, mapRules}
 use Rattle.lines.specs.declared.Places.{Places}
-use Rattle.lines.proofs.Verdicts.{or-kept}
 
 -- ---- lists of claims without a clash
 module _ (rule : ℕ) where
@@ -276,7 +276,7 @@ module _ (said : Said) (places : Places) (room : length (said .eios) ≤ length 
       (List·Memᴰ·append-cases (ls ++ es ++ bs) m)
 
   -- only 40, 43 and 54 are left
-  pub quiet-lowest : (madt fadt : ℕ)
-      → lowest (verdictsFrom40 said places madt fadt) ≡ orElse (rule40 said madt) (orElse (rule43 said (places .lpc)) (rule54 said fadt))
-  unfolding lowest verdictsFrom40 orElse aloneRule both spotted
-  quiet-lowest madt fadt = rw (no-clash 41, lone-none (claims said places) housed, no-clash 51, no-clash 52, no-clash 53, or-kept)
+  pub quiet-first : (madt fadt : ℕ)
+      → firstRefusal (mapRules said places madt fadt) ≡ firstRefusal (rule40 said madt ∷ rule43 said (places .lpc) ∷ rule54 said fadt ∷ [])
+  unfolding firstRefusal mapRules rulesTo43 rulesFrom51 unless atLater spotted
+  quiet-first madt fadt = rw (no-clash 41, lone-none (claims said places) housed, no-clash 51, no-clash 52, no-clash 53)

@@ -1,12 +1,13 @@
 -- The rules that a map must keep: document 01, "Refusals in order", 36 to 38 and 40 to 54, and their order.
 use Prim.Native.Nat.{ℕ}
 use mathlib.Core.Bool.{Bool, true, false, not, _&&_, _||_}
-use mathlib.Core.List.{List, [], _∷_}
+use mathlib.Core.List.{List, [], _∷_, _++_}
 use lib.Dec.{eqb, ltb}
 use lib.ListN.{length}
-use Rattle.words.specs.Choice.{if}
 use Rattle.words.specs.Lists.{every}
-use Rattle.words.specs.Refusals.{refused}
+use Rattle.words.specs.Refusals.{refused, rule, firstRefusal, isSound}
+use Rattle.words.specs.declared.Verdict.{Verdict}
+use Rattle.words.specs.declared.Verdict.the-variants.{Sound, Refused}
 use Rattle.kinds.specs.Ranges.{bitInBoth, lioField, eioField, bioField, msiField, lpcField}
 use Rattle.kinds.specs.declared.Eio.{Eio}
 use Rattle.kinds.specs.declared.Bio.{Bio}
@@ -25,33 +26,22 @@ use Rattle.lines.specs.declared.Places.{Places}
 use Rattle.lines.specs.declared.Bridge.{Bridge}
 use Rattle.lines.specs.declared.Bridge.the-variants.{Is, None as NoBio}
 use Rattle.lines.specs.declared.Route.{Route}
-use Rattle.lines.specs.declared.Route.the-variants.{Arrives, Unwired, NoOwner, Refused}
-use Rattle.lines.specs.declared.Verdict.{Verdict}
-use Rattle.lines.specs.declared.Verdict.the-variants.{Kept, Broken}
+use Rattle.lines.specs.declared.Route.the-variants.{Arrives, Unwired, NoOwner, Refused as NoRoute}
 
--- ---- a verdict
--- a rule is broken at a place, without a partner
-abbrev pub broken : ℕ → ℕ → Verdict
-broken number place = Broken (refused number place) 0
+-- ---- where a search points
+-- "Of two things that clash or repeat, the place is the later one's"
+unfoldable pub atLater : ℕ → Pair → Verdict
+atLater number None = Sound
+atLater number (Two p q) = Refused (refused number p)
 
--- a rule with a known place is broken there, or kept
-unfoldable pub check : ℕ → Bool → ℕ → Verdict
-check number bad place = if bad (broken number place) Kept
-
--- a clash that names the later structure alone
-unfoldable pub alone : ℕ → Pair → Verdict
-alone number None = Kept
-alone number (Two p q) = broken number p
-
--- a clash that names the later structure, and its earliest partner too
-unfoldable pub both : ℕ → Pair → Verdict
-both number None = Kept
-both number (Two p q) = Broken (refused number p) q
+-- the rule of a number that two structures break, at "the first structure that clashes with an earlier"
+abbrev pub ruleClash : ℕ → List Claim → Verdict
+ruleClash number all = atLater number (firstClash number all)
 
 -- a rule that is broken at a spot, or nowhere
 unfoldable pub spotted : ℕ → Spot → Verdict
-spotted number Nowhere = Kept
-spotted number (At p) = broken number p
+spotted number Nowhere = Sound
+spotted number (At p) = Refused (refused number p)
 
 -- ---- the rules
 -- 36: a range above, of every EIO, BIO and MSI
@@ -79,11 +69,11 @@ tooMany map = ltb 4 (map .eiocount) || ltb 4 (map .biocount) || ltb 4 (map .msic
 
 -- 40: no LIO or no EIO
 abbrev pub rule40 : Said → ℕ → Verdict
-rule40 said madt = check 40 (not (said .lio .present) || eqb (length (said .eios)) 0) madt
+rule40 said madt = rule (not (said .lio .present) || eqb (length (said .eios)) 0) 40 madt
 
 -- 41: EIO repeats an earlier node
 abbrev pub rule41 : List Claim → Verdict
-rule41 all = alone 41 (firstClash 41 all)
+rule41 all = ruleClash 41 all
 
 -- 42: BIO without an EIO of its node
 abbrev pub rule42 : List Claim → Verdict
@@ -96,58 +86,60 @@ noBridge present NoBio = present
 
 -- 43: LPC without a BIO
 abbrev pub rule43 : Said → ℕ → Verdict
-rule43 said place = check 43 (noBridge (said .lpc .present) (bridge (said .bios))) place
+rule43 said place = rule (noBridge (said .lpc .present) (bridge (said .bios))) 43 place
 
--- 51: two sources share a global number; 52: an extended vector of one EIO; 53: two controllers enter one core vector
-abbrev pub ruleClash : ℕ → List Claim → Verdict
-ruleClash number all = both number (firstClash number all)
+-- 51: two sources share a global number
+abbrev pub rule51 : List Claim → Verdict
+rule51 all = ruleClash 51 all
+
+-- 52: two sources share an extended vector of one EIO
+abbrev pub rule52 : List Claim → Verdict
+rule52 all = ruleClash 52 all
+
+-- 53: two controllers enter one core vector
+abbrev pub rule53 : List Claim → Verdict
+rule53 all = ruleClash 53 all
 
 -- an answer that is no arrival
 unfoldable pub lost : Route → Bool
 lost (Arrives vector number) = false
 lost Unwired = true
 lost NoOwner = true
-lost (Refused refusal) = true
+lost (NoRoute refusal) = true
 
 -- 54: SCI_INT doesn't arrive
 abbrev pub rule54 : Said → ℕ → Verdict
-rule54 said fadt = check 54 (lost (arrival said (said .sci))) fadt
+rule54 said fadt = rule (lost (arrival said (said .sci))) 54 fadt
 
 -- ---- their order
--- the first of two verdicts that is broken
-unfoldable pub orElse : Verdict → Verdict → Verdict
-orElse Kept second = second
-orElse (Broken refusal partner) second = Broken refusal partner
-
--- "The lowest line that applies wins"
-unfoldable pub lowest : List Verdict → Verdict
-lowest [] = Kept
-lowest (v ∷ vs) = orElse v (lowest vs)
-
--- the rules from 40 on, lowest first
-unfoldable pub verdictsFrom40 : Said → Places → ℕ → ℕ → List Verdict
-verdictsFrom40 said places madt fadt =
+-- what the rules say from 40 to 43
+unfoldable pub rulesTo43 : Said → Places → ℕ → List Verdict
+rulesTo43 said places madt =
     let all = claims said places in
     rule40 said madt
     ∷ rule41 all
     ∷ rule42 all
     ∷ rule43 said (places .lpc)
-    ∷ ruleClash 51 all
-    ∷ ruleClash 52 all
-    ∷ ruleClash 53 all
+    ∷ []
+
+-- and from 51 to 54
+unfoldable pub rulesFrom51 : Said → Places → ℕ → List Verdict
+rulesFrom51 said places fadt =
+    let all = claims said places in
+    rule51 all
+    ∷ rule52 all
+    ∷ rule53 all
     ∷ rule54 said fadt
     ∷ []
 
+unfoldable pub mapRules : Said → Places → ℕ → ℕ → List Verdict
+mapRules said places madt fadt = rulesTo43 said places madt ++ rulesFrom51 said places fadt
+
 -- the first broken rule of a map with places, from 38 on; the walk refuses 36 to 38 at their structures
 unfoldable pub firstBroken : Map → Places → ℕ → ℕ → Verdict
-firstBroken map places madt fadt = orElse (check 38 (tooMany map) madt) (lowest (verdictsFrom40 (says map) places madt fadt))
+firstBroken map places madt fadt = firstRefusal (rule (tooMany map) 38 madt ∷ mapRules (says map) places madt fadt)
 
 -- ---- 61: a map asked about breaks 36 to 38 or 40 to 54
--- no rule is broken
-unfoldable pub isKept : Verdict → Bool
-isKept Kept = true
-isKept (Broken refusal partner) = false
-
 -- a map has no places: any that differ will do
 abbrev pub slotPlaces : Places
 slotPlaces =
@@ -162,4 +154,4 @@ slotPlaces =
 -- the map breaks none of the rules
 unfoldable pub keepsRules : Map → Bool
 keepsRules map =
-    rangesKept (says map) && not (bitInBoth (says map .lio)) && isKept (firstBroken map slotPlaces 0 0)
+    rangesKept (says map) && not (bitInBoth (says map .lio)) && isSound (firstBroken map slotPlaces 0 0)

@@ -91,7 +91,7 @@ impl Map {
         let verdict = self.first_broken(crate::rules::slot_places(), 0, 0);
         self.ranges_kept()
             & !bit_in_both(kinds::said_lio(self.lio))
-            & crate::rules::is_kept(verdict)
+            & crate::rules::is_sound(verdict)
     }
 
     // Where a global number arrives.

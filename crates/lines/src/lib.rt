@@ -73,9 +73,3 @@ pub struct Places {
     pub msis: [u32; 4],
     pub lpc: u32,
 }
-
-// Whether a map keeps its rules: if not, the refusal, and the place of the structure that the named one clashes with.
-pub enum Verdict {
-    Kept,
-    Broken(Refusal, u32),
-}

@@ -6,54 +6,38 @@ use crate::MOST;
 use crate::Map;
 use crate::Places;
 use crate::Route;
-use crate::Verdict;
 use crate::routes::lpc_bridge;
 use clashes::Pair;
 use clashes::Spot;
+use words::Verdict;
 ghost use mathlib.Core.Path.{_≡_};
+ghost use mathlib.Core.List.{[], _∷_};
 ghost use Prim.Native.Nat.{_≤_};
+ghost use Rattle.words.specs.Refusals.{rule, unless, firstRefusal, isSound};
+ghost use Rattle.words.specs.declared.Verdict.the-variants.{Refused};
 ghost use Rattle.lines.specs.Says.{says};
-ghost use Rattle.lines.specs.Rules.{broken, check, alone, both, spotted, noBridge, tooMany, rule40, rule43, rule54, orElse, isKept, verdictsFrom40, lowest, firstBroken, slotPlaces};
+ghost use Rattle.lines.specs.Rules.{atLater, spotted, noBridge, tooMany, rule40, rule43, rule54, mapRules, firstBroken, slotPlaces};
 
 // ---- verdicts
 
-// A rule broken at a place, without a partner.
-fn broken_at(number: u8, place: u32) -> Verdict
-    ensures { λ r. ⌜ r ≡ broken number place ⌝ }
-{
-    let refusal = words::refuse(number, place);
-    Verdict::Broken(refusal, 0)
-}
-
 // A rule that is broken at a known place, or kept.
-fn checked(number: u8, bad: bool, place: u32) -> Verdict
-    ensures { λ r. ⌜ r ≡ check number bad place ⌝ }
+fn rule_of(broken: bool, number: u8, place: u32) -> Verdict
+    ensures { λ r. ⌜ r ≡ rule broken number place ⌝ }
 {
-    if bad {
-        return broken_at(number, place);
+    if broken {
+        return Verdict::Refused(words::refuse(number, place));
     }
-    Verdict::Kept
+    Verdict::Sound
 }
 
-// A clash that names the later structure alone.
-fn alone_of(number: u8, pair: Pair) -> Verdict
-    ensures { λ r. ⌜ r ≡ alone number pair ⌝ }
+// A clash: the place is that of the later structure.
+fn at_later(number: u8, pair: Pair) -> Verdict
+    ensures { λ r. ⌜ r ≡ atLater number pair ⌝ }
 {
     let Pair::Two(p, _) = pair else {
-        return Verdict::Kept;
+        return Verdict::Sound;
     };
-    broken_at(number, p)
-}
-
-// A clash that names the later structure and its earliest partner.
-fn both_of(number: u8, pair: Pair) -> Verdict
-    ensures { λ r. ⌜ r ≡ both number pair ⌝ }
-{
-    let Pair::Two(p, q) = pair else {
-        return Verdict::Kept;
-    };
-    let refusal = words::refuse(number, p);
-    Verdict::Broken(refusal, q)
+    Verdict::Refused(words::refuse(number, p))
 }
 
 // A rule that is broken at a spot, or nowhere.
@@ -61,28 +45,28 @@ fn spot_verdict(number: u8, spot: Spot) -> Verdict
     ensures { λ r. ⌜ r ≡ spotted number spot ⌝ }
 {
     let Spot::At(p) = spot else {
-        return Verdict::Kept;
+        return Verdict::Sound;
     };
-    broken_at(number, p)
+    Verdict::Refused(words::refuse(number, p))
 }
 
-// The first of two verdicts that is broken.
+// The first of two verdicts that refuses.
 fn or_else(first: Verdict, second: Verdict) -> Verdict
-    ensures { λ r. ⌜ r ≡ orElse first second ⌝ }
+    ensures { λ r. ⌜ r ≡ unless Refused first second ⌝ }
 {
     match first {
-        Verdict::Kept => second,
-        Verdict::Broken(refusal, partner) => Verdict::Broken(refusal, partner),
+        Verdict::Sound => second,
+        Verdict::Refused(refusal) => Verdict::Refused(refusal),
     }
 }
 
 // Whether no rule is broken.
-pub(crate) fn is_kept(verdict: Verdict) -> bool
-    ensures { λ r. ⌜ r ≡ isKept verdict ⌝ }
+pub(crate) fn is_sound(verdict: Verdict) -> bool
+    ensures { λ r. ⌜ r ≡ isSound verdict ⌝ }
 {
     match verdict {
-        Verdict::Kept => true,
-        Verdict::Broken(_, _) => false,
+        Verdict::Sound => true,
+        Verdict::Refused(_) => false,
     }
 }
 
@@ -128,7 +112,7 @@ impl Map {
         ensures { λ r. ⌜ r ≡ rule40 (says self) madt ⌝ }
     {
         let lio = self.lio;
-        checked(40, !lio.present | (self.eiocount == 0), madt)
+        rule_of(!lio.present | (self.eiocount == 0), 40, madt)
     }
 
     // 43: LPC without a BIO.
@@ -138,9 +122,9 @@ impl Map {
     {
         let bios = self.bios;
         let lpc = self.lpc;
-        checked(
-            43,
+        rule_of(
             lacks_bridge(lpc.present, lpc_bridge(bios, self.biocount as usize)),
+            43,
             place,
         )
     }
@@ -150,15 +134,15 @@ impl Map {
         ensures { λ r. ⌜ r ≡ rule54 (says self) fadt ⌝ }
     {
         let Route::Arrives(_, _) = self.arrival(self.sci as u32) else {
-            return broken_at(54, fadt);
+            return Verdict::Refused(words::refuse(54, fadt));
         };
-        Verdict::Kept
+        Verdict::Sound
     }
 
     // The first broken rule from 40 on, of a map that breaks none of 41, 42 and 51 to 53.
     fn first_of_quiet(self, lpc: u32, madt: u32, fadt: u32) -> Verdict
         requires { ⌜ (self .eiocount ≤ 4) × (self .biocount ≤ 4) ⌝ }
-        ensures { λ r. ⌜ r ≡ orElse (rule40 (says self) madt) (orElse (rule43 (says self) lpc) (rule54 (says self) fadt)) ⌝ }
+        ensures { λ r. ⌜ r ≡ firstRefusal (rule40 (says self) madt ∷ rule43 (says self) lpc ∷ rule54 (says self) fadt ∷ []) ⌝ }
     {
         let from54 = self.rule_54(fadt);
         let from43 = or_else(self.rule_43(lpc), from54);
@@ -168,22 +152,22 @@ impl Map {
     // The first broken rule from 40 on, by a search of all claims.
     fn first_by_search(self, places: Places, madt: u32, fadt: u32) -> Verdict
         requires { ⌜ (self .eiocount ≤ 4) × (self .biocount ≤ 4) × (self .msicount ≤ 4) ⌝ }
-        ensures { λ r. ⌜ r ≡ lowest (verdictsFrom40 (says self) places madt fadt) ⌝ }
+        ensures { λ r. ⌜ r ≡ firstRefusal (mapRules (says self) places madt fadt) ⌝ }
     {
         let from54 = self.rule_54(fadt);
-        let from53 = or_else(both_of(53, self.first_clash(places, 53)), from54);
-        let from52 = or_else(both_of(52, self.first_clash(places, 52)), from53);
-        let from51 = or_else(both_of(51, self.first_clash(places, 51)), from52);
+        let from53 = or_else(at_later(53, self.first_clash(places, 53)), from54);
+        let from52 = or_else(at_later(52, self.first_clash(places, 52)), from53);
+        let from51 = or_else(at_later(51, self.first_clash(places, 51)), from52);
         let from43 = or_else(self.rule_43(places.lpc), from51);
         let from42 = or_else(spot_verdict(42, self.first_lone(places)), from43);
-        let from41 = or_else(alone_of(41, self.first_clash(places, 41)), from42);
+        let from41 = or_else(at_later(41, self.first_clash(places, 41)), from42);
         or_else(self.rule_40(madt), from41)
     }
 
     // The first broken rule from 40 on.
     fn first_from_40(self, places: Places, madt: u32, fadt: u32) -> Verdict
         requires { ⌜ (self .eiocount ≤ 4) × (self .biocount ≤ 4) × (self .msicount ≤ 4) ⌝ }
-        ensures { λ r. ⌜ r ≡ lowest (verdictsFrom40 (says self) places madt fadt) ⌝ }
+        ensures { λ r. ⌜ r ≡ firstRefusal (mapRules (says self) places madt fadt) ⌝ }
     {
         if self.is_quiet() {
             return self.first_of_quiet(places.lpc, madt, fadt);
@@ -191,14 +175,13 @@ impl Map {
         self.first_by_search(places, madt, fadt)
     }
 
-    // The first broken rule of a map from 38 on, at the place of the structure that is named. Where two clash by 51 to 53
-    // the partner is the earliest structure that the named one clashes with; it is 0 otherwise. A walk refuses 38 at the
-    // structure itself; for a map that has too many the place is the MADT's.
+    // The first broken rule of a map from 38 on, at the place of the structure that is named. A walk refuses 38 at the structure
+    // itself; for a map that has too many the place is the MADT's.
     pub fn first_broken(self, places: Places, madt: u32, fadt: u32) -> Verdict
         ensures { λ r. ⌜ r ≡ firstBroken self places madt fadt ⌝ }
     {
         if self.too_many() {
-            return broken_at(38, madt);
+            return Verdict::Refused(words::refuse(38, madt));
         }
         self.first_from_40(places, madt, fadt)
     }

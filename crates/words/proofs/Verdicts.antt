@@ -1,22 +1,44 @@
--- Laws of verdicts: a verdict is sound or a refusal; what stands unless it refuses; and the first refusal of a list.
-use mathlib.Core.Bool.{Bool, true, false}
+-- Laws of verdicts: a verdict is sound or a refusal; what one rule says; what stands unless a verdict refuses; and the first
+-- refusal of a list.
+use mathlib.Core.Bool.{Bool, true, false, true≢false}
 use mathlib.Core.List.{List, [], _∷_, _++_, map}
 use mathlib.Core.Path.{_≡_, refl, sym, ap, _∙_}
 use native.Mathlib.Omega.{arith}
 use Prim.Native.Nat.{ℕ, zero, suc, _+_, _≤_, _<_}
 use mathlib.Core.Logic.{⊎-elim}
-use native.Mathlib.Nat.{eq-or-lt-of-le}
+use native.Mathlib.Nat.{eq-or-lt-of-le, le-of-suc-le-suc, not-suc-le-zero}
+use lib.ListN.{getD}
 use Rattle.words.specs.Choice.{if}
 use Rattle.words.specs.Lists.{first, numbersFrom}
-use Rattle.words.specs.Refusals.{refused, rule, unless, firstRefusal, inEach}
+use Rattle.words.specs.Refusals.{refused, rule, unless, firstRefusal, inEach, isSound}
 use Rattle.words.specs.declared.Refusal.{Refusal}
 use Rattle.words.specs.declared.Verdict.{Verdict}
 use Rattle.words.specs.declared.Verdict.the-variants.{Sound, Refused}
-use Rattle.words.proofs.Choices.{passed}
+use Rattle.words.proofs.Choices.{no-if, passed, if-cases}
 
 -- ---- a verdict is sound or a refusal, and never both
 pub not-sound : {refusal : Refusal} {X : Type 0} → _≡_ {A = Verdict} (Refused refusal) Sound → X
 not-sound e = absurd (let o : _≡_ {A = ℕ} 0 1 = cc in omega arith)
+
+pub is-sound : (v : Verdict) → isSound v ≡ true → v ≡ Sound
+unfolding isSound
+is-sound Sound h = refl
+is-sound (Refused r) h = absurd (true≢false (sym h))
+
+pub same-refusal : {r s : Refusal} → _≡_ {A = Verdict} (Refused r) (Refused s) → r ≡ s
+same-refusal e = cc
+
+-- ---- one rule: sound where it is kept, and else a refusal with its own number and place
+module _ (broken : Bool) (number place : ℕ) where
+  pub rule-sound : broken ≡ false → rule broken number place ≡ Sound
+  rule-sound h = no-if _ _ _ h refl
+
+  pub rule-kept : rule broken number place ≡ Sound → broken ≡ false
+  rule-kept h = passed broken _ _ _ h not-sound .0
+
+  pub rule-told : {refusal : Refusal} → rule broken number place ≡ Refused refusal → refused number place ≡ refusal
+  rule-told {refusal} =
+      if-cases (λ v. v ≡ Refused refusal → refused number place ≡ refusal) broken _ _ (λ t h. same-refusal h) (λ t h. not-sound (sym h))
 
 -- ---- an answer, by the verdict before it
 module _ {A : Type 0} (turned : Refusal → A) (verdict : Verdict) (answer : A) where
@@ -39,6 +61,12 @@ pub unless-again : {A : Type 0} (turned : Refusal → A) (v w : Verdict) (x : A)
 unfolding unless
 unless-again turned Sound w x = refl
 unless-again turned (Refused r) w x = refl
+
+-- a verdict with nothing after it
+pub unless-last : (v : Verdict) → unless Refused v Sound ≡ v
+unfolding unless
+unless-last Sound = refl
+unless-last (Refused r) = refl
 
 -- what stands after two verdicts stands after each
 pub both-sound : (v w : Verdict) → unless Refused v w ≡ Sound → (v ≡ Sound) × (w ≡ Sound)
@@ -78,6 +106,32 @@ module _ (broken : Bool) (number place : ℕ) (later : List Verdict) where
   first-sound h =
       let both = both-sound (rule broken number place) (firstRefusal later) h in
       (passed broken _ _ _ (both .0) not-sound .0, both .1)
+
+-- where it is sound, each is
+pub each-sound : (vs : List Verdict) → firstRefusal vs ≡ Sound → (k : ℕ) → getD vs k Sound ≡ Sound
+unfolding firstRefusal
+each-sound [] h k = refl
+each-sound (v ∷ vs) h zero = both-sound v (firstRefusal vs) h .0
+each-sound (v ∷ vs) h (suc k) = each-sound vs (both-sound v (firstRefusal vs) h .1) k
+
+-- where it is a refusal, one is that refusal, and each before it is sound
+pub record FirstTold (vs : List Verdict) (refusal : Refusal) : Type 0 where
+  pub k : ℕ
+  pub told : getD vs k Sound ≡ Refused refusal
+  pub before : (i : ℕ) → i < k → getD vs i Sound ≡ Sound
+
+pub first-told : (vs : List Verdict) {refusal : Refusal} → firstRefusal vs ≡ Refused refusal → FirstTold vs refusal
+unfolding firstRefusal unless
+first-told [] h = not-sound (sym h)
+first-told (Refused r ∷ vs) h = record { k = 0; told = h; before = λ i l. absurd (not-suc-le-zero l) }
+first-told (Sound ∷ vs) {refusal} h = later (first-told vs h)
+  where
+    before : (k : ℕ) → ((i : ℕ) → i < k → getD vs i Sound ≡ Sound) → (i : ℕ) → i < suc k → getD (Sound ∷ vs) i Sound ≡ Sound
+    before k each zero l = refl
+    before k each (suc i) l = each i (le-of-suc-le-suc l)
+
+    later : FirstTold vs refusal → FirstTold (Sound ∷ vs) refusal
+    later w = record { k = suc (w .k); told = w .told; before = before (w .k) (w .before) }
 
 -- of one list behind another
 pub first-joined : (xs ys : List Verdict) → firstRefusal (xs ++ ys) ≡ unless Refused (firstRefusal xs) (firstRefusal ys)

@@ -1,7 +1,7 @@
 -- Document 01, "Refusals in order": a refusal returns its number and place. Every layer lists what its rules say, in their order,
 -- and asks the list for its first refusal.
 use Prim.Native.Nat.{ℕ}
-use mathlib.Core.Bool.{Bool}
+use mathlib.Core.Bool.{Bool, true, false}
 use mathlib.Core.List.{List, [], _∷_, _++_}
 use Rattle.words.specs.Choice.{if}
 use Rattle.words.specs.declared.Refusal.{Refusal}
@@ -29,3 +29,8 @@ firstRefusal (verdict ∷ later) = unless Refused verdict (firstRefusal later)
 unfoldable pub inEach {ℓ} : {A : Type ℓ} → (A → List Verdict) → List A → List Verdict
 inEach rules [] = []
 inEach rules (x ∷ xs) = rules x ++ inEach rules xs
+
+-- no rule is broken
+unfoldable pub isSound : Verdict → Bool
+isSound Sound = true
+isSound (Refused refusal) = false

@@ -1,7 +1,8 @@
--- `Map::first_by_search` is the lowest of the rules from 40 on, each asked of all claims.
+-- `Map::first_by_search` is the first refusal of the rules from 40 on, each asked of all claims.
 use borrow.Author.Needs.{needs}
-use Rattle.lines.specs.Rules.{lowest, verdictsFrom40}
-use Rattle.lines.proofs.Verdicts.{or-kept}
+use Rattle.words.specs.Refusals.{firstRefusal}
+use Rattle.words.proofs.Verdicts.{unless-last}
+use Rattle.lines.specs.Rules.{rulesTo43, rulesFrom51, mapRules}
 use Rattle.lines.proofs.Map.first_by_search.Statement.{statement}
 use Rattle.lines.proofs.Map.first_by_search.Tie as tie
 
@@ -11,8 +12,8 @@ rule-54-requires c κs = search needs
 first-clash-requires : tie.Need-first-clash-requires
 first-clash-requires c κs = c .before .pre
 
-both-of-requires : tie.Need-both-of-requires
-both-of-requires c κs = search needs
+at-later-requires : tie.Need-at-later-requires
+at-later-requires c κs = search needs
 
 or-else-requires : tie.Need-or-else-requires
 or-else-requires c κs = search needs
@@ -20,8 +21,8 @@ or-else-requires c κs = search needs
 first-clash-requires-2 : tie.Need-first-clash-requires-2
 first-clash-requires-2 c κs = c .before .before .before .before .pre
 
-both-of-requires-2 : tie.Need-both-of-requires-2
-both-of-requires-2 c κs = search needs
+at-later-requires-2 : tie.Need-at-later-requires-2
+at-later-requires-2 c κs = search needs
 
 or-else-requires-2 : tie.Need-or-else-requires-2
 or-else-requires-2 c κs = search needs
@@ -29,8 +30,8 @@ or-else-requires-2 c κs = search needs
 first-clash-requires-3 : tie.Need-first-clash-requires-3
 first-clash-requires-3 c κs = c .before .before .before .before .before .before .before .pre
 
-both-of-requires-3 : tie.Need-both-of-requires-3
-both-of-requires-3 c κs = search needs
+at-later-requires-3 : tie.Need-at-later-requires-3
+at-later-requires-3 c κs = search needs
 
 or-else-requires-3 : tie.Need-or-else-requires-3
 or-else-requires-3 c κs = search needs
@@ -53,8 +54,8 @@ or-else-requires-5 c κs = search needs
 first-clash-requires-4 : tie.Need-first-clash-requires-4
 first-clash-requires-4 c κs = c .before .before .before .before .before .before .before .before .before .before .before .before .before .before .before .pre
 
-alone-of-requires : tie.Need-alone-of-requires
-alone-of-requires c κs = search needs
+at-later-requires-4 : tie.Need-at-later-requires-4
+at-later-requires-4 c κs = search needs
 
 or-else-requires-6 : tie.Need-or-else-requires-6
 or-else-requires-6 c κs = search needs
@@ -66,13 +67,13 @@ or-else-requires-7 : tie.Need-or-else-requires-7
 or-else-requires-7 c κs = search needs
 
 returns : tie.Need-returns
-unfolding lowest verdictsFrom40
+unfolding firstRefusal mapRules rulesTo43 rulesFrom51
 returns c =
     rw (
       c .or-else7 .ensures,
       c .before .rule-40 .ensures,
       c .before .before .or-else6 .ensures,
-      c .before .before .before .alone-of .ensures,
+      c .before .before .before .at-later4 .ensures,
       c .before .before .before .before .first-clash4 .ensures,
       c .before .before .before .before .before .or-else5 .ensures,
       c .before .before .before .before .before .before .spot-verdict .ensures,
@@ -80,16 +81,16 @@ returns c =
       c .before .before .before .before .before .before .before .before .or-else4 .ensures,
       c .before .before .before .before .before .before .before .before .before .rule-43 .ensures,
       c .before .before .before .before .before .before .before .before .before .before .or-else3 .ensures,
-      c .before .before .before .before .before .before .before .before .before .before .before .both-of3 .ensures,
+      c .before .before .before .before .before .before .before .before .before .before .before .at-later3 .ensures,
       c .before .before .before .before .before .before .before .before .before .before .before .before .first-clash3 .ensures,
       c .before .before .before .before .before .before .before .before .before .before .before .before .before .or-else2 .ensures,
-      c .before .before .before .before .before .before .before .before .before .before .before .before .before .before .both-of2 .ensures,
+      c .before .before .before .before .before .before .before .before .before .before .before .before .before .before .at-later2 .ensures,
       c .before .before .before .before .before .before .before .before .before .before .before .before .before .before .before .first-clash2 .ensures,
       c .before .before .before .before .before .before .before .before .before .before .before .before .before .before .before .before .or-else .ensures,
-      c .before .before .before .before .before .before .before .before .before .before .before .before .before .before .before .before .before .both-of .ensures,
+      c .before .before .before .before .before .before .before .before .before .before .before .before .before .before .before .before .before .at-later .ensures,
       c .before .before .before .before .before .before .before .before .before .before .before .before .before .before .before .before .before .before .first-clash .ensures,
       c .before .before .before .before .before .before .before .before .before .before .before .before .before .before .before .before .before .before .before .rule-54 .ensures,
-      or-kept,
+      unless-last,
     )
 
 pub first-by-search-spec : {M : Type 1} → statement M
@@ -98,13 +99,13 @@ first-by-search-spec =
     (tie.spec
     rule-54-requires
     first-clash-requires
-    both-of-requires
+    at-later-requires
     or-else-requires
     first-clash-requires-2
-    both-of-requires-2
+    at-later-requires-2
     or-else-requires-2
     first-clash-requires-3
-    both-of-requires-3
+    at-later-requires-3
     or-else-requires-3
     rule-43-requires
     or-else-requires-4
@@ -112,7 +113,7 @@ first-by-search-spec =
     spot-verdict-requires
     or-else-requires-5
     first-clash-requires-4
-    alone-of-requires
+    at-later-requires-4
     or-else-requires-6
     rule-40-requires
     or-else-requires-7

@@ -8,7 +8,7 @@ use borrow.Author.Needs.{needs}
 use Rattle.clashes.proofs.Arrays.{length-mapped}
 use Rattle.lines.specs.Says.{says}
 use Rattle.lines.specs.Quiet.{quiet}
-use Rattle.lines.proofs.NoClash.{quiet-lowest}
+use Rattle.lines.proofs.NoClash.{quiet-first}
 use Rattle.lines.proofs.Map.first_from_40.Statement.{statement}
 use Rattle.lines.proofs.Map.first_from_40.Tie as tie
 
@@ -25,7 +25,7 @@ returns c =
     let held : length (a .places .eios) ≡ 4 = search (needs, length-mapped) in
     let room : length (take (a .self .eiocount) (a .self .eios)) ≤ length (a .places .eios) =
     omega (arith, held, c .before .before .before .pre .0, length-take (a .self .eiocount) (a .self .eios)) in
-    c .first-of-quiet .ensures ∙ sym (quiet-lowest (says (a .self)) (a .places) room still (a .madt) (a .fadt))
+    c .first-of-quiet .ensures ∙ sym (quiet-first (says (a .self)) (a .places) room still (a .madt) (a .fadt))
 
 first-by-search-requires : tie.Need-first-by-search-requires
 first-by-search-requires c κs = search needs

@@ -1,5 +1,7 @@
 -- `Map::first_of_quiet` is the first broken rule of 40, 43 and 54.
 use borrow.Author.Needs.{needs}
+use Rattle.words.specs.Refusals.{firstRefusal}
+use Rattle.words.proofs.Verdicts.{unless-last}
 use Rattle.lines.proofs.Map.first_of_quiet.Statement.{statement}
 use Rattle.lines.proofs.Map.first_of_quiet.Tie as tie
 
@@ -19,6 +21,7 @@ or-else-requires-2 : tie.Need-or-else-requires-2
 or-else-requires-2 c κs = search needs
 
 returns : tie.Need-returns
+unfolding firstRefusal
 returns c =
     rw (
       c .or-else2 .ensures,
@@ -26,6 +29,7 @@ returns c =
       c .before .before .or-else .ensures,
       c .before .before .before .rule-43 .ensures,
       c .before .before .before .before .rule-54 .ensures,
+      unless-last,
     )
 
 pub first-of-quiet-spec : {M : Type 1} → statement M

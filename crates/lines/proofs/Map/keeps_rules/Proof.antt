@@ -33,15 +33,15 @@ said-lio-requires c κs = search needs
 bit-in-both-requires : tie.Need-bit-in-both-requires
 bit-in-both-requires c κs = search needs
 
-is-kept-requires : tie.Need-is-kept-requires
-is-kept-requires c κs = search needs
+is-sound-requires : tie.Need-is-sound-requires
+is-sound-requires c κs = search needs
 
 returns-2 : tie.Need-returns-2
 unfolding keepsRules
 returns-2 c =
     let f = c .before .before .before .before in
     rw (
-      c .is-kept .ensures,
+      c .is-sound .ensures,
       f .first-broken .ensures,
       f .before .slot-places .ensures,
       c .before .bit-in-both .ensures,
@@ -60,5 +60,5 @@ keeps-rules-spec =
     ranges-kept-requires
     said-lio-requires
     bit-in-both-requires
-    is-kept-requires
+    is-sound-requires
     returns-2)

@@ -10,15 +10,15 @@ use Rattle.clashes.proofs.Arrays.{length-mapped}
 use Rattle.lines.proofs.Map.rule_40.Statement.{statement}
 use Rattle.lines.proofs.Map.rule_40.Tie as tie
 
-checked-requires : tie.Need-checked-requires
-checked-requires c κs = search needs
+rule-of-requires : tie.Need-rule-of-requires
+rule-of-requires c κs = search needs
 
 returns : tie.Need-returns
 returns c =
     let m = c .before .before .before .before .args .self in
     let held : length (m .eios) ≡ 4 = search (needs, length-mapped) in
     let few : m .eiocount ≤ length (m .eios) = omega arith in
-    rw (c .checked .ensures, lio-present (m .lio), length-take-le (m .eiocount) (m .eios) few)
+    rw (c .rule-of .ensures, lio-present (m .lio), length-take-le (m .eiocount) (m .eios) few)
 
 pub rule-40-spec : {M : Type 1} → statement M
-rule-40-spec = tie.close (tie.spec checked-requires returns)
+rule-40-spec = tie.close (tie.spec rule-of-requires returns)

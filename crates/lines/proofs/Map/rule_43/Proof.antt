@@ -13,15 +13,15 @@ lpc-bridge-requires c κs = search needs
 lacks-bridge-requires : tie.Need-lacks-bridge-requires
 lacks-bridge-requires c κs = search needs
 
-checked-requires : tie.Need-checked-requires
-checked-requires c κs = search needs
+rule-of-requires : tie.Need-rule-of-requires
+rule-of-requires c κs = search needs
 
 returns : tie.Need-returns
 returns c =
     let m = c .before .before .before .before .before .before .args .self in
-    rw (c .checked .ensures, c .before .lacks-bridge .ensures, c .before .before .lpc-bridge .ensures, lpc-present (m .lpc))
+    rw (c .rule-of .ensures, c .before .lacks-bridge .ensures, c .before .before .lpc-bridge .ensures, lpc-present (m .lpc))
 
 pub rule-43-spec : {M : Type 1} → statement M
 rule-43-spec =
     tie.close
-    (tie.spec cast-lpc-bridge lpc-bridge-requires lacks-bridge-requires checked-requires returns)
+    (tie.spec cast-lpc-bridge lpc-bridge-requires lacks-bridge-requires rule-of-requires returns)

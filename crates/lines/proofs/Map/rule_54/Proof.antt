@@ -8,7 +8,7 @@ use denote.Enum.Declared
 use types.Run.{OneOf}
 use borrow.Author.Needs.{needs}
 use Rattle.words.specs.Choice.{if}
-use Rattle.lines.specs.Rules.{lost, check}
+use Rattle.lines.specs.Rules.{lost}
 use Rattle.lines.specs.declared.Route.{Route}
 use Rattle.lines.specs.declared.Route.the-variants.{Arrives, Unwired, NoOwner, Refused}
 use Rattle.lines.proofs.Route.{the-type}
@@ -33,19 +33,19 @@ arrival-requires c κs = search needs
 enum-told : tie.Need-enum-told
 enum-told c = search needs
 
-broken-at-requires : tie.Need-broken-at-requires
-broken-at-requires c κs = search needs
+refuse-requires : tie.Need-refuse-requires
+refuse-requires c κs = search needs
 
 returns : tie.Need-returns
-unfolding check if
+unfolding if
 returns c =
-    rw (c .broken-at .ensures, ← c .before .before .arrival .ensures, others (c .before .before .arrival .result) (c .before .match .keys2))
+    rw (c .refuse .ensures, ← c .before .before .arrival .ensures, others (c .before .before .arrival .result) (c .before .match .keys2))
 
 returns-2 : tie.Need-returns-2
-unfolding check if lost
+unfolding if lost
 returns-2 c = rw (← c .before .before .arrival .ensures, c .enum-told .given .1)
 
 pub rule-54-spec : {M : Type 1} → statement M
 rule-54-spec =
     tie.close
-    (tie.spec cast-arrival arrival-requires enum-told broken-at-requires returns returns-2)
+    (tie.spec cast-arrival arrival-requires enum-told refuse-requires returns returns-2)

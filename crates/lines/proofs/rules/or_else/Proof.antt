@@ -1,6 +1,6 @@
--- `rules::or_else` is the first of two verdicts that is broken.
+-- `rules::or_else` is the first of two verdicts that refuses.
 use borrow.Author.Needs.{needs}
-use Rattle.lines.specs.Rules.{orElse}
+use Rattle.words.specs.Refusals.{unless}
 use Rattle.lines.proofs.rules.or_else.Statement.{statement}
 use Rattle.lines.proofs.rules.or_else.Tie as tie
 
@@ -11,11 +11,11 @@ enum-known-first : tie.Need-enum-known-first
 enum-known-first c = search needs
 
 returns : tie.Need-returns
-unfolding orElse
+unfolding unless
 returns c = rw (c .enum-told .given .1)
 
 returns-2 : tie.Need-returns-2
-unfolding orElse
+unfolding unless
 returns-2 c = rw (c .before .first .given .1)
 
 pub or-else-spec : {M : Type 1} → statement M

@@ -14,13 +14,13 @@ returns : tie.Need-returns
 unfolding spotted
 returns c = rw (c .enum-told .given .1)
 
-broken-at-requires : tie.Need-broken-at-requires
-broken-at-requires c κs = search needs
+refuse-requires : tie.Need-refuse-requires
+refuse-requires c κs = search needs
 
 returns-2 : tie.Need-returns-2
 unfolding spotted
-returns-2 c = rw (c .before .before .spot .given .1) (c .broken-at .ensures)
+returns-2 c = rw (c .before .before .spot .given .1, c .refuse .ensures)
 
 pub spot-verdict-spec : {M : Type 1} → statement M
 spot-verdict-spec =
-    tie.close (tie.spec enum-known-spot enum-told returns broken-at-requires returns-2)
+    tie.close (tie.spec enum-known-spot enum-told returns refuse-requires returns-2)
