@@ -22,7 +22,7 @@ use Rattle.madt.specs.Walk.{rulesInTurn, walkRules, turnedAway, walked}
 use Rattle.madt.specs.declared.Found.{Found}
 use Rattle.madt.specs.declared.Walked.{Walked}
 use Rattle.madt.proofs.Contents.{count-more, count-same, made-many}
-use Rattle.madt.proofs.Checks.{Kept, all-kept, room-core, room-eio, room-msi, room-bio}
+use Rattle.madt.proofs.Checks.{Kept, all-kept, room-core, room-lio, room-eio, room-msi, room-bio, room-lpc}
 
 -- ---- what it found
 -- its verdict is the first refusal of its rules
@@ -102,6 +102,12 @@ module _ (table : List ℕ) (base : ℕ) (h : firstRefusal (walkRules table base
 
   pub few-cores : howMany 17 all ≤ 256
   few-cores = few-of 17 256 (λ n s k t. room-core k t)
+
+  pub few-lios : howMany 18 all ≤ 1
+  few-lios = few-of 18 1 (λ n s k t. room-lio k t)
+
+  pub few-lpcs : howMany 23 all ≤ 1
+  few-lpcs = few-of 23 1 (λ n s k t. room-lpc k t)
 
   pub few-eios : howMany 20 all ≤ 4
   few-eios = few-of 20 4 (λ n s k t. room-eio k t)

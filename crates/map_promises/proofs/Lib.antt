@@ -23,4 +23,5 @@ pub mod Shelves
 pub mod InOrder
 pub mod Rising
 pub mod WalkKeepsBooks
+pub mod WalkInTableOrder
 pub mod NormalMapsEqual

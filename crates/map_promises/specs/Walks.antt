@@ -1,21 +1,50 @@
 -- What is promised of the walk of a MADT: what it finds is a map in good order. Each statement stands alone; proofs/ has a
 -- theorem of the same name for it.
-use Prim.Native.Nat.{ℕ, _≤_}
+use Prim.Native.Nat.{ℕ, _+_, _≤_}
 use mathlib.Core.Bool.{true, false}
-use mathlib.Core.List.{List}
+use mathlib.Core.List.{List, _∷_, _++_}
 use mathlib.Core.Path.{_≡_}
 use lib.ListN.{length, getD}
 use Rattle.words.specs.declared.Verdict.the-variants.{Sound}
 use Rattle.kinds.specs.Ranges.{bitInBoth}
-use Rattle.kinds.specs.Used.{noHalf, noEio, noBio, noMsi}
+use Rattle.kinds.specs.Makers.{lioOf, eioOf, msiOf, bioOf, lpcOf}
+use Rattle.kinds.specs.Used.{noHalf, noLio, noEio, noBio, noMsi, noLpc, saidLio}
 use Rattle.lines.specs.Says.{says, Same}
 use Rattle.lines.specs.Rules.{tooMany, rangesKept}
 use Rattle.lines.specs.declared.Map.{Map}
 use Rattle.lines.specs.declared.Places.{Places}
+use Rattle.madt.specs.Pieces.{Whole, pieces, structures}
+use Rattle.madt.specs.Rules.{isType}
+use Rattle.madt.specs.Contents.{howMany}
 use Rattle.madt.specs.Walk.{walked}
 use Rattle.map_promises.specs.Structures.{Placed}
 
--- "its unused places, an unused half's byte among them, hold 0": of the four places for EIO, BIO and MSI those past the count;
+-- ---- "The map holds the used fields of LIO, EIO, BIO, MSI and LPC, in table order"
+-- Let the structures of a MADT, which stands at `base`, be some, then x, then others. What x makes stands in the map behind what those
+-- of its kind before it make, and its place beside it.
+pub record InTableOrder (base : ℕ) (all : List Whole) (map : Map) (places : Places) : Type 0 where
+  pub lio : (before later : List Whole) (x : Whole) → all ≡ before ++ (x ∷ later) → isType 18 (x .bytes) ≡ true
+      → (map .lio ≡ saidLio (lioOf (x .bytes))) × (places .lio ≡ base + x .at)
+  pub eio : (before later : List Whole) (x : Whole) → all ≡ before ++ (x ∷ later) → isType 20 (x .bytes) ≡ true
+      → (getD (map .eios) (howMany 20 before) noEio ≡ eioOf (x .bytes)) × (getD (places .eios) (howMany 20 before) 0 ≡ base + x .at)
+  pub msi : (before later : List Whole) (x : Whole) → all ≡ before ++ (x ∷ later) → isType 21 (x .bytes) ≡ true
+      → (getD (map .msis) (howMany 21 before) noMsi ≡ msiOf (x .bytes)) × (getD (places .msis) (howMany 21 before) 0 ≡ base + x .at)
+  pub bio : (before later : List Whole) (x : Whole) → all ≡ before ++ (x ∷ later) → isType 22 (x .bytes) ≡ true
+      → (getD (map .bios) (howMany 22 before) noBio ≡ bioOf (x .bytes)) × (getD (places .bios) (howMany 22 before) 0 ≡ base + x .at)
+  pub lpc : (before later : List Whole) (x : Whole) → all ≡ before ++ (x ∷ later) → isType 23 (x .bytes) ≡ true
+      → (map .lpc ≡ lpcOf (x .bytes)) × (places .lpc ≡ base + x .at)
+  -- and nothing else does
+  pub counts : (map .eiocount ≡ howMany 20 all) × (map .msicount ≡ howMany 21 all) × (map .biocount ≡ howMany 22 all)
+  pub nolio : howMany 18 all ≡ 0 → map .lio ≡ noLio
+  pub nolpc : howMany 23 all ≡ 0 → map .lpc ≡ noLpc
+
+-- what the walk of a MADT finds, if it refuses nothing, is that
+abbrev pub WalkInTableOrder : List ℕ → ℕ → ℕ → Type 0
+WalkInTableOrder table base sci =
+    walked table base sci .verdict ≡ Sound
+    → InTableOrder base (structures (pieces table 44)) (walked table base sci .found .map) (walked table base sci .found .places)
+
+-- ---- "its unused places, an unused half's byte among them, hold 0": of the four places for EIO, BIO and MSI those past the count;
 -- the byte of a half with mask 0; all that an absent LIO or LPC would have
 pub record Normal (map : Map) : Type 0 where
   pub foureios : length (map .eios) ≡ 4

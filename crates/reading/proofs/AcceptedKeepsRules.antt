@@ -37,7 +37,7 @@ accepted-keeps-rules capture h =
     let b = books capture s in
     rw (s .map)
     (places-do-not-matter (found .map) (found .places) (t .madt .place) (t .fadt .place) (b .placed) .0 (b .r36) (b .r37)
-    (rules-kept (madtBytes capture (t .madt)) t found (s .rules)))
+    (rules-kept capture t (s .rules) (b .r38)))
 
 -- a question to it has its answer without 61
 module _ (capture : List ℕ) (h : scan capture .verdict ≡ Sound) where

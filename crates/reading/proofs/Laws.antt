@@ -1,6 +1,6 @@
 -- Laws of the reading's definitions: what each answer is, by what was found.
 use mathlib.Core.Bool.{true, false}
-use mathlib.Core.List.{List}
+use mathlib.Core.List.{List, _∷_, _++_, append-assoc}
 use mathlib.Core.Path.{_≡_, refl, ap, _∙_}
 use Prim.Native.Nat.{ℕ, _+_, _*_, _≤_}
 use native.Mathlib.Omega.{arith}
@@ -8,24 +8,28 @@ use lib.Dec.{leb}
 use lib.ListN.{length, drop, length-take}
 use Rattle.words.specs.Refusals.{refused, unless, firstRefusal}
 use Rattle.words.specs.declared.Refusal.{Refusal}
+use Rattle.words.specs.declared.Verdict.{Verdict}
 use Rattle.words.specs.declared.Verdict.the-variants.{Sound, Refused}
 use Rattle.words.proofs.Choices.{yes-if, no-if}
-use Rattle.words.proofs.Verdicts.{joined-refused, joined-sound}
-use Rattle.tables.specs.Survey.{surveyRules, survey}
+use Rattle.words.proofs.Verdicts.{first-kept, joined-refused, joined-sound}
+use Rattle.tables.specs.Survey.{tablesOf, surveyRules, survey}
 use Rattle.tables.specs.declared.Table.{Table}
 use Rattle.tables.specs.declared.Tables.{Tables}
 use Rattle.tables.specs.declared.Survey.the-variants as surveys
 use Rattle.tables.proofs.Inside.{survey-told, survey-is}
 use Rattle.lines.specs.Answers.{refusalCode}
+use Rattle.lines.specs.Says.{says}
+use Rattle.lines.specs.Rules.{tooMany, mapRules, firstBroken}
 use Rattle.lines.specs.declared.Map.{Map}
-use Rattle.lines.specs.declared.Verdict.{Verdict as Kept}
-use Rattle.lines.specs.declared.Verdict.the-variants as rules
+use Rattle.lines.specs.declared.Places.{Places}
+use Rattle.madt.specs.Walk.{walkRules}
+use Rattle.processors.specs.Repeats.{firstRepeat}
 use Rattle.processors.specs.Listing.{processors, count, hasRoom}
 use Rattle.processors.specs.Image.{image}
 use Rattle.processors.proofs.Image.{eight-each}
 use Rattle.processors.specs.declared.Repeat.{Repeat}
 use Rattle.processors.specs.declared.Repeat.the-variants.{At, Nowhere}
-use Rattle.reading.specs.Scan.{madtBytes, walkOf, turnedDown, repeatRule, mapRule, madtRules, scanRules, accepted, scan}
+use Rattle.reading.specs.Scan.{madtBytes, walkOf, turnedDown, repeatRule, processorRule, madtRules, lineRules, rulesBefore51, allRules, accepted, scan}
 use Rattle.reading.specs.Entries.{answerIn, readCode}
 use Rattle.reading.specs.Reading.{withoutMap, answered}
 use Rattle.reading.specs.declared.Answer.{Answer}
@@ -45,26 +49,42 @@ pub repeat-at : (base : ℕ) (r : Repeat) {offset : ℕ} → r ≡ At offset →
 unfolding repeatRule
 repeat-at base r h = rw h
 
--- 40 to 54
-pub map-kept : (v : Kept) → v ≡ rules.Kept → mapRule v ≡ Sound
-unfolding mapRule
-map-kept v h = rw h
+-- 40 to 54, of a map in which no kind has too many
+pub map-judged : (map : Map) (places : Places) (madt fadt : ℕ) → tooMany map ≡ false
+    → firstBroken map places madt fadt ≡ firstRefusal (mapRules (says map) places madt fadt)
+unfolding firstBroken
+map-judged map places madt fadt few = first-kept (tooMany map) 38 madt _ few refl
 
-pub map-broken : (v : Kept) {refusal : Refusal} (partner : ℕ) → v ≡ rules.Broken refusal partner → mapRule v ≡ Refused refusal
-unfolding mapRule
-map-broken v partner h = rw h
+-- ---- the rules after 30: those of the walk, and 39 to 54
+abbrev pub laterRules : List ℕ → Tables → List Verdict
+laterRules capture t =
+    let table = madtBytes capture (t .madt) in
+    let found = walkOf capture t .found in
+    repeatRule (t .madt .place) (firstRepeat table)
+    ∷ processorRule (t .madt .place) (count table)
+    ∷ mapRules (says (found .map)) (found .places) (t .madt .place) (t .fadt .place)
+
+pub after-walk : (capture : List ℕ) (t : Tables)
+    → madtRules capture t ++ lineRules capture t ≡ walkRules (madtBytes capture (t .madt)) (t .madt .place) ++ laterRules capture t
+unfolding madtRules lineRules mapRules
+after-walk capture t = append-assoc (walkRules (madtBytes capture (t .madt)) (t .madt .place)) _ _
+
+-- all rules, by what stands before 31 and after
+pub in-two : (capture : List ℕ) → let t = tablesOf capture in allRules capture ≡ surveyRules capture ++ (madtRules capture t ++ lineRules capture t)
+unfolding allRules rulesBefore51
+in-two capture = append-assoc (surveyRules capture) _ _
 
 -- the survey, refused or not
 pub scan-refused : (capture : List ℕ) {refusal : Refusal} → survey capture ≡ surveys.Refused refusal → scan capture ≡ turnedDown refusal
-unfolding scan scanRules
-scan-refused capture h = joined-refused turnedDown (surveyRules capture) _ _ (survey-told capture h)
+unfolding scan
+scan-refused capture h = rw (in-two capture) (joined-refused turnedDown (surveyRules capture) _ _ (survey-told capture h))
 
 pub scan-found : (capture : List ℕ) {t : Tables} → survey capture ≡ surveys.Found t
-    → scan capture ≡ unless turnedDown (firstRefusal (madtRules capture t)) (accepted t (walkOf capture t .found .map))
-unfolding scan scanRules
+    → scan capture ≡ unless turnedDown (firstRefusal (madtRules capture t ++ lineRules capture t)) (accepted t (walkOf capture t .found .map))
+unfolding scan
 scan-found capture h =
-    joined-sound turnedDown (surveyRules capture) _ _ (survey-told capture h)
-    ∙ ap (λ (t : Tables). unless turnedDown (firstRefusal (madtRules capture t)) (accepted t (walkOf capture t .found .map))) (survey-is capture h)
+    rw (in-two capture) (joined-sound turnedDown (surveyRules capture) _ _ (survey-told capture h))
+    ∙ ap (λ (t : Tables). unless turnedDown (firstRefusal (madtRules capture t ++ lineRules capture t)) (accepted t (walkOf capture t .found .map))) (survey-is capture h)
 
 -- the list has room, or not
 pub answered-read : (table : List ℕ) (map : Map) (list : List ℕ) → hasRoom (processors table) list ≡ true

@@ -10,13 +10,11 @@ use Rattle.words.specs.declared.Verdict.the-variants.{Sound, Refused}
 use Rattle.tables.specs.Survey.{tablesOf, surveyRules}
 use Rattle.tables.specs.declared.Table.{Table}
 use Rattle.tables.specs.declared.Tables.{Tables}
-use Rattle.lines.specs.Rules.{firstBroken}
+use Rattle.lines.specs.Says.{says}
+use Rattle.lines.specs.Rules.{rulesTo43, rulesFrom51}
 use Rattle.lines.specs.declared.Map.{Map}
-use Rattle.lines.specs.declared.Verdict.the-variants as rules
-use Rattle.lines.specs.declared.Verdict.{Verdict as Kept}
-use Rattle.madt.specs.Walk.{walked}
-use Rattle.madt.specs.Adding.{nothing}
-use Rattle.madt.specs.declared.Found.{Found}
+use Rattle.madt.specs.Contents.{mapOf}
+use Rattle.madt.specs.Walk.{walkRules, walked}
 use Rattle.madt.specs.declared.Walked.{Walked}
 use Rattle.processors.specs.Listing.{count}
 use Rattle.processors.specs.Repeats.{firstRepeat}
@@ -34,7 +32,7 @@ walkOf capture t = walked (madtBytes capture (t .madt)) (t .madt .place) (t .sci
 
 -- "no map": the fixed empty one
 unfoldable pub emptyMap : Map
-emptyMap = nothing 0 .map
+emptyMap = mapOf 0 []
 
 -- a refusal comes with no map and no MADT
 unfoldable pub turnedDown : Refusal → Scan
@@ -49,33 +47,36 @@ repeatRule base (At offset) = Refused (refused 39 (base + offset))
 unfoldable pub processorRule : ℕ → ℕ → Verdict
 processorRule base processors = rule (eqb processors 0) 40 base
 
--- the rest of 40, and 41 to 54: what the map breaks first
-unfoldable pub mapRule : Kept → Verdict
-mapRule rules.Kept = Sound
-mapRule (rules.Broken refusal partner) = Refused refusal
-
--- 39 to 54
-unfoldable pub rulesAfterWalk : List ℕ → Tables → Found → List Verdict
-rulesAfterWalk table t found =
-    repeatRule (t .madt .place) (firstRepeat table)
-    ∷ processorRule (t .madt .place) (count table)
-    ∷ mapRule (firstBroken (found .map) (found .places) (t .madt .place) (t .fadt .place))
-    ∷ []
-
--- 31 to 38 of the structures in turn, then the rest: "39 after all structures"
+-- ---- the order of all rules
+-- 31 to 38 of the structures in turn; then 39 and 40 of the processors, "39 after all structures"; then 40 to 43 of the map
 unfoldable pub madtRules : List ℕ → Tables → List Verdict
 madtRules capture t =
-    walkOf capture t .verdict ∷ rulesAfterWalk (madtBytes capture (t .madt)) t (walkOf capture t .found)
+    let table = madtBytes capture (t .madt) in
+    let found = walkOf capture t .found in
+    walkRules table (t .madt .place)
+    ++ (repeatRule (t .madt .place) (firstRepeat table)
+    ∷ processorRule (t .madt .place) (count table)
+    ∷ rulesTo43 (says (found .map)) (found .places) (t .madt .place))
 
--- the order of all rules: 1 to 30, then 31 to 54
-unfoldable pub scanRules : List ℕ → List Verdict
-scanRules capture = surveyRules capture ++ madtRules capture (tablesOf capture)
+-- 51 to 54 of the map
+unfoldable pub lineRules : List ℕ → Tables → List Verdict
+lineRules capture t =
+    let found = walkOf capture t .found in
+    rulesFrom51 (says (found .map)) (found .places) (t .fadt .place)
 
--- what is found where none of them is broken
+-- all rules that come before 51: first 1 to 30, which crates/tables/specs/Survey lists
+unfoldable pub rulesBefore51 : List ℕ → List Verdict
+rulesBefore51 capture = surveyRules capture ++ madtRules capture (tablesOf capture)
+
+-- all rules up to 54
+unfoldable pub allRules : List ℕ → List Verdict
+allRules capture = rulesBefore51 capture ++ lineRules capture (tablesOf capture)
+
+-- ---- what is found where none of them is broken
 unfoldable pub accepted : Tables → Map → Scan
 accepted t map = record { verdict = Sound; madt = t .madt; map = map }
 
 unfoldable pub scan : List ℕ → Scan
 scan capture =
     let t = tablesOf capture in
-    unless turnedDown (firstRefusal (scanRules capture)) (accepted t (walkOf capture t .found .map))
+    unless turnedDown (firstRefusal (allRules capture)) (accepted t (walkOf capture t .found .map))

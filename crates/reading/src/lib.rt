@@ -2,14 +2,16 @@
 ghost use mathlib.Core.Path.{_≡_};
 ghost use Prim.Native.Nat.{_<_};
 ghost use lib.ListN.{length};
-ghost use Rattle.lines.specs.Rules.{firstBroken};
+ghost use mathlib.Core.Bool.{false};
+ghost use mathlib.Core.List.{_∷_, _++_};
+ghost use Rattle.lines.specs.Says.{says};
+ghost use Rattle.lines.specs.Rules.{tooMany, mapRules};
 ghost use Rattle.processors.specs.Listing.{processors, count, filled};
 ghost use Rattle.processors.specs.Repeats.{firstRepeat};
 ghost use Rattle.words.specs.Refusals.{unless, firstRefusal};
-ghost use Rattle.reading.specs.Scan.{madtBytes, emptyMap, turnedDown, repeatRule, processorRule, mapRule, rulesAfterWalk, madtRules, accepted, walkOf, scan};
+ghost use Rattle.reading.specs.Scan.{madtBytes, emptyMap, turnedDown, repeatRule, processorRule, madtRules, lineRules, accepted, walkOf, scan};
 ghost use Rattle.reading.specs.Reading.{withoutMap, answered, readingOf, listAfter};
 use lines::Map;
-use lines::Verdict as Kept;
 use madt::Found;
 use processors::Filled;
 use processors::Repeat;
@@ -86,31 +88,23 @@ fn check_processors(enabled: u16, base: u16) -> Verdict
     Verdict::Sound
 }
 
-// The rest of 40, and 41 to 54.
-fn check_map(found: Found, madt: u16, fadt: u16) -> Verdict
-    ensures { λ r. ⌜ r ≡ mapRule (firstBroken (found .map) (found .places) madt fadt) ⌝ }
-{
-    let map = found.map;
-    let places = found.places;
-    match map.first_broken(places, madt as u32, fadt as u32) {
-        Kept::Kept => Verdict::Sound,
-        Kept::Broken(refusal, _) => Verdict::Refused(refusal),
-    }
-}
-
-// Refusals 39 to 54. The walk has counted the processors.
+// Refusals 39 to 54. The walk has counted the processors, and found no kind to have too many.
 fn rules_after_walk(table: &[u8], t: Tables, found: Found) -> Verdict
     requires { ⌜ length (now table) < 65536 ⌝ }
     requires { ⌜ found .enabled ≡ count (now table) ⌝ }
-    ensures { λ r. ⌜ r ≡ firstRefusal (rulesAfterWalk (now (table .entry)) t found) ⌝ }
+    requires { ⌜ tooMany (found .map) ≡ false ⌝ }
+    ensures { λ r. let base = t .madt .place in
+        ⌜ r ≡ firstRefusal (repeatRule base (firstRepeat (now (table .entry))) ∷ processorRule base (count (now (table .entry))) ∷ mapRules (says (found .map)) (found .places) base (t .fadt .place)) ⌝ }
 {
     let madt = t.madt;
     let fadt = t.fadt;
+    let map = found.map;
+    let places = found.places;
     match check_repeats(table, madt.place) {
         Verdict::Refused(refusal) => Verdict::Refused(refusal),
         Verdict::Sound => match check_processors(found.enabled, madt.place) {
             Verdict::Refused(refusal) => Verdict::Refused(refusal),
-            Verdict::Sound => check_map(found, madt.place, fadt.place),
+            Verdict::Sound => map.first_broken(places, madt.place as u32, fadt.place as u32),
         },
     }
 }
@@ -132,7 +126,7 @@ fn judge(t: Tables, map: Map, verdict: Verdict) -> Scan
 // The walk of the MADT that a survey found, and what comes after it.
 fn scan_tables(capture: &[u8], t: Tables) -> Scan
     ensures { λ r. let c = now (capture .entry) in
-        ⌜ r ≡ unless turnedDown (firstRefusal (madtRules c t)) (accepted t (walkOf c t .found .map)) ⌝ }
+        ⌜ r ≡ unless turnedDown (firstRefusal (madtRules c t ++ lineRules c t)) (accepted t (walkOf c t .found .map)) ⌝ }
 {
     let madt = t.madt;
     let walked = madt::walk::walk_madt(capture, madt, t.sci);

@@ -1,5 +1,6 @@
 -- `reading::empty_map` is the map of nothing found.
 use mathlib.Core.Path.{ap}
+use Rattle.madt.specs.Contents.{foundIn}
 use Rattle.madt.specs.declared.Found.{Found}
 use Rattle.reading.specs.Scan.{emptyMap}
 use borrow.Author.Needs.{needs}
@@ -10,7 +11,7 @@ nothing-requires : tie.Need-nothing-requires
 nothing-requires c κs = search needs
 
 returns : tie.Need-returns
-unfolding emptyMap
+unfolding emptyMap foundIn
 returns c = ap (λ (f : Found). f .map) (c .before .nothing .ensures)
 
 pub empty-map-spec : {M : Type 1} → statement M
