@@ -3,11 +3,15 @@ use Prim.Native.Nat.{ℕ, _+_, _-_, _<_, _≤_}
 use native.Mathlib.Omega.{arith}
 use mathlib.Core.Path.{_≡_, refl, sym, _∙_}
 use mathlib.Core.Logic.{⊎-elim}
+use mathlib.Core.List.{_∷_}
 use mathlib.Core.Bool.{Bool, true, false, not, _&&_, true≢false}
 use borrow.Author.Tests.{eqb-true, not-true, not-false}
 use lib.Bits.{bitAnd}
 use lib.Dec.{eqb}
 use lib.ListN.{length}
+use Rattle.words.specs.Refusals.{rule, isSound}
+use Rattle.words.specs.declared.Verdict.the-variants.{Sound}
+use Rattle.words.proofs.Verdicts.{is-sound, rule-kept, each-sound}
 use Rattle.kinds.specs.Ranges.{bitInBoth}
 use Rattle.kinds.specs.declared.Bio.{Bio}
 use Rattle.clashes.specs.Search.{firstClash, firstLone}
@@ -16,11 +20,10 @@ use Rattle.clashes.proofs.Logic.{and-left, and-right}
 use Rattle.lines.specs.Says.{Said, says}
 use Rattle.lines.specs.Routes.{bridge}
 use Rattle.lines.specs.Claims.{claims}
-use Rattle.lines.specs.Rules.{tooMany, check, noBridge, rangesKept, ruleClash, lowest, verdictsFrom40, firstBroken, isKept, keepsRules, slotPlaces}
+use Rattle.lines.specs.Rules.{tooMany, noBridge, rangesKept, ruleClash, mapRules, firstBroken, keepsRules, slotPlaces}
 use Rattle.lines.specs.declared.Map.{Map}
 use Rattle.lines.specs.declared.Bridge.{Bridge}
 use Rattle.lines.specs.declared.Bridge.the-variants.{Is, None}
-use Rattle.lines.specs.declared.Verdict.the-variants.{Kept}
 use Rattle.lines.proofs.Counts.{counts, few-of-kept}
 use Rattle.map_promises.specs.Sources.{pin, slot, eioAt, bioAt, msiAt}
 use Rattle.map_promises.specs.Structures.{Structure, lio, eio}
@@ -31,7 +34,7 @@ use Rattle.map_promises.proofs.Meetings.{no-sharing}
 use Rattle.map_promises.proofs.Sharing.{node-agrees, number-agrees, vector-agrees, core-agrees, number-sharing, vector-sharing}
 use Rattle.map_promises.proofs.Slots.{slots-placed}
 use Rattle.map_promises.proofs.Unused.{lio-said}
-use Rattle.map_promises.proofs.Verdicts.{eio-there, check-kept, alone-kept, both-kept, spotted-kept, both-of-kept, each-kept, kept-yes}
+use Rattle.map_promises.proofs.Verdicts.{eio-there, later-kept, spotted-kept}
 
 -- the rules, as facts about what is said
 pub record Good (said : Said) : Type 0 where
@@ -52,32 +55,32 @@ behind-bridge present (Is x) h p = (x, refl)
 behind-bridge present None h p = absurd (true≢false (sym p ∙ h))
 
 pub good : (map : Map) → keepsRules map ≡ true → Good (says map)
-unfolding keepsRules firstBroken verdictsFrom40
+unfolding keepsRules firstBroken mapRules
 good map h =
     let said = says map in
     let w = rangesKept said && not (bitInBoth (said .lio)) in
-    let r = and-left w (isKept (firstBroken map slotPlaces 0 0)) h in
-    let v = kept-yes (firstBroken map slotPlaces 0 0) (and-right w (isKept (firstBroken map slotPlaces 0 0)) h) in
+    let r = and-left w (isSound (firstBroken map slotPlaces 0 0)) h in
+    let v = is-sound (firstBroken map slotPlaces 0 0) (and-right w (isSound (firstBroken map slotPlaces 0 0)) h) in
     let ranged = and-left (rangesKept said) (not (bitInBoth (said .lio))) r in
     let apart = not-true (bitInBoth (said .lio)) (and-right (rangesKept said) (not (bitInBoth (said .lio))) r) in
     let ok = slots-placed map (counts map (few-of-kept map h)) in
-    let f = each-kept (verdictsFrom40 said slotPlaces 0 0) (both-of-kept (check 38 (tooMany map) 0) (lowest (verdictsFrom40 said slotPlaces 0 0)) v .1) in
-    let some = eio-there said 0 (f 0) in
-    let hub = bio-hub said ranged slotPlaces ok (spotted-kept 42 (firstLone (claims said slotPlaces)) (f 2)) in
+    let f = each-sound (rule (tooMany map) 38 0 ∷ mapRules said slotPlaces 0 0) v in
+    let some = eio-there said 0 (f 1) in
+    let hub = bio-hub said ranged slotPlaces ok (spotted-kept 42 (firstLone (claims said slotPlaces)) (f 3)) in
     let low0 = lio-said (map .lio) .0 in
     let high0 = lio-said (map .lio) .1 in
-    let none : (n : ℕ) → ruleClash n (claims said slotPlaces) ≡ Kept → firstClash n (claims said slotPlaces) ≡ NoPair =
-    λ n. both-kept n (firstClash n (claims said slotPlaces)) in
+    let none : (n : ℕ) → ruleClash n (claims said slotPlaces) ≡ Sound → firstClash n (claims said slotPlaces) ≡ NoPair =
+    λ n. later-kept n (firstClash n (claims said slotPlaces)) in
     record {
       ranged = ranged;
       masks = eqb-true _ 0 (not-false (eqb (bitAnd (said .lio .low .mask) (said .lio .high .mask)) 0) apart);
       some = some;
-      no41 = no-sharing said slotPlaces ok (node-agrees said ranged) (alone-kept 41 (firstClash 41 (claims said slotPlaces)) (f 1));
+      no41 = no-sharing said slotPlaces ok (node-agrees said ranged) (none 41 (f 2));
       hub = hub;
-      behind = behind-bridge (said .lpc .present) (bridge (said .bios)) (check-kept 43 (noBridge (said .lpc .present) (bridge (said .bios))) 14 (f 3));
-      no51 = λ w. no-sharing said slotPlaces ok (number-agrees said ranged) (none 51 (f 4)) (number-sharing said w);
-      no52 = λ w. no-sharing said slotPlaces ok (vector-agrees said ranged some hub) (none 52 (f 5)) (vector-sharing said w);
-      no53 = no-sharing said slotPlaces ok (core-agrees said ranged low0 high0) (none 53 (f 6));
+      behind = behind-bridge (said .lpc .present) (bridge (said .bios)) (rule-kept (noBridge (said .lpc .present) (bridge (said .bios))) 43 14 (f 4));
+      no51 = λ w. no-sharing said slotPlaces ok (number-agrees said ranged) (none 51 (f 5)) (number-sharing said w);
+      no52 = λ w. no-sharing said slotPlaces ok (vector-agrees said ranged some hub) (none 52 (f 6)) (vector-sharing said w);
+      no53 = no-sharing said slotPlaces ok (core-agrees said ranged low0 high0) (none 53 (f 7));
     }
 
 -- two numbers that cannot differ are equal

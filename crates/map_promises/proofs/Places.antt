@@ -2,8 +2,12 @@
 use Prim.Native.Nat.{ℕ}
 use mathlib.Core.Path.{_≡_, _∙_, ap}
 use mathlib.Core.Bool.{Bool, true, false, not, _&&_, _||_}
+use mathlib.Core.List.{_∷_}
 use lib.Dec.{eqb}
 use lib.ListN.{length}
+use Rattle.words.specs.Refusals.{rule, unless, firstRefusal, isSound}
+use Rattle.words.specs.declared.Verdict.the-variants.{Sound}
+use Rattle.words.proofs.Verdicts.{is-sound, rule-sound, rule-kept, each-sound}
 use Rattle.kinds.specs.Ranges.{bitInBoth}
 use Rattle.clashes.specs.Rules.{noNode, noEio, lone}
 use Rattle.clashes.specs.Search.{firstClash, firstLone}
@@ -15,10 +19,9 @@ use Rattle.clashes.proofs.Searched.{none-lone, lone-none}
 use Rattle.lines.specs.Says.{Said, says}
 use Rattle.lines.specs.Claims.{claims}
 use Rattle.lines.specs.Routes.{bridge, arrival}
-use Rattle.lines.specs.Rules.{tooMany, check, noBridge, lost, rangesKept, orElse, lowest, verdictsFrom40, firstBroken, isKept, keepsRules, slotPlaces}
+use Rattle.lines.specs.Rules.{tooMany, noBridge, lost, rangesKept, ruleClash, mapRules, firstBroken, keepsRules, slotPlaces}
 use Rattle.lines.specs.declared.Map.{Map}
 use Rattle.lines.specs.declared.Places.{Places}
-use Rattle.lines.specs.declared.Verdict.the-variants.{Kept}
 use Rattle.lines.proofs.Counts.{counts, few-of-kept}
 use Rattle.map_promises.specs.Structures.{claimOf, Placed}
 use Rattle.map_promises.specs.Statements.{PlacesDoNotMatter}
@@ -26,7 +29,7 @@ use Rattle.map_promises.proofs.Logic.{same-bool}
 use Rattle.map_promises.proofs.Meetings.{same-claim, member, of-member, itself, no-sharing, finds-nothing}
 use Rattle.map_promises.proofs.Members.{every-mem, mem-every}
 use Rattle.map_promises.proofs.Slots.{slots-placed}
-use Rattle.map_promises.proofs.Verdicts.{check-kept, kept-check, alone-kept, none-alone, both-kept, none-both, spotted-kept, nowhere-spotted, both-of-kept, each-kept, kept-yes}
+use Rattle.map_promises.proofs.Verdicts.{later-kept, kept-later, spotted-kept, kept-spotted}
 
 module _ (said : Said) (p q : Places) (op : Placed said p) (oq : Placed said q) where
   -- no clash here, no clash there
@@ -54,51 +57,52 @@ module _ (said : Said) (p q : Places) (op : Placed said p) (oq : Placed said q) 
       ∙ ap (λ (t : Bool). not (eqb (claimOf said p (v .0) .hub) noNode) && t) (same (claimOf said p (v .0) .hub))
       ∙ none-lone (claims said p) h (claimOf said p (v .0)) (member said p op (v .0) (v .1)))
 
-  -- all rules from 40 on
-  from-40 : (a b c d : ℕ) → lowest (verdictsFrom40 said p a b) ≡ Kept → lowest (verdictsFrom40 said q c d) ≡ Kept
-  unfolding verdictsFrom40 lowest orElse
-  from-40 a b c d h =
-      let f = each-kept (verdictsFrom40 said p a b) h in
-      let bad40 = not (said .lio .present) || eqb (length (said .eios)) 0 in
-      let bad43 = noBridge (said .lpc .present) (bridge (said .bios)) in
-      let bad54 = lost (arrival said (said .sci)) in
-      let m = clash-moves said p q op oq in
-      let e40 = kept-check 40 bad40 c (check-kept 40 bad40 a (f 0)) in
-      let e41 = none-alone 41 (firstClash 41 (claims said q)) (m 41 (alone-kept 41 (firstClash 41 (claims said p)) (f 1))) in
-      let e42 = nowhere-spotted 42 (firstLone (claims said q)) (lone-moves (spotted-kept 42 (firstLone (claims said p)) (f 2))) in
-      let e43 = kept-check 43 bad43 (q .lpc) (check-kept 43 bad43 (p .lpc) (f 3)) in
-      let e51 = none-both 51 (firstClash 51 (claims said q)) (m 51 (both-kept 51 (firstClash 51 (claims said p)) (f 4))) in
-      let e52 = none-both 52 (firstClash 52 (claims said q)) (m 52 (both-kept 52 (firstClash 52 (claims said p)) (f 5))) in
-      let e53 = none-both 53 (firstClash 53 (claims said q)) (m 53 (both-kept 53 (firstClash 53 (claims said p)) (f 6))) in
-      let e54 = kept-check 54 bad54 d (check-kept 54 bad54 b (f 7)) in
-      rw (e40, e41, e42, e43, e51, e52, e53, e54)
+-- a rule with a known place is kept wherever that is
+known : (bad : Bool) (n here there : ℕ) → rule bad n here ≡ Sound → rule bad n there ≡ Sound
+known bad n here there h = rule-sound bad n there (rule-kept bad n here h)
 
-module _ (map : Map) (p q : Places) (op : Placed (says map) p) (oq : Placed (says map) q) where
-  moves : (a b c d : ℕ) → firstBroken map p a b ≡ Kept → firstBroken map q c d ≡ Kept
-  unfolding firstBroken orElse
-  moves a b c d h =
-      let r = both-of-kept (check 38 (tooMany map) a) (lowest (verdictsFrom40 (says map) p a b)) h in
-      rw (kept-check 38 (tooMany map) c (check-kept 38 (tooMany map) a (r .0))) (from-40 (says map) p q op oq a b c d (r .1))
+-- no rule is broken here, none there
+moves : (map : Map) (p q : Places) → Placed (says map) p → Placed (says map) q → (a b c d : ℕ)
+    → firstBroken map p a b ≡ Sound → firstBroken map q c d ≡ Sound
+unfolding firstBroken mapRules firstRefusal unless
+moves map p q op oq a b c d h =
+    let said = says map in
+    let f = each-sound (rule (tooMany map) 38 a ∷ mapRules said p a b) h in
+    let bad40 = not (said .lio .present) || eqb (length (said .eios)) 0 in
+    let bad43 = noBridge (said .lpc .present) (bridge (said .bios)) in
+    let bad54 = lost (arrival said (said .sci)) in
+    let clash : (n : ℕ) → ruleClash n (claims said p) ≡ Sound → ruleClash n (claims said q) ≡ Sound =
+    λ n k. kept-later n (firstClash n (claims said q)) (clash-moves said p q op oq n (later-kept n (firstClash n (claims said p)) k)) in
+    let e38 = known (tooMany map) 38 a c (f 0) in
+    let e40 = known bad40 40 a c (f 1) in
+    let e41 = clash 41 (f 2) in
+    let e42 = kept-spotted 42 (firstLone (claims said q)) (lone-moves said p q op oq (spotted-kept 42 (firstLone (claims said p)) (f 3))) in
+    let e43 = known bad43 43 (p .lpc) (q .lpc) (f 4) in
+    let e51 = clash 51 (f 5) in
+    let e52 = clash 52 (f 6) in
+    let e53 = clash 53 (f 7) in
+    let e54 = known bad54 54 b d (f 8) in
+    rw (e38, e40, e41, e42, e43, e51, e52, e53, e54)
 
-few-of-first : (map : Map) (places : Places) (madt fadt : ℕ) → firstBroken map places madt fadt ≡ Kept → tooMany map ≡ false
+few-of-first : (map : Map) (places : Places) (madt fadt : ℕ) → firstBroken map places madt fadt ≡ Sound → tooMany map ≡ false
 unfolding firstBroken
 few-of-first map places madt fadt h =
-    check-kept 38 (tooMany map) madt (both-of-kept (check 38 (tooMany map) madt) (lowest (verdictsFrom40 (says map) places madt fadt)) h .0)
+    rule-kept (tooMany map) 38 madt (each-sound (rule (tooMany map) 38 madt ∷ mapRules (says map) places madt fadt) h 0)
 
 to-kept : (map : Map) (places : Places) (madt fadt : ℕ) → Placed (says map) places → rangesKept (says map) ≡ true
-    → bitInBoth (says map .lio) ≡ false → firstBroken map places madt fadt ≡ Kept → keepsRules map ≡ true
-unfolding keepsRules isKept
+    → bitInBoth (says map .lio) ≡ false → firstBroken map places madt fadt ≡ Sound → keepsRules map ≡ true
+unfolding keepsRules isSound
 to-kept map places madt fadt ok ranged apart h =
     rw (ranged, apart, moves map places slotPlaces ok (slots-placed map (counts map few)) madt fadt 0 0 h)
   where
     few : tooMany map ≡ false
     few = few-of-first map places madt fadt h
 
-kept-to : (map : Map) (places : Places) (madt fadt : ℕ) → Placed (says map) places → keepsRules map ≡ true → firstBroken map places madt fadt ≡ Kept
+kept-to : (map : Map) (places : Places) (madt fadt : ℕ) → Placed (says map) places → keepsRules map ≡ true → firstBroken map places madt fadt ≡ Sound
 unfolding keepsRules
 kept-to map places madt fadt ok h =
     let w = rangesKept (says map) && not (bitInBoth (says map .lio)) in
-    let v = kept-yes (firstBroken map slotPlaces 0 0) (and-right w (isKept (firstBroken map slotPlaces 0 0)) h) in
+    let v = is-sound (firstBroken map slotPlaces 0 0) (and-right w (isSound (firstBroken map slotPlaces 0 0)) h) in
     moves map slotPlaces places (slots-placed map (counts map (few-of-kept map h))) ok 0 0 madt fadt v
 
 -- THE PROMISE

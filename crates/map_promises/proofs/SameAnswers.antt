@@ -2,13 +2,15 @@
 use Prim.Native.Nat.{ℕ}
 use mathlib.Core.Path.{_≡_, refl, sym, _∙_, ap, ap₂}
 use mathlib.Core.Bool.{Bool, not, _&&_, _||_}
+use mathlib.Core.List.{_∷_}
 use lib.Dec.{ltb}
 use Rattle.words.specs.Choice.{if}
+use Rattle.words.specs.Refusals.{rule, firstRefusal, isSound}
 use Rattle.kinds.specs.Ranges.{bitInBoth}
 use Rattle.lines.specs.Says.{Said, says, Same}
 use Rattle.lines.specs.Routes.{arrival}
 use Rattle.lines.specs.Traces.{traced}
-use Rattle.lines.specs.Rules.{tooMany, check, rangesKept, orElse, lowest, verdictsFrom40, firstBroken, isKept, keepsRules, slotPlaces}
+use Rattle.lines.specs.Rules.{tooMany, rangesKept, mapRules, firstBroken, keepsRules, slotPlaces}
 use Rattle.lines.specs.Answers.{routeOf, traceOf, badMap}
 use Rattle.lines.specs.declared.Map.{Map}
 use Rattle.lines.specs.declared.Route.the-variants.{Refused}
@@ -19,7 +21,7 @@ use Rattle.map_promises.specs.Statements.{SameAnswers, RouteDetermined, 
 abbrev keeps : Bool → Said → Bool
 keeps many said =
     rangesKept said && not (bitInBoth (said .lio))
-    && isKept (orElse (check 38 many 0) (lowest (verdictsFrom40 said slotPlaces 0 0)))
+    && isSound (firstRefusal (rule many 38 0 ∷ mapRules said slotPlaces 0 0))
 
 keeps-is : (map : Map) → keepsRules map ≡ keeps (tooMany map) (says map)
 unfolding keepsRules firstBroken

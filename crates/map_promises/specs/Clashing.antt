@@ -7,13 +7,13 @@ use mathlib.Core.Logic.{_⊎_}
 use mathlib.Core.Path.{_≡_}
 use lib.ListN.{length}
 use Rattle.words.specs.Refusals.{refused}
+use Rattle.words.specs.declared.Verdict.the-variants.{Sound, Refused}
 use Rattle.kinds.specs.Ranges.{bitInBoth}
 use Rattle.lines.specs.Says.{Said, says}
 use Rattle.lines.specs.Claims.{claims}
 use Rattle.lines.specs.Rules.{tooMany, rangesKept, rule40, rule41, rule42, rule43, firstBroken}
 use Rattle.lines.specs.declared.Map.{Map}
 use Rattle.lines.specs.declared.Places.{Places}
-use Rattle.lines.specs.declared.Verdict.the-variants.{Kept, Broken}
 use Rattle.map_promises.specs.Sources.{Source, input, pin, slot, eioAt, bioAt, IsSource, HasNumber, LandsOn}
 use Rattle.map_promises.specs.Structures.{Structure, lio, eio, bio, msi, IsIn, placeOf, Placed}
 
@@ -115,6 +115,10 @@ pub record Names (said : Said) (places : Places) (Share : Structure → Structur
   pub first : (u v : Structure) → IsIn said u → IsIn said v → placeOf places v < placeOf places u → Share u v → p ≤ placeOf places u
   pub earliest : (v : Structure) → IsIn said v → placeOf places v < p → Share s v → q ≤ placeOf places v
 
+-- it stands at p: there is an earliest that it shares with
+abbrev pub NamesLater : Said → Places → (Structure → Structure → Type 0) → ℕ → Type 0
+NamesLater said places Share p = (q : ℕ) × Names said places Share p q
+
 -- "where one line fits several structures, the first in table order is named": of the BIO without an EIO, the one at p
 pub record NamesLone (said : Said) (places : Places) (p : ℕ) : Type 0 where
   pub j : ℕ
@@ -128,50 +132,48 @@ pub record KeepsTo40 (map : Map) (madt : ℕ) : Type 0 where
   pub r36 : rangesKept (says map) ≡ true
   pub r37 : bitInBoth (says map .lio) ≡ false
   pub r38 : tooMany map ≡ false
-  pub r40 : rule40 (says map) madt ≡ Kept
+  pub r40 : rule40 (says map) madt ≡ Sound
 
 -- no rule below 51 is broken
 pub record KeepsTo43 (map : Map) (places : Places) (madt : ℕ) : Type 0 where
   pub to40 : KeepsTo40 map madt
-  pub r41 : rule41 (claims (says map) places) ≡ Kept
-  pub r42 : rule42 (claims (says map) places) ≡ Kept
-  pub r43 : rule43 (says map) (places .lpc) ≡ Kept
+  pub r41 : rule41 (claims (says map) places) ≡ Sound
+  pub r42 : rule42 (claims (says map) places) ≡ Sound
+  pub r43 : rule43 (says map) (places .lpc) ≡ Sound
 
 -- ---- demand 3, its last sentence: the statements
--- the map is refused with n, at p, with partner q
-abbrev pub RefusedWith : Map → Places → ℕ → ℕ → ℕ → ℕ → ℕ → Type 0
-RefusedWith map places madt fadt n p q = firstBroken map places madt fadt ≡ Broken (refused n p) q
+-- the map is refused with n, at p
+abbrev pub RefusedWith : Map → Places → ℕ → ℕ → ℕ → ℕ → Type 0
+RefusedWith map places madt fadt n p = firstBroken map places madt fadt ≡ Refused (refused n p)
 
--- a number is told exactly when its rule is the first that is broken, and then at a place and with a partner that are named so
-abbrev pub Exactly : (ℕ → ℕ → Type 0) → Type 0 → (ℕ → ℕ → Type 0) → Type 0
-Exactly told broken named = ((p q : ℕ) → told p q → broken × named p q) × (broken → (p : ℕ) × (q : ℕ) × told p q)
+-- a number is told exactly when its rule is the first that is broken, and then at a place that is named so
+abbrev pub Exactly : (ℕ → Type 0) → Type 0 → (ℕ → Type 0) → Type 0
+Exactly told broken named = ((p : ℕ) → told p → broken × named p) × (broken → (p : ℕ) × told p)
 
--- 41: exactly when two EIO have one node; the later is named, and no partner
+-- 41: exactly when two EIO have one node; the later is named
 abbrev pub NodeExactly : Map → Places → ℕ → ℕ → Type 0
 NodeExactly map places madt fadt =
     Placed (says map) places → KeepsTo40 map madt
-    → Exactly (RefusedWith map places madt fadt 41) (TwoNode (says map))
-    (λ p q. (q ≡ 0) × ((r : ℕ) × Names (says map) places (ShareNode (says map)) p r))
+    → Exactly (RefusedWith map places madt fadt 41) (TwoNode (says map)) (NamesLater (says map) places (ShareNode (says map)))
 
--- 42: exactly when no two EIO have one node, and a BIO has no EIO of its node; the first such is named, and no partner
+-- 42: exactly when no two EIO have one node, and a BIO has no EIO of its node; the first such is named
 abbrev pub LoneExactly : Map → Places → ℕ → ℕ → Type 0
 LoneExactly map places madt fadt =
     Placed (says map) places → KeepsTo40 map madt
-    → Exactly (RefusedWith map places madt fadt 42) ((TwoNode (says map) → ⊥) × LoneBio (says map))
-    (λ p q. (q ≡ 0) × NamesLone (says map) places p)
+    → Exactly (RefusedWith map places madt fadt 42) ((TwoNode (says map) → ⊥) × LoneBio (says map)) (NamesLone (says map) places)
 
 -- 51: exactly when two sources share a global number
 abbrev pub NumberExactly : Map → Places → ℕ → ℕ → Type 0
 NumberExactly map places madt fadt =
     Placed (says map) places → KeepsTo43 map places madt
-    → Exactly (RefusedWith map places madt fadt 51) (TwoNumber (says map)) (Names (says map) places (ShareNumber (says map)))
+    → Exactly (RefusedWith map places madt fadt 51) (TwoNumber (says map)) (NamesLater (says map) places (ShareNumber (says map)))
 
 -- 52: exactly when no two sources do, and two share an extended vector of one EIO
 abbrev pub VectorExactly : Map → Places → ℕ → ℕ → Type 0
 VectorExactly map places madt fadt =
     Placed (says map) places → KeepsTo43 map places madt
     → Exactly (RefusedWith map places madt fadt 52) ((TwoNumber (says map) → ⊥) × TwoVector (says map))
-    (Names (says map) places (ShareVector (says map)))
+    (NamesLater (says map) places (ShareVector (says map)))
 
 -- 53: exactly when no two sources share either, and two controllers enter one core vector
 abbrev pub CoreExactly : Map → Places → ℕ → ℕ → Type 0
@@ -179,4 +181,4 @@ CoreExactly map places madt fadt =
     Placed (says map) places → KeepsTo43 map places madt
     → Exactly (RefusedWith map places madt fadt 53)
     ((TwoNumber (says map) → ⊥) × (TwoVector (says map) → ⊥) × TwoCore (says map))
-    (Names (says map) places (ShareCore (says map)))
+    (NamesLater (says map) places (ShareCore (says map)))

@@ -4,6 +4,7 @@ use mathlib.Core.Bool.{true, false}
 use mathlib.Core.Logic.{_⊎_}
 use mathlib.Core.Path.{_≡_}
 use Rattle.words.specs.declared.Refusal.{Refusal}
+use Rattle.words.specs.declared.Verdict.the-variants.{Sound}
 use Rattle.kinds.specs.Ranges.{bitInBoth}
 use Rattle.kinds.specs.declared.Bio.{Bio}
 use Rattle.lines.specs.Says.{Said, says, Same}
@@ -17,7 +18,6 @@ use Rattle.lines.specs.declared.Route.{Route}
 use Rattle.lines.specs.declared.Route.the-variants.{Arrives, Unwired, NoOwner, Refused}
 use Rattle.lines.specs.declared.Trace.{Trace}
 use Rattle.lines.specs.declared.Trace.the-variants.{Nothing, LioInput, BioInput, LpcCascade, MsiSlot, Refused as NoTrace}
-use Rattle.lines.specs.declared.Verdict.the-variants.{Kept}
 use Rattle.map_promises.specs.Sources.{Source, IsSource, arrives, name}
 use Rattle.map_promises.specs.Structures.{Placed}
 
@@ -53,8 +53,8 @@ abbrev pub PlacesDoNotMatter : Map → Type 0
 PlacesDoNotMatter map =
     (places : Places) (madt fadt : ℕ)
     → Placed (says map) places
-    → (rangesKept (says map) ≡ true → bitInBoth (says map .lio) ≡ false → firstBroken map places madt fadt ≡ Kept → keepsRules map ≡ true)
-    × (keepsRules map ≡ true → firstBroken map places madt fadt ≡ Kept)
+    → (rangesKept (says map) ≡ true → bitInBoth (says map .lio) ≡ false → firstBroken map places madt fadt ≡ Sound → keepsRules map ≡ true)
+    × (keepsRules map ≡ true → firstBroken map places madt fadt ≡ Sound)
 
 -- ---- the LPC lines, and there and back
 -- "The sixteen LPC lines count as the one pin that they share": each arrives where that pin does
