@@ -15,7 +15,7 @@ use Rattle.clashes.specs.declared.Claim.{Claim}
 use Rattle.clashes.specs.declared.Pair.the-variants.{Two, None}
 use Rattle.lines.specs.Says.{Said, says}
 use Rattle.lines.specs.Claims.{claims}
-use Rattle.lines.specs.Rules.{tooMany, atLater, ruleClash, spotted, rangesKept, rule51, rule52, rule53, rule54, mapRules, firstBroken}
+use Rattle.lines.specs.Rules.{tooMany, atLater, ruleClash, spotted, rangesKept, rule51, rule52, rule53, rule54, rulesTo43, rulesFrom51, mapRules, firstBroken}
 use Rattle.lines.specs.declared.Map.{Map}
 use Rattle.lines.specs.declared.Places.{Places}
 use Rattle.map_promises.specs.Structures.{Structure, Placed}
@@ -69,17 +69,17 @@ module _ (map : Map) (places : Places) (madt fadt : ℕ) where
       nodes = node-agrees said (h .r36)
 
       node-told : (p : ℕ) → Told 41 p → TwoNode said × NamesLater said places (ShareNode said) p
-      unfolding mapRules if
+      unfolding mapRules rulesTo43 rulesFrom51 if
       node-told p t = clash-told (h .r38) nodes refl p t
 
       node-tells : TwoNode said → (p : ℕ) × Told 41 p
-      unfolding mapRules firstRefusal unless atLater
+      unfolding mapRules rulesTo43 rulesFrom51 firstRefusal unless atLater
       node-tells w =
           let f = finds-two said places ok nodes w in
           (f .0, from-40 (h .r38) ∙ rw (h .r40, f .2))
 
       lone-told : (p : ℕ) → Told 42 p → ((TwoNode said → ⊥) × LoneBio said) × NamesLone said places p
-      unfolding mapRules if
+      unfolding mapRules rulesTo43 rulesFrom51 if
       lone-told p t =
           let w = spotted-told 42 42 p (firstLone all) (told (h .r38) 42 p t .0) in
           let n = names-lone said (h .r36) places ok p (w .1) in
@@ -87,7 +87,7 @@ module _ (map : Map) (places : Places) (madt fadt : ℕ) where
           ((never, (n .j, n .lone)), n)
 
       lone-tells : (TwoNode said → ⊥) → LoneBio said → (p : ℕ) × Told 42 p
-      unfolding mapRules firstRefusal unless atLater spotted
+      unfolding mapRules rulesTo43 rulesFrom51 firstRefusal unless atLater spotted
       lone-tells never w =
           let f = finds-lone said (h .r36) places ok w in
           (f .0, from-40 (h .r38) ∙ rw (h .r40, finds-nothing said places ok nodes never, f .1))
@@ -111,7 +111,7 @@ module _ (map : Map) (places : Places) (madt fadt : ℕ) where
 
       -- with the rules below 51 kept, the verdict is that of the rest
       from-51 : firstBroken map places madt fadt ≡ firstRefusal (rule51 all ∷ rule52 all ∷ rule53 all ∷ rule54 said fadt ∷ [])
-      unfolding mapRules firstRefusal unless
+      unfolding mapRules rulesTo43 rulesFrom51 firstRefusal unless
       from-51 = from-40 few ∙ rw (h .to40 .r40, h .r41, h .r42, h .r43)
 
       no-number : (TwoNumber said → ⊥) → firstClash 51 all ≡ None
@@ -127,7 +127,7 @@ module _ (map : Map) (places : Places) (madt fadt : ℕ) where
       vector-none e w = no-sharing said places ok vectors e (vector-sharing said w)
 
       number-told : (p : ℕ) → Told 51 p → TwoNumber said × NamesLater said places (ShareNumber said) p
-      unfolding mapRules if
+      unfolding mapRules rulesTo43 rulesFrom51 if
       number-told p t =
           let w = clash-told few numbers refl p t in
           (sharing-number said (w .0), w .1)
@@ -139,7 +139,7 @@ module _ (map : Map) (places : Places) (madt fadt : ℕ) where
           (f .0, from-51 ∙ rw (f .2))
 
       vector-told : (p : ℕ) → Told 52 p → ((TwoNumber said → ⊥) × TwoVector said) × NamesLater said places (ShareVector said) p
-      unfolding mapRules if
+      unfolding mapRules rulesTo43 rulesFrom51 if
       vector-told p t =
           let w = clash-told few vectors refl p t in
           let never = number-none (clash-none few 4 51 52 refl (omega arith) p t) in
@@ -153,7 +153,7 @@ module _ (map : Map) (places : Places) (madt fadt : ℕ) where
 
       core-told : (p : ℕ) → Told 53 p
           → ((TwoNumber said → ⊥) × (TwoVector said → ⊥) × TwoCore said) × NamesLater said places (ShareCore said) p
-      unfolding mapRules if
+      unfolding mapRules rulesTo43 rulesFrom51 if
       core-told p t =
           let w = clash-told few cores refl p t in
           let never = number-none (clash-none few 4 51 53 refl (omega arith) p t) in

@@ -20,7 +20,7 @@ use Rattle.clashes.proofs.Logic.{and-left, and-right}
 use Rattle.lines.specs.Says.{Said, says}
 use Rattle.lines.specs.Routes.{bridge}
 use Rattle.lines.specs.Claims.{claims}
-use Rattle.lines.specs.Rules.{tooMany, noBridge, rangesKept, ruleClash, mapRules, firstBroken, keepsRules, slotPlaces}
+use Rattle.lines.specs.Rules.{tooMany, noBridge, rangesKept, ruleClash, rulesTo43, rulesFrom51, mapRules, firstBroken, keepsRules, slotPlaces}
 use Rattle.lines.specs.declared.Map.{Map}
 use Rattle.lines.specs.declared.Bridge.{Bridge}
 use Rattle.lines.specs.declared.Bridge.the-variants.{Is, None}
@@ -55,7 +55,7 @@ behind-bridge present (Is x) h p = (x, refl)
 behind-bridge present None h p = absurd (true≢false (sym p ∙ h))
 
 pub good : (map : Map) → keepsRules map ≡ true → Good (says map)
-unfolding keepsRules firstBroken mapRules
+unfolding keepsRules firstBroken mapRules rulesTo43 rulesFrom51
 good map h =
     let said = says map in
     let w = rangesKept said && not (bitInBoth (said .lio)) in

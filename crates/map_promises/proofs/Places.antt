@@ -19,7 +19,7 @@ use Rattle.clashes.proofs.Searched.{none-lone, lone-none}
 use Rattle.lines.specs.Says.{Said, says}
 use Rattle.lines.specs.Claims.{claims}
 use Rattle.lines.specs.Routes.{bridge, arrival}
-use Rattle.lines.specs.Rules.{tooMany, noBridge, lost, rangesKept, ruleClash, mapRules, firstBroken, keepsRules, slotPlaces}
+use Rattle.lines.specs.Rules.{tooMany, noBridge, lost, rangesKept, ruleClash, rulesTo43, rulesFrom51, mapRules, firstBroken, keepsRules, slotPlaces}
 use Rattle.lines.specs.declared.Map.{Map}
 use Rattle.lines.specs.declared.Places.{Places}
 use Rattle.lines.proofs.Counts.{counts, few-of-kept}
@@ -64,7 +64,7 @@ known bad n here there h = rule-sound bad n there (rule-kept bad n here h)
 -- no rule is broken here, none there
 moves : (map : Map) (p q : Places) → Placed (says map) p → Placed (says map) q → (a b c d : ℕ)
     → firstBroken map p a b ≡ Sound → firstBroken map q c d ≡ Sound
-unfolding firstBroken mapRules firstRefusal unless
+unfolding firstBroken mapRules rulesTo43 rulesFrom51 firstRefusal unless
 moves map p q op oq a b c d h =
     let said = says map in
     let f = each-sound (rule (tooMany map) 38 a ∷ mapRules said p a b) h in

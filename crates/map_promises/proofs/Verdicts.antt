@@ -17,7 +17,7 @@ use Rattle.clashes.specs.declared.Pair.the-variants.{Two, None}
 use Rattle.clashes.proofs.Logic.{or-neither}
 use Rattle.lines.specs.Says.{Said}
 use Rattle.lines.specs.Routes.{bridge, arrival}
-use Rattle.lines.specs.Rules.{atLater, spotted, rule40, noBridge, lost, mapRules}
+use Rattle.lines.specs.Rules.{atLater, spotted, rule40, noBridge, lost, rulesTo43, rulesFrom51, mapRules}
 use Rattle.lines.specs.declared.Places.{Places}
 
 -- ---- a rule that two structures break, and one that a structure breaks by itself
@@ -70,7 +70,7 @@ positionOf refusal = position (refusal .number)
 module _ (said : Said) (places : Places) (madt fadt : ℕ) where
   -- a rule that is broken gives its own number
   stands : (k n p : ℕ) → getD (mapRules said places madt fadt) k Sound ≡ Refused (refused n p) → position n ≡ k
-  unfolding mapRules if
+  unfolding mapRules rulesTo43 rulesFrom51 if
   stands zero n p h = ap positionOf (sym (rule-told (not (said .lio .present) || eqb (length (said .eios)) 0) 40 madt h))
   stands (suc zero) n p h = ap position (sym (later-told 41 n p _ h .0))
   stands (suc (suc zero)) n p h = ap position (sym (spotted-told 42 n p _ h .0))
