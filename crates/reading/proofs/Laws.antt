@@ -1,7 +1,7 @@
 -- Laws of the reading's definitions: what each answer is, by what was found.
 use mathlib.Core.Bool.{true, false}
 use mathlib.Core.List.{List, _∷_, _++_, append-assoc}
-use mathlib.Core.Path.{_≡_, refl, ap, _∙_}
+use mathlib.Core.Path.{_≡_, refl, sym, ap, _∙_}
 use Prim.Native.Nat.{ℕ, _+_, _*_, _≤_}
 use native.Mathlib.Omega.{arith}
 use lib.Dec.{leb}
@@ -23,6 +23,8 @@ use Rattle.lines.specs.Rules.{tooMany, mapRules, firstBroken}
 use Rattle.lines.specs.declared.Map.{Map}
 use Rattle.lines.specs.declared.Places.{Places}
 use Rattle.madt.specs.Walk.{walkRules}
+use Rattle.madt.specs.declared.Found.{Found}
+use Rattle.madt.proofs.Accepted.{walk-verdict}
 use Rattle.processors.specs.Repeats.{firstRepeat}
 use Rattle.processors.specs.Listing.{processors, count, hasRoom}
 use Rattle.processors.specs.Image.{image}
@@ -32,6 +34,7 @@ use Rattle.processors.specs.declared.Repeat.the-variants.{At, Nowhere}
 use Rattle.reading.specs.Scan.{madtBytes, walkOf, turnedDown, repeatRule, processorRule, madtRules, lineRules, rulesBefore51, allRules, accepted, scan}
 use Rattle.reading.specs.Entries.{answerIn, readCode}
 use Rattle.reading.specs.Reading.{withoutMap, answered}
+use Rattle.reading.specs.declared.Scan.{Scan}
 use Rattle.reading.specs.declared.Answer.{Answer}
 use Rattle.reading.specs.declared.Answer.the-variants.{Read, Refused as NotRead}
 
@@ -56,18 +59,29 @@ unfolding firstBroken
 map-judged map places madt fadt few = first-kept (tooMany map) 38 madt _ few refl
 
 -- ---- the rules after 30: those of the walk, and 39 to 54
-abbrev pub laterRules : List ℕ → Tables → List Verdict
-laterRules capture t =
-    let table = madtBytes capture (t .madt) in
-    let found = walkOf capture t .found in
+abbrev pub laterOf : List ℕ → Tables → Found → List Verdict
+laterOf table t found =
     repeatRule (t .madt .place) (firstRepeat table)
     ∷ processorRule (t .madt .place) (count table)
     ∷ mapRules (says (found .map)) (found .places) (t .madt .place) (t .fadt .place)
+
+abbrev pub laterRules : List ℕ → Tables → List Verdict
+laterRules capture t = laterOf (madtBytes capture (t .madt)) t (walkOf capture t .found)
 
 pub after-walk : (capture : List ℕ) (t : Tables)
     → madtRules capture t ++ lineRules capture t ≡ walkRules (madtBytes capture (t .madt)) (t .madt .place) ++ laterRules capture t
 unfolding madtRules lineRules mapRules
 after-walk capture t = append-assoc (walkRules (madtBytes capture (t .madt)) (t .madt .place)) _ _
+
+-- the walk, refused or not
+module _ (capture : List ℕ) (t : Tables) (answer : Scan) where
+  pub walk-refused : {refusal : Refusal} → walkOf capture t .verdict ≡ Refused refusal
+      → unless turnedDown (firstRefusal (madtRules capture t ++ lineRules capture t)) answer ≡ turnedDown refusal
+  walk-refused h = rw (after-walk capture t) (joined-refused turnedDown (walkRules _ _) _ _ (sym (walk-verdict _ _ _) ∙ h))
+
+  pub walk-sound : walkOf capture t .verdict ≡ Sound
+      → unless turnedDown (firstRefusal (madtRules capture t ++ lineRules capture t)) answer ≡ unless turnedDown (firstRefusal (laterRules capture t)) answer
+  walk-sound h = rw (after-walk capture t) (joined-sound turnedDown (walkRules _ _) _ _ (sym (walk-verdict _ _ _) ∙ h))
 
 -- all rules, by what stands before 31 and after
 pub in-two : (capture : List ℕ) → let t = tablesOf capture in allRules capture ≡ surveyRules capture ++ (madtRules capture t ++ lineRules capture t)

@@ -1,0 +1,82 @@
+-- `reading::scan_tables` walks the MADT, then asks 39 to 54.
+use Prim.Native.Nat.{ℕ}
+use native.Mathlib.Omega.{arith}
+use mathlib.Core.List.{List}
+use mathlib.Core.Path.{ap, sym, _∙_}
+use lib.ListN.{length}
+use Rattle.words.specs.Refusals.{unless, firstRefusal}
+use Rattle.words.specs.declared.Verdict.{Verdict}
+use Rattle.lines.specs.Rules.{tooMany}
+use Rattle.madt.specs.declared.Walked.{Walked}
+use Rattle.processors.specs.Listing.{count}
+use Rattle.processors.proofs.Agreement.{enabled-count}
+use Rattle.map_promises.proofs.WalkKeepsBooks.{walk-keeps-books}
+use Rattle.reading.specs.Scan.{madtBytes, turnedDown, accepted}
+use Rattle.reading.proofs.Laws.{bytes-small, laterOf, walk-refused, walk-sound}
+use borrow.Author.Needs.{needs}
+use Rattle.reading.proofs.scan_tables.Statement.{statement}
+use Rattle.reading.proofs.scan_tables.Tie as tie
+
+walk-madt-requires : tie.Need-walk-madt-requires
+walk-madt-requires c κs = search needs
+
+enum-known-verdict : tie.Need-enum-known-verdict
+enum-known-verdict c = search needs
+
+turn-down-requires : tie.Need-turn-down-requires
+turn-down-requires c κs = search needs
+
+enum-told : tie.Need-enum-told
+enum-told c = search needs
+
+madt-bytes-requires : tie.Need-madt-bytes-requires
+madt-bytes-requires c κs = search needs
+
+rules-after-walk-requires : tie.Need-rules-after-walk-requires
+unfolding madtBytes
+rules-after-walk-requires c κs =
+    let a = c .before .before .before .before .before .before .before .before .args in
+    let small = bytes-small (a .capture .now) (a .t .madt) in
+    let same = ap length (c .madt-bytes .ensures) in
+    let w = c .before .before .before .before .before .walk-madt .ensures in
+    let sound = ap (λ (x : Walked). x .verdict) (sym w) ∙ c .before .enum-told .given .1 in (
+      omega arith,
+      (ap (λ (x : Walked). x .found .enabled) w ∙ enabled-count _ _ _ sound ∙ ap count (sym (c .madt-bytes .ensures)),
+      ap (λ (x : Walked). tooMany (x .found .map)) w ∙ walk-keeps-books _ _ _ sound .0 .r38),
+    )
+
+judge-requires : tie.Need-judge-requires
+judge-requires c κs = search needs
+
+returns : tie.Need-returns
+unfolding madtBytes
+returns c =
+    let w = c .before .before .before .before .before .before .walk-madt .ensures in
+    c .turn-down .ensures
+    ∙ sym (walk-refused _ _ _ (ap (λ (x : Walked). x .verdict) (sym w) ∙ c .before .before .verdict .given .1))
+
+returns-2 : tie.Need-returns-2
+unfolding madtBytes
+returns-2 c =
+    let a = c .before .before .before .before .before .before .before .before .before .before .args in
+    let w = c .before .before .before .before .before .before .before .walk-madt .ensures in
+    let r = c .before .before .before .before .before .before .before .walk-madt .result in
+    c .judge .ensures
+    ∙ ap (λ (v : Verdict). unless turnedDown v (accepted (a .t) (r .found .map)))
+    (c .before .rules-after-walk .ensures ∙ ap (λ (x : List ℕ). firstRefusal (laterOf x (a .t) (r .found))) (c .before .before .madt-bytes .ensures))
+    ∙ ap (λ (x : Walked). unless turnedDown (firstRefusal (laterOf (madtBytes (a .capture .now) (a .t .madt)) (a .t) (x .found))) (accepted (a .t) (x .found .map))) w
+    ∙ sym (walk-sound (a .capture .now) (a .t) _ (ap (λ (x : Walked). x .verdict) (sym w) ∙ c .before .before .before .enum-told .given .1))
+
+pub scan-tables-spec : {M : Type 1} → statement M
+scan-tables-spec =
+    tie.close
+    (tie.spec
+    walk-madt-requires
+    enum-known-verdict
+    turn-down-requires
+    enum-told
+    madt-bytes-requires
+    rules-after-walk-requires
+    judge-requires
+    returns
+    returns-2)
