@@ -12,7 +12,7 @@ use Rattle.words.specs.declared.Verdict.the-variants.{Sound, Refused}
 use Rattle.words.proofs.Verdicts.{first-kept}
 use Rattle.clashes.specs.Search.{firstClash, firstLone}
 use Rattle.clashes.specs.declared.Claim.{Claim}
-use Rattle.clashes.specs.declared.Pair.the-variants.{Two, None}
+use Rattle.clashes.specs.declared.Pair.the-variants.{None}
 use Rattle.lines.specs.Says.{Said, says}
 use Rattle.lines.specs.Claims.{claims}
 use Rattle.lines.specs.Rules.{tooMany, atLater, ruleClash, spotted, rangesKept, rule51, rule52, rule53, rule54, rulesTo43, rulesFrom51, mapRules, firstBroken}
