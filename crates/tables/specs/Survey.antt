@@ -104,14 +104,14 @@ unfoldable pub surveyRules : List ℕ → List Verdict
 surveyRules capture =
     let rsdp = rsdpPlace capture in
     let xsdt = xsdtOf capture in
-    containerRules capture
-    ++ (presenceRules capture
-    ++ (rsdpRules capture rsdp
-    ++ (tableRules capture (xsdtField rsdp)
-    ++ (xsdtRules capture xsdt
-    ++ (entryRules capture xsdt
-    ++ (nameRules capture xsdt
-    ++ bodyRules capture (madtOf capture xsdt) (fadtOf capture xsdt)))))))
+    containerRules capture  -- 1 to 6
+    ++ (presenceRules capture  -- 10
+    ++ (rsdpRules capture rsdp  -- 11 to 14
+    ++ (tableRules capture (xsdtField rsdp)  -- 20 to 22 of the XSDT
+    ++ (xsdtRules capture xsdt  -- 23 to 25
+    ++ (entryRules capture xsdt  -- 20 to 22 of each entry
+    ++ (nameRules capture xsdt  -- 26, 27
+    ++ bodyRules capture (madtOf capture xsdt) (fadtOf capture xsdt)))))))  -- 28 to 30
 
 unfoldable pub survey : List ℕ → Survey
 survey capture = unless Refused (firstRefusal (surveyRules capture)) (Found (tablesOf capture))

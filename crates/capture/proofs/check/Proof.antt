@@ -72,7 +72,18 @@ check-segments-requires c κs = search needs
 
 returns-6 : tie.Need-returns-6
 unfolding verdict containerRules
-returns-6 c = sym (first-kept _ _ _ _ (cc) (first-kept _ _ _ _ (cc) (first-kept _ _ _ _ (cc) (first-kept _ _ _ _ (cc) (first-kept _ _ _ _ (cc) (cc))))))
+returns-6 c =
+    let p5 = c .before in
+    let p4 = p5 .before .before in
+    let p3 = p4 .before .before in
+    let p2 = p3 .before .before in
+    let p1 = p2 .before .before in
+    sym (first-kept _ _ _ _ (sym (p1 .before .wrong-size .ensures) ∙ p1 .if1 .left)
+    (first-kept _ _ _ _ (sym (p2 .before .wrong-mark .ensures) ∙ p2 .if2 .left)
+    (first-kept _ _ _ _ (sym (p3 .before .wrong-version .ensures) ∙ p3 .if3 .left)
+    (first-kept _ _ _ _ (sym (p4 .before .wrong-count .ensures) ∙ p4 .if4 .left)
+    (first-kept _ _ _ _ (sym (p5 .before .wrong-total .ensures) ∙ p5 .if5 .left)
+    (sym (c .check-segments .ensures)))))))
 
 pub check-spec : {M : Type 1} → statement M
 check-spec =

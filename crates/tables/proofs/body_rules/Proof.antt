@@ -4,7 +4,7 @@ use native.Mathlib.Omega.{arith}
 use borrow.Author.Tests.{lt-ltb, le-ltb}
 use Rattle.words.proofs.Verdicts.{first-none, first-broken, first-kept}
 use Rattle.words.specs.declared.Verdict.the-variants.{Refused}
-use Rattle.tables.specs.Survey.{bodyRules}
+use Rattle.tables.specs.Survey.{wrongMadtRevision, bodyRules}
 use borrow.Author.Needs.{needs}
 use Rattle.tables.proofs.body_rules.Statement.{statement}
 use Rattle.tables.proofs.body_rules.Tie as tie
@@ -50,9 +50,12 @@ returns-3 : tie.Need-returns-3
 unfolding bodyRules
 returns-3 c =
     let a = c .before .before .before .before .before .before .before .before .before .before .args in
+    let w = c .before .before .before in
+    let told = w .wrong-madt-revision .ensures ∙ ap wrongMadtRevision (w .before .revision-of .ensures) in
     ap Refused (c .refuse3 .ensures)
-    ∙ sym (first-kept _ _ _ _ (le-ltb (a .madt .length) 44 (omega arith)) (first-kept _ _ _ _ (le-ltb (a .fadt .length) 48 (omega arith))
-    (first-broken _ _ _ _ (cc))))
+    ∙ sym (first-kept _ _ _ _ (le-ltb (a .madt .length) 44 (omega arith))
+    (first-kept _ _ _ _ (le-ltb (a .fadt .length) 48 (omega arith))
+    (first-broken _ _ _ _ (sym told ∙ c .before .before .if3 .taken))))
 
 wrong-flags-requires : tie.Need-wrong-flags-requires
 wrong-flags-requires c κs = search needs
@@ -67,16 +70,26 @@ returns-4 : tie.Need-returns-4
 unfolding bodyRules
 returns-4 c =
     let a = c .before .before .before .before .before .before .before .before .before .before .before .before .args in
+    let f = c .before .before .before in
+    let w = f .before .before in
+    let told = w .wrong-madt-revision .ensures ∙ ap wrongMadtRevision (w .before .revision-of .ensures) in
     ap Refused (c .refuse4 .ensures)
-    ∙ sym (first-kept _ _ _ _ (le-ltb (a .madt .length) 44 (omega arith)) (first-kept _ _ _ _ (le-ltb (a .fadt .length) 48 (omega arith))
-    (first-kept _ _ _ _ (cc) (first-broken _ _ _ _ (cc)))))
+    ∙ sym (first-kept _ _ _ _ (le-ltb (a .madt .length) 44 (omega arith))
+    (first-kept _ _ _ _ (le-ltb (a .fadt .length) 48 (omega arith))
+    (first-kept _ _ _ _ (sym told ∙ f .before .if3 .left)
+    (first-broken _ _ _ _ (sym (f .wrong-flags .ensures) ∙ c .before .before .if4 .taken)))))
 
 returns-5 : tie.Need-returns-5
 unfolding bodyRules
 returns-5 c =
     let a = c .before .before .before .before .before .before .before .before .before .before .args in
-    sym (first-kept _ _ _ _ (le-ltb (a .madt .length) 44 (omega arith)) (first-kept _ _ _ _ (le-ltb (a .fadt .length) 48 (omega arith))
-    (first-kept _ _ _ _ (cc) (first-kept _ _ _ _ (cc) first-none))))
+    let f = c .before in
+    let w = f .before .before in
+    let told = w .wrong-madt-revision .ensures ∙ ap wrongMadtRevision (w .before .revision-of .ensures) in
+    sym (first-kept _ _ _ _ (le-ltb (a .madt .length) 44 (omega arith))
+    (first-kept _ _ _ _ (le-ltb (a .fadt .length) 48 (omega arith))
+    (first-kept _ _ _ _ (sym told ∙ f .before .if3 .left)
+    (first-kept _ _ _ _ (sym (f .wrong-flags .ensures) ∙ c .if4 .left) first-none))))
 
 pub body-rules-spec : {M : Type 1} → statement M
 body-rules-spec =

@@ -33,22 +33,24 @@ survey-xsdt-requires : tie.Need-survey-xsdt-requires
 survey-xsdt-requires c κs = search needs
 
 returns : tie.Need-returns
-returns c = sym (joined-refused _ (rsdpRules _ _) _ _ (cc))
+returns c = sym (joined-refused _ (rsdpRules _ _) _ _ (sym (c .before .before .before .rsdp-rules .ensures) ∙ c .before .refusal .given .1))
 
 returns-2 : tie.Need-returns-2
 unfolding xsdtField
 returns-2 c =
     let t = c .before .before .before in
-    sym (joined-sound _ (rsdpRules _ _) _ _ (cc)
+    let kept = sym (t .before .before .before .rsdp-rules .ensures) ∙ t .before .enum-told .given .1 in
+    sym (joined-sound _ (rsdpRules _ _) _ _ kept
     ∙ joined-refused _ (tableRules _ _) _ _ (table-told _ _ (sym (t .check-table .ensures) ∙ c .before .refusal2 .given .1)))
 
 returns-3 : tie.Need-returns-3
 unfolding xsdtField
 returns-3 c =
     let t = c .before .before .before .before in
+    let kept = sym (t .before .before .before .rsdp-rules .ensures) ∙ t .before .enum-told .given .1 in
     let is = sym (t .check-table .ensures) ∙ c .before .before .xsdt .given .1 in
     (rw (← table-is _ _ is) at (c .survey-xsdt .ensures))
-    ∙ sym (joined-sound _ (rsdpRules _ _) _ _ (cc) ∙ joined-sound _ (tableRules _ _) _ _ (table-told _ _ is))
+    ∙ sym (joined-sound _ (rsdpRules _ _) _ _ kept ∙ joined-sound _ (tableRules _ _) _ _ (table-told _ _ is))
 
 pub survey-rsdp-spec : {M : Type 1} → statement M
 survey-rsdp-spec =

@@ -48,7 +48,12 @@ returns-3 c = ap Refused (c .refuse3 .ensures) ∙ sym (first-kept _ _ _ _ (cc) 
 
 returns-4 : tie.Need-returns-4
 unfolding xsdtRules
-returns-4 c = sym (first-kept _ _ _ _ (cc) (first-kept _ _ _ _ (cc) (first-kept _ _ _ _ (cc) first-none)))
+returns-4 c =
+    let p2 = c .before .before in
+    let p1 = p2 .before .before in
+    sym (first-kept _ _ _ _ (sym (p1 .before .not-xsdt .ensures) ∙ p1 .if1 .left)
+    (first-kept _ _ _ _ (sym (p2 .before .wrong-xsdt-revision .ensures) ∙ p2 .if2 .left)
+    (first-kept _ _ _ _ (sym (c .before .wrong-body .ensures) ∙ c .if3 .left) first-none)))
 
 pub xsdt-rules-spec : {M : Type 1} → statement M
 xsdt-rules-spec =
