@@ -1,21 +1,31 @@
--- The LPC's bridge is one of the map's, and has the smallest hardware ID.
-use Prim.Native.Nat.{ℕ, zero, suc, _<_, _≤_}
+-- The LPC's bridge is one of the map's, and has the smallest hardware ID; the pin that the LPC lines share is told as such.
+use Prim.Native.Nat.{ℕ, zero, suc, _+_, _<_, _≤_}
 use native.Mathlib.Nat.{le-of-suc-le-suc, not-suc-le-zero}
 use native.Mathlib.Omega.{arith}
 use mathlib.Core.Path.{_≡_, refl, sym, _∙_, ap}
 use mathlib.Core.Logic.{_⊎_, inl, inr, ⊎-elim}
 use mathlib.Core.List.{List, [], _∷_}
-use mathlib.Core.Bool.{Bool, true, false}
-use borrow.Author.Tests.{ltb-true, ltb-false}
-use lib.Dec.{ltb}
-use lib.ListN.{length, getD}
+use mathlib.Core.Bool.{Bool, true, false, not, _&&_}
+use borrow.Author.Tests.{eqb-true, eq-eqb, ne-eqb, leb-true, le-leb, ltb-true, ltb-false}
+use lib.Dec.{eqb, leb, ltb}
+use lib.ListN.{length, getD, take, length-take}
+use lib.Seq.{getD-take}
 use Rattle.words.specs.Choice.{if}
+use Rattle.words.specs.Lists.{every}
 use Rattle.kinds.specs.declared.Bio.{Bio}
 use Rattle.clashes.specs.Folds.{fold}
+use Rattle.clashes.proofs.Logic.{and-left, both-true}
 use Rattle.parts.specs.Inputs.{lesser}
+use Rattle.lines.specs.Says.{Said}
 use Rattle.lines.specs.Routes.{bridge}
+use Rattle.lines.specs.Traces.{isBridge, isLpcPin, pinTold}
 use Rattle.lines.specs.declared.Bridge.the-variants.{Is}
+use Rattle.lines.specs.declared.Trace.the-variants.{BioInput, LpcCascade}
 use Rattle.madt.specs.Adding.{noBio}
+use Rattle.map_promises.specs.Sources.{pin, bioAt, isLpcBridge, name}
+use Rattle.map_promises.proofs.Kept.{Good, bio-node}
+use Rattle.map_promises.proofs.Logic.{same-bool}
+use Rattle.map_promises.proofs.Members.{every-at, at-every}
 
 -- the lesser of two is one of them, and no larger than either
 lesser-one : (b c : Bio) → (lesser b c ≡ b) ⊎ (lesser b c ≡ c)
@@ -63,6 +73,12 @@ fold-least (x ∷ xs) best =
 is-same : (a b : Bio) → Is a ≡ Is b → a ≡ b
 is-same a b h = cc
 
+-- where there is a bridge, there is an LPC's
+bridge-some : (bios : List Bio) (j : ℕ) → j < length bios → (b : Bio) × (bridge bios ≡ Is b)
+unfolding bridge
+bridge-some [] j k = absurd (not-suc-le-zero k)
+bridge-some (x ∷ xs) j k = (fold lesser x xs, refl)
+
 pub bridge-one : (bios : List Bio) (b : Bio) → bridge bios ≡ Is b → (j : ℕ) × (j < length bios) × (getD bios j noBio ≡ b)
 unfolding bridge
 bridge-one [] b h = absurd (let z : _≡_ {A = ℕ} 0 1 = cc in omega arith)
@@ -81,3 +97,44 @@ bridge-least (x ∷ xs) b h j k = go j k
     go : (j : ℕ) → j < length (x ∷ xs) → b .node ≤ getD (x ∷ xs) j noBio .node
     go zero k = omega (arith, e, fold-least xs x .0)
     go (suc j) k = omega (arith, e, fold-least xs x .1 j (le-of-suc-le-suc k))
+
+module _ (said : Said) (g : Good said) (j : ℕ) (there : j < length (said .bios)) where
+  abbrev node : ℕ
+  node = bioAt said j .node
+
+  -- no bridge has a smaller hardware ID: it has that of the LPC's bridge
+  is-bridge : isLpcBridge said j ≡ true → isBridge (bridge (said .bios)) node ≡ true
+  unfolding isBridge
+  is-bridge h =
+      let smallest = every (λ b. leb node (b .node)) (said .bios) in
+      let alone = every (λ b. not (eqb (b .node) node)) (take j (said .bios)) in
+      let b = bridge-some (said .bios) j there in
+      let w = bridge-one (said .bios) (b .0) (b .1) in
+      let least : node ≤ bioAt said (w .0) .node =
+      leb-true _ _ (every-at noBio (λ b. leb node (b .node)) (said .bios) (and-left smallest alone h) (w .0) (w .1)) in
+      let own : bioAt said (w .0) .node ≡ b .0 .node = ap (λ (c : Bio). c .node) (w .2) in
+      rw (b .1) (eq-eqb (b .0 .node) node (omega (arith, bridge-least (said .bios) (b .0) (b .1) j there)))
+
+  -- the LPC's bridge has the smallest hardware ID, and by 52 no other has it too
+  lpc-bridge : isBridge (bridge (said .bios)) node ≡ true → isLpcBridge said j ≡ true
+  unfolding isBridge
+  lpc-bridge h =
+      let b = bridge-some (said .bios) j there in
+      let same : b .0 .node ≡ node = eqb-true _ _ (rw (b .1) at h) in
+      both-true (every (λ b. leb node (b .node)) (said .bios)) (every (λ b. not (eqb (b .node) node)) (take j (said .bios)))
+      (at-every noBio (λ b. leb node (b .node)) (said .bios)
+      (λ i k. le-leb node (bioAt said i .node) (omega (arith, same, bridge-least (said .bios) (b .0) (b .1) i k))))
+      (at-every noBio (λ b. not (eqb (b .node) node)) (take j (said .bios)) earlier)
+    where
+      earlier : (i : ℕ) → i < length (take j (said .bios)) → not (eqb (getD (take j (said .bios)) i noBio .node) node) ≡ true
+      earlier i k =
+          let l : i < j = omega (arith, length-take j (said .bios)) in
+          let e : getD (take j (said .bios)) i noBio ≡ bioAt said i = getD-take j (said .bios) i noBio l in
+          rw (e, ne-eqb (bioAt said i .node) node (λ z. let o : i ≡ j = bio-node said g i j (omega arith) there z in omega arith))
+
+  -- a pin is told by its name
+  pub pin-told : (v : ℕ) → pinTold said v (bioAt said j) ≡ name said (pin j v)
+  unfolding pinTold isLpcPin
+  pin-told v =
+      ap (λ (t : Bool). if (said .lpc .present && eqb (said .lpc .cascade) v && t) (LpcCascade (bioAt said j .base + v)) (BioInput (bioAt said j .base + v)))
+      (same-bool _ _ lpc-bridge is-bridge)

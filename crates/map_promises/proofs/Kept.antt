@@ -1,47 +1,49 @@
 -- What it tells of a map that it keeps the rules, as facts about its structures.
-use Prim.Native.Nat.{ℕ, _+_, _<_, _≤_}
+use Prim.Native.Nat.{ℕ, _+_, _-_, _<_, _≤_}
 use native.Mathlib.Omega.{arith}
 use mathlib.Core.Path.{_≡_, refl, sym, _∙_}
-use mathlib.Core.Logic.{inl, inr, ⊎-elim}
-use mathlib.Core.Bool.{Bool, true, false, not, _&&_, or-true, true≢false}
-use borrow.Author.Tests.{eqb-true, eq-eqb, ne-eqb, lt-ltb, not-true, not-false}
+use mathlib.Core.Logic.{⊎-elim}
+use mathlib.Core.Bool.{Bool, true, false, not, _&&_, true≢false}
+use borrow.Author.Tests.{eqb-true, not-true, not-false}
 use lib.Bits.{bitAnd}
 use lib.Dec.{eqb}
 use lib.ListN.{length}
-use Rattle.words.specs.Choice.{if}
 use Rattle.kinds.specs.Ranges.{bitInBoth}
 use Rattle.kinds.specs.declared.Bio.{Bio}
-use Rattle.clashes.specs.Rules.{noNode, clash}
 use Rattle.clashes.specs.Search.{firstClash, firstLone}
-use Rattle.clashes.proofs.Logic.{and-left, and-right, both-true}
-use Rattle.clashes.proofs.Symmetric.{core-of}
+use Rattle.clashes.specs.declared.Pair.the-variants.{None as NoPair}
+use Rattle.clashes.proofs.Logic.{and-left, and-right}
 use Rattle.lines.specs.Says.{Said, says}
 use Rattle.lines.specs.Routes.{bridge}
 use Rattle.lines.specs.Claims.{claims}
-use Rattle.lines.specs.Rules.{tooMany, check, noBridge, rangesKept, lowest, verdictsFrom40, firstBroken, isKept, keepsRules, slotPlaces}
+use Rattle.lines.specs.Rules.{tooMany, check, noBridge, rangesKept, ruleClash, lowest, verdictsFrom40, firstBroken, isKept, keepsRules, slotPlaces}
 use Rattle.lines.specs.declared.Map.{Map}
 use Rattle.lines.specs.declared.Bridge.{Bridge}
 use Rattle.lines.specs.declared.Bridge.the-variants.{Is, None}
+use Rattle.lines.specs.declared.Verdict.the-variants.{Kept}
 use Rattle.lines.proofs.Counts.{counts, few-of-kept}
-use Rattle.map_promises.specs.Sources.{eioAt, bioAt, msiAt}
-use Rattle.map_promises.specs.Structures.{lio, eio, bio, msi, claimOf, Meet}
+use Rattle.map_promises.specs.Sources.{pin, slot, eioAt, bioAt, msiAt}
+use Rattle.map_promises.specs.Structures.{Structure, lio, eio}
+use Rattle.map_promises.specs.Clashing.{Enters, Sharing, TwoNode, TwoNumber, TwoVector, TwoCore}
 use Rattle.map_promises.proofs.Hubs.{Hub, bio-hub}
 use Rattle.map_promises.proofs.Logic.{order}
-use Rattle.map_promises.proofs.Meetings.{no-meet}
-use Rattle.map_promises.proofs.Ranged.{eio-fits}
+use Rattle.map_promises.proofs.Meetings.{no-sharing}
+use Rattle.map_promises.proofs.Sharing.{node-agrees, number-agrees, vector-agrees, core-agrees, number-sharing, vector-sharing}
 use Rattle.map_promises.proofs.Slots.{slots-placed}
-use Rattle.map_promises.proofs.Verdicts.{check-kept, alone-kept, both-kept, spotted-kept, both-of-kept, each-kept, kept-yes}
+use Rattle.map_promises.proofs.Unused.{lio-said}
+use Rattle.map_promises.proofs.Verdicts.{eio-there, check-kept, alone-kept, both-kept, spotted-kept, both-of-kept, each-kept, kept-yes}
 
 -- the rules, as facts about what is said
 pub record Good (said : Said) : Type 0 where
   pub ranged : rangesKept said ≡ true
   pub masks : bitAnd (said .lio .low .mask) (said .lio .high .mask) ≡ 0
-  pub no41 : Meet said 41 → ⊥
+  pub some : length (said .eios) ≡ 0 → ⊥
+  pub no41 : TwoNode said → ⊥
   pub hub : (j : ℕ) → j < length (said .bios) → Hub said j
   pub behind : said .lpc .present ≡ true → (b : Bio) × (bridge (said .bios) ≡ Is b)
-  pub no51 : Meet said 51 → ⊥
-  pub no52 : Meet said 52 → ⊥
-  pub no53 : Meet said 53 → ⊥
+  pub no51 : TwoNumber said → ⊥
+  pub no52 : TwoVector said → ⊥
+  pub no53 : TwoCore said → ⊥
 
 -- an LPC that does not lack a bridge has one
 behind-bridge : (present : Bool) (b : Bridge) → noBridge present b ≡ false → present ≡ true → (x : Bio) × (b ≡ Is x)
@@ -60,15 +62,22 @@ good map h =
     let apart = not-true (bitInBoth (said .lio)) (and-right (rangesKept said) (not (bitInBoth (said .lio))) r) in
     let ok = slots-placed map (counts map (few-of-kept map h)) in
     let f = each-kept (verdictsFrom40 said slotPlaces 0 0) (both-of-kept (check 38 (tooMany map) 0) (lowest (verdictsFrom40 said slotPlaces 0 0)) v .1) in
+    let some = eio-there said 0 (f 0) in
+    let hub = bio-hub said ranged slotPlaces ok (spotted-kept 42 (firstLone (claims said slotPlaces)) (f 2)) in
+    let low0 = lio-said (map .lio) .0 in
+    let high0 = lio-said (map .lio) .1 in
+    let none : (n : ℕ) → ruleClash n (claims said slotPlaces) ≡ Kept → firstClash n (claims said slotPlaces) ≡ NoPair =
+    λ n. both-kept n (firstClash n (claims said slotPlaces)) in
     record {
       ranged = ranged;
       masks = eqb-true _ 0 (not-false (eqb (bitAnd (said .lio .low .mask) (said .lio .high .mask)) 0) apart);
-      no41 = no-meet said slotPlaces ok 41 (alone-kept 41 (firstClash 41 (claims said slotPlaces)) (f 1));
-      hub = bio-hub said ranged slotPlaces ok (spotted-kept 42 (firstLone (claims said slotPlaces)) (f 2));
+      some = some;
+      no41 = no-sharing said slotPlaces ok (node-agrees said ranged) (alone-kept 41 (firstClash 41 (claims said slotPlaces)) (f 1));
+      hub = hub;
       behind = behind-bridge (said .lpc .present) (bridge (said .bios)) (check-kept 43 (noBridge (said .lpc .present) (bridge (said .bios))) 14 (f 3));
-      no51 = no-meet said slotPlaces ok 51 (both-kept 51 (firstClash 51 (claims said slotPlaces)) (f 4));
-      no52 = no-meet said slotPlaces ok 52 (both-kept 52 (firstClash 52 (claims said slotPlaces)) (f 5));
-      no53 = no-meet said slotPlaces ok 53 (both-kept 53 (firstClash 53 (claims said slotPlaces)) (f 6));
+      no51 = λ w. no-sharing said slotPlaces ok (number-agrees said ranged) (none 51 (f 4)) (number-sharing said w);
+      no52 = λ w. no-sharing said slotPlaces ok (vector-agrees said ranged some hub) (none 52 (f 5)) (vector-sharing said w);
+      no53 = no-sharing said slotPlaces ok (core-agrees said ranged low0 high0) (none 53 (f 6));
     }
 
 -- two numbers that cannot differ are equal
@@ -76,118 +85,80 @@ same : (i j : ℕ) → ((i ≡ j → ⊥) → ⊥) → i ≡ j
 same i j h =
     ⊎-elim (λ lt. absurd (h (λ e. omega arith))) (⊎-elim (λ e. e) (λ gt. absurd (h (λ e. omega arith)))) (order i j)
 
-nonzero : (v : ℕ) → 2 ≤ v → not (eqb v 0) ≡ true
-nonzero v h = rw (ne-eqb v 0 (omega arith))
-
 module _ (said : Said) (g : Good said) where
+  -- two EIO that share are one
+  one-eio : {Share : Structure → Structure → Type 0} → (Sharing said Share → ⊥)
+      → (i j : ℕ) → i < length (said .eios) → j < length (said .eios) → Share (eio i) (eio j) → i ≡ j
+  one-eio never i j hi hj w =
+      same i j (λ n. never (record { s = eio i; t = eio j; s-in = hi; t-in = hj; differ = λ q. n cc; share = w }))
+
   -- 41: two EIO of one node are one
   pub eio-node : (i j : ℕ) → i < length (said .eios) → j < length (said .eios) → eioAt said i .node ≡ eioAt said j .node → i ≡ j
-  unfolding clash if
-  eio-node i j hi hj e =
-      let small = eio-fits said (g .ranged) i hi .1 in
-      same i j
-      (λ n. g .no41 (
-        eio i,
-        eio j,
-        hi,
-        hj,
-        (λ q. n cc),
-        both-true (not (eqb (eioAt said i .node) noNode)) (eqb (eioAt said i .node) (eioAt said j .node))
-            (rw (ne-eqb (eioAt said i .node) noNode (omega arith))) (eq-eqb _ _ e),
-      ))
+  eio-node i j hi hj e = one-eio (g .no41) i j hi hj (eioAt said i .node, refl, sym e)
 
   -- 53: two EIO of one cascade are one
   pub eio-core : (i j : ℕ) → i < length (said .eios) → j < length (said .eios) → eioAt said i .cascade ≡ eioAt said j .cascade → i ≡ j
-  unfolding clash if
-  eio-core i j hi hj e =
-      same i j
-      (λ n. g .no53 (
-        eio i,
-        eio j,
-        hi,
-        hj,
-        (λ q. n cc),
-        core-of (claimOf said slotPlaces (eio i)) (claimOf said slotPlaces (eio j)) (eioAt said i .cascade)
-            (nonzero (eioAt said i .cascade) (eio-fits said (g .ranged) i hi .0)) (inl refl) (inl e),
-      ))
+  eio-core i j hi hj e = one-eio (g .no53) i j hi hj (eioAt said i .cascade, refl, sym e)
 
-  -- 53: no EIO enters by the cascade of a LIO half
-  pub eio-not-low : (e : ℕ) → e < length (said .eios) → eioAt said e .cascade ≡ said .lio .low .cascade → ⊥
-  unfolding clash if
-  eio-not-low e k q =
-      g .no53 (
-        eio e,
-        lio,
-        k,
-        omega arith,
-        (λ z. let o : _≡_ {A = ℕ} 0 1 = cc in omega arith),
-        core-of (claimOf said slotPlaces (eio e)) (claimOf said slotPlaces lio) (eioAt said e .cascade)
-            (nonzero (eioAt said e .cascade) (eio-fits said (g .ranged) e k .0)) (inl refl) (inl q),
-      )
-
-  pub eio-not-high : (e : ℕ) → e < length (said .eios) → eioAt said e .cascade ≡ said .lio .high .cascade → ⊥
-  unfolding clash if
-  eio-not-high e k q =
-      g .no53 (
-        eio e,
-        lio,
-        k,
-        omega arith,
-        (λ z. let o : _≡_ {A = ℕ} 0 1 = cc in omega arith),
-        core-of (claimOf said slotPlaces (eio e)) (claimOf said slotPlaces lio) (eioAt said e .cascade)
-            (nonzero (eioAt said e .cascade) (eio-fits said (g .ranged) e k .0)) (inl refl) (inr q),
-      )
+  -- 53: no EIO enters where a half of the LIO does
+  pub eio-not-lio : (e : ℕ) → e < length (said .eios) → Enters said lio (eioAt said e .cascade) → ⊥
+  eio-not-lio e k h =
+      g .no53
+      (record {
+        s = eio e;
+        t = lio;
+        s-in = k;
+        t-in = omega arith;
+        differ = λ z. let o : _≡_ {A = ℕ} 0 1 = cc in omega arith;
+        share = (eioAt said e .cascade, refl, h);
+      })
 
   -- 52: two bridges of one node are one
   pub bio-node : (i j : ℕ) → i < length (said .bios) → j < length (said .bios) → bioAt said i .node ≡ bioAt said j .node → i ≡ j
-  unfolding clash if
   bio-node i j hi hj e =
-      same i j (λ n. g .no52 (bio i, bio j, hi, hj, (λ q. n cc), rw (eq-eqb (bioAt said i .node) (bioAt said j .node) e)))
+      let w = g .hub i hi in
+      same i j
+      (λ n. g .no52 (pin i 0, pin j 0, (hi, omega arith), (hj, omega arith), (λ q. n cc), w .0, 0, w .1, (w .2, refl), (w .2 ∙ e, refl)))
 
   -- 51: two bridges that own one global number are one
   pub bio-number : (i j n : ℕ) → i < length (said .bios) → j < length (said .bios)
       → bioAt said i .base ≤ n → n < bioAt said i .base + 64 → bioAt said j .base ≤ n → n < bioAt said j .base + 64 → i ≡ j
-  unfolding clash if
   bio-number i j n hi hj a b c d =
       same i j
       (λ z. g .no51 (
-        bio i,
-        bio j,
-        hi,
-        hj,
+        pin i (n - bioAt said i .base),
+        pin j (n - bioAt said j .base),
+        (hi, omega arith),
+        (hj, omega arith),
         (λ q. z cc),
-        rw (lt-ltb (bioAt said i .base) (bioAt said j .base + 64) (omega arith), lt-ltb (bioAt said j .base) (bioAt said i .base + 64) (omega arith)),
+        n,
+        omega arith,
+        omega arith,
       ))
 
   -- 52: two MSI that have one slot are one
   pub msi-slot : (i j s : ℕ) → i < length (said .msis) → j < length (said .msis)
       → msiAt said i .start ≤ s → s < msiAt said i .start + msiAt said i .count
       → msiAt said j .start ≤ s → s < msiAt said j .start + msiAt said j .count → i ≡ j
-  unfolding clash if
   msi-slot i j s hi hj a b c d =
+      let l : 0 < length (said .eios) = omega (arith, g .some) in
       same i j
-      (λ z. g .no52 (
-        msi i,
-        msi j,
-        hi,
-        hj,
-        (λ q. z cc),
-        rw (
-          lt-ltb (msiAt said i .start) (msiAt said j .start + msiAt said j .count) (omega arith),
-          lt-ltb (msiAt said j .start) (msiAt said i .start + msiAt said i .count) (omega arith),
-        ),
-      ))
+      (λ z. g .no52 (slot i s 0, slot j s 0, (hi, l, a, b), (hj, l, c, d), (λ q. z cc), 0, s, l, (refl, refl), (refl, refl)))
 
   -- 52: no slot is a pin's extended vector
   pub bio-msi : (j m s : ℕ) → j < length (said .bios) → m < length (said .msis)
       → s < 64 → msiAt said m .start ≤ s → s < msiAt said m .start + msiAt said m .count → ⊥
-  unfolding clash if
   bio-msi j m s hj hm a b c =
+      let w = g .hub j hj in
       g .no52 (
-        bio j,
-        msi m,
-        hj,
-        hm,
+        pin j s,
+        slot m s (w .0),
+        (hj, a),
+        (hm, w .1, b, c),
         (λ z. let o : _≡_ {A = ℕ} 0 1 = cc in omega arith),
-        rw (or-true, lt-ltb 0 (msiAt said m .start + msiAt said m .count) (omega arith), lt-ltb (msiAt said m .start) 64 (omega arith)),
+        w .0,
+        s,
+        w .1,
+        (w .2, refl),
+        (refl, refl),
       )

@@ -8,8 +8,10 @@ use mathlib.Core.Bool.{Bool, true, false, not}
 use borrow.Author.Tests.{eqb-true, eqb-false, not-true}
 use lib.Bits.{bitAnd, and-shr, and-mod}
 use lib.Dec.{eqb, ltb}
-use Rattle.clashes.proofs.Logic.{and-right}
-use Rattle.parts.specs.Inputs.{hasBit}
+use Rattle.kinds.specs.declared.Lio.{Lio}
+use Rattle.clashes.proofs.Logic.{and-right, or-cases}
+use Rattle.parts.specs.Inputs.{hasBit, wired}
+use Rattle.parts.proofs.Inputs.{bit-small}
 
 pub is-bool : (t : Bool) → (t ≡ false) ⊎ (t ≡ true)
 is-bool true = inr refl
@@ -40,3 +42,17 @@ both-bits a b i z p q =
     let e : bitAnd a b / 2 ^ i % 2 ≡ 1 = rw (and-shr, and-mod (a / 2 ^ i) (b / 2 ^ i) 1, x, y) in
     let w : _≡_ {A = ℕ} 0 1 = rw (z, zero-div) at e in
     omega arith
+
+-- a mask with a bit is in use
+pub bit-used : (mask i : ℕ) → hasBit mask i ≡ true → mask ≡ 0 → ⊥
+unfolding hasBit
+bit-used mask i h z =
+    let x : mask / 2 ^ i % 2 ≡ 1 = eqb-true _ _ (and-right (ltb i 32) (eqb (mask / 2 ^ i % 2) 1) h) in
+    let w : _≡_ {A = ℕ} 0 1 = rw (z, zero-div) at x in
+    omega arith
+
+-- a wired input is one of 32
+pub wired-small : (lio : Lio) (i : ℕ) → wired lio i ≡ true → i < 32
+wired-small lio i h =
+    ⊎-elim (bit-small (lio .low .mask) i) (bit-small (lio .high .mask) i)
+    (or-cases (hasBit (lio .low .mask) i) (hasBit (lio .high .mask) i) h)

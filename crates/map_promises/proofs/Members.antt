@@ -62,6 +62,11 @@ module _ {A : Type 0} (d : A) where
   every-at f (x ∷ xs) h zero k = and-left (f x) (every f xs) h
   every-at f (x ∷ xs) h (suc i) k = every-at f xs (and-right (f x) (every f xs) h) i (le-of-suc-le-suc k)
 
+  pub at-every : (f : A → Bool) (l : List A) → ((i : ℕ) → i < length l → f (getD l i d) ≡ true) → every f l ≡ true
+  unfolding every
+  at-every f [] h = refl
+  at-every f (x ∷ xs) h = rw (h 0 (omega arith)) (at-every f xs (λ i k. h (suc i) (omega arith)))
+
   -- a search stops at a place that the test takes, or no place is taken
   abbrev pub Stops : {R : Type 0} → (A → Bool) → (A → R) → R → List A → Type 0
   Stops test found none l = (i : ℕ) × (i < length l) × (test (getD l i d) ≡ true) × (first test found none l ≡ found (getD l i d))

@@ -18,7 +18,8 @@ use Rattle.lines.specs.declared.Route.the-variants.{Arrives, NoOwner, Unwired}
 use Rattle.madt.specs.Adding.{noEio}
 use Rattle.map_promises.specs.Sources.{Source, input, pin, slot, eioAt, bioAt, IsSource, arrives}
 use Rattle.map_promises.specs.Statements.{NoTwoAlike}
-use Rattle.map_promises.proofs.Kept.{Good, good, eio-node, eio-core, eio-not-low, eio-not-high, bio-node, bio-msi, msi-slot}
+use Rattle.map_promises.proofs.Kept.{Good, good, eio-node, eio-core, eio-not-lio, bio-node, bio-msi, msi-slot}
+use Rattle.map_promises.proofs.Logic.{bit-used}
 use Rattle.map_promises.proofs.Members.{finds}
 
 -- a wired input arrives at the cascade of the half that has its bit
@@ -62,7 +63,11 @@ module _ (said : Said) (g : Good said) where
   input-eio i e n p k q =
       let w = input-at (said .lio) i p in
       let v : eioAt said e .cascade ≡ w .0 = of-arrives (sym q ∙ w .1) in
-      ⊎-elim (λ r. eio-not-low said g e k (v ∙ r .0)) (λ r. eio-not-high said g e k (v ∙ r .0)) (w .2)
+      eio-not-lio said g e k
+      (⊎-elim
+      (λ r. inl (bit-used (said .lio .low .mask) i (r .1), sym (v ∙ r .0)))
+      (λ r. inr (bit-used (said .lio .high .mask) i (r .1), sym (v ∙ r .0)))
+      (w .2))
     where
       of-arrives : {a b c d : ℕ} → Arrives a b ≡ Arrives c d → a ≡ c
       of-arrives z = cc

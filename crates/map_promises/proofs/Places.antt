@@ -1,7 +1,6 @@
 -- Whether a map breaks a rule does not hang on the places of its structures.
 use Prim.Native.Nat.{ℕ}
 use mathlib.Core.Path.{_≡_, _∙_, ap}
-use mathlib.Core.Logic.{⊎-elim}
 use mathlib.Core.Bool.{Bool, true, false, not, _&&_, _||_}
 use lib.Dec.{eqb}
 use lib.ListN.{length}
@@ -24,7 +23,7 @@ use Rattle.lines.proofs.Counts.{counts, few-of-kept}
 use Rattle.map_promises.specs.Structures.{claimOf, Placed}
 use Rattle.map_promises.specs.Statements.{PlacesDoNotMatter}
 use Rattle.map_promises.proofs.Logic.{same-bool}
-use Rattle.map_promises.proofs.Meetings.{same-claim, member, of-member, no-meet, meet-or-none}
+use Rattle.map_promises.proofs.Meetings.{same-claim, member, of-member, itself, no-sharing, finds-nothing}
 use Rattle.map_promises.proofs.Members.{every-mem, mem-every}
 use Rattle.map_promises.proofs.Slots.{slots-placed}
 use Rattle.map_promises.proofs.Verdicts.{check-kept, kept-check, alone-kept, none-alone, both-kept, none-both, spotted-kept, nowhere-spotted, both-of-kept, each-kept, kept-yes}
@@ -32,7 +31,8 @@ use Rattle.map_promises.proofs.Verdicts.{check-kept, kept-check, alone-
 module _ (said : Said) (p q : Places) (op : Placed said p) (oq : Placed said q) where
   -- no clash here, no clash there
   clash-moves : (rule : ℕ) → firstClash rule (claims said p) ≡ None → firstClash rule (claims said q) ≡ None
-  clash-moves rule h = ⊎-elim (λ w. absurd (no-meet said p op rule h w)) (λ e. e) (meet-or-none said q oq rule)
+  clash-moves rule h =
+      finds-nothing said q oq (itself said rule) (no-sharing said p op (itself said rule) h)
 
 eio-moves : (said : Said) (p q : Places) → Placed said p → (n : ℕ) → noEio n (claims said p) ≡ true → noEio n (claims said q) ≡ true
 eio-moves said p q op n h =

@@ -1,4 +1,5 @@
--- The search among claims names the first structure that clashes with an earlier one, and the earliest that it clashes with.
+-- The search among claims names the first structure that clashes with an earlier one, and the earliest that it clashes with; and
+-- the first that stands alone.
 use Prim.Native.Nat.{ℕ, _<_, _≤_}
 use native.Mathlib.Omega.{arith}
 use mathlib.Core.Path.{_≡_, refl, sym, _∙_, ap}
@@ -9,8 +10,8 @@ use borrow.Author.Tests.{ltb-true, ltb-false, lt-ltb}
 use lib.Dec.{ltb}
 use Rattle.words.specs.Choice.{if}
 use Rattle.clashes.specs.Folds.{fold}
-use Rattle.clashes.specs.Rules.{clash}
-use Rattle.clashes.specs.Search.{sooner, nearer, partner, better, firstClash}
+use Rattle.clashes.specs.Rules.{clash, lone}
+use Rattle.clashes.specs.Search.{sooner, nearer, partner, better, firstClash, lonelier, firstLone}
 use Rattle.clashes.specs.declared.Claim.{Claim}
 use Rattle.clashes.specs.declared.Spot.{Spot}
 use Rattle.clashes.specs.declared.Spot.the-variants.{At, Nowhere}
@@ -18,7 +19,20 @@ use Rattle.clashes.specs.declared.Pair.{Pair}
 use Rattle.clashes.specs.declared.Pair.the-variants.{Two, None}
 use Rattle.clashes.proofs.Logic.{and-left, and-right}
 use Rattle.clashes.proofs.Searched.{at-nowhere, two-none, hits, step, turn, spot-none}
-use Rattle.map_promises.specs.Statements.{FirstClash, SearchNames}
+
+-- "the first structure that clashes with an earlier": x at p clashes with y at q, which stands before it; no structure before
+-- x clashes with an earlier one; and x clashes with none that stands before y
+pub record FirstClash (rule : ℕ) (all : List Claim) (p q : ℕ) : Type 0 where
+  pub x : Claim
+  pub y : Claim
+  pub x-listed : List·Memᴰ x all
+  pub y-listed : List·Memᴰ y all
+  pub x-at : x .place ≡ p
+  pub y-at : y .place ≡ q
+  pub earlier : q < p
+  pub clashes : clash rule x y ≡ true
+  pub first : (z w : Claim) → List·Memᴰ z all → List·Memᴰ w all → w .place < z .place → clash rule z w ≡ true → p ≤ z .place
+  pub earliest : (w : Claim) → List·Memᴰ w all → w .place < p → clash rule x w ≡ true → q ≤ w .place
 
 -- q is no later than the best so far
 abbrev Under : ℕ → Spot → Type 0
@@ -50,7 +64,7 @@ sooner-under (At b) p q h = go (ltb p b) refl h
 under-self : (best : Spot) (q : ℕ) → best ≡ At q → Under q best
 under-self best q h = rw h (let z : q ≤ q = omega arith in z)
 
-abbrev Least : (Claim → Bool) → List Claim → ℕ → Type 0
+abbrev pub Least : (Claim → Bool) → List Claim → ℕ → Type 0
 Least t l q = (y : Claim) × List·Memᴰ y l × (t y ≡ true) × (y .place ≡ q)
 
 -- the least place of those that a test takes is taken, and no other that is taken is before it
@@ -132,8 +146,8 @@ first-is : (rule : ℕ) (l : List Claim) → firstClash rule l ≡ fold (turn (�
 unfolding firstClash
 first-is rule l = refl
 
--- THE PROMISE
-pub search-names : (rule : ℕ) (all : List Claim) → SearchNames rule all
+-- what the search names is the first clash
+pub search-names : (rule : ℕ) (l : List Claim) (p q : ℕ) → firstClash rule l ≡ Two p q → FirstClash rule l p q
 search-names rule l p q h =
     let r = fold-two (λ x. partner rule x l) l None p q (sym (first-is rule l) ∙ h) in
     ⊎-elim (λ e. absurd (two-none p q (sym e))) (λ w. named (w .0) (w .1) (w .2) (w .3) (r .2)) (r .0)
@@ -166,3 +180,10 @@ search-names rule l p q h =
           earliest = λ v mv k d. a .2 v mv (hit-true rule x v (omega arith) d);
         })
         (a .0)
+
+-- 42: a claim that stands alone is named, and none before it does
+pub search-lone : (l : List Claim) (p : ℕ) → firstLone l ≡ At p → Least (lone l) l p × ((z : Claim) → List·Memᴰ z l → lone l z ≡ true → p ≤ z .place)
+unfolding firstLone lonelier
+search-lone l p h =
+    let r = fold-at (lone l) l Nowhere p h in
+    (⊎-elim (λ e. absurd (at-nowhere p (sym e))) (λ w. w) (r .0), r .2)

@@ -1,55 +1,35 @@
 -- The LPC lines arrive where the pin that they share does; and routing a number and tracing its arrival comes back to it.
 use Prim.Native.Nat.{ℕ, _+_, _-_, _<_, _≤_}
-use native.Mathlib.Nat.{add-sub-cancel-left}
 use native.Mathlib.Omega.{arith}
 use mathlib.Core.Path.{_≡_, refl, sym, _∙_, ap}
 use mathlib.Core.Logic.{_⊎_, inl, inr, ⊎-elim}
 use mathlib.Core.Bool.{Bool, true, false, _||_}
-use borrow.Author.Tests.{eq-eqb, leb-true, ltb-true, le-leb, lt-ltb, le-ltb}
+use borrow.Author.Tests.{eq-eqb, leb-true, ltb-true}
 use lib.Dec.{leb, ltb}
-use lib.ListN.{length}
 use Rattle.words.specs.Choice.{if}
-use Rattle.words.proofs.Choices.{yes-if}
 use Rattle.kinds.specs.declared.Bio.{Bio}
-use Rattle.clashes.proofs.Logic.{and-left, and-right, both-true}
+use Rattle.clashes.proofs.Logic.{and-left, and-right}
 use Rattle.parts.specs.Inputs.{hasBit, wired, owns}
 use Rattle.lines.specs.Says.{Said, says}
-use Rattle.lines.specs.Routes.{lioArrival, bridge, pinArrival, bioOwner, owner, arrivalOf, arrival, through}
+use Rattle.lines.specs.Routes.{lioArrival, bridge, bioOwner, arrivalOf, through}
 use Rattle.lines.specs.Traces.{isBridge, isLpcPin, pinTold}
 use Rattle.lines.specs.Rules.{keepsRules}
 use Rattle.lines.specs.Answers.{routeOf, traceOf}
 use Rattle.lines.specs.declared.Map.{Map}
 use Rattle.lines.specs.declared.Bridge.the-variants.{Is}
-use Rattle.lines.specs.declared.Owner.the-variants.{LpcInput, LioInput, BioInput, Nobody}
+use Rattle.lines.specs.declared.Owner.the-variants.{BioInput, Nobody}
 use Rattle.lines.specs.declared.Route.the-variants.{Arrives, NoOwner, Unwired}
 use Rattle.lines.specs.declared.Trace.the-variants.{LioInput as LioTold, BioInput as BioTold, LpcCascade}
 use Rattle.madt.specs.Adding.{noBio}
-use Rattle.map_promises.specs.Sources.{input, pin, bioAt}
+use Rattle.map_promises.specs.Sources.{input, pin, bioAt, isShared, name}
 use Rattle.map_promises.specs.Statements.{LpcLinesShare, Tells, ThereAndBack}
-use Rattle.map_promises.proofs.Bridges.{bridge-one}
-use Rattle.map_promises.proofs.Kept.{Good, good, bio-number}
+use Rattle.map_promises.proofs.Bridges.{pin-told}
+use Rattle.map_promises.proofs.Kept.{Good, good}
 use Rattle.map_promises.proofs.Logic.{order, is-bool}
-use Rattle.map_promises.proofs.Members.{finds, found-or-not}
-use Rattle.map_promises.proofs.Ranged.{bio-fits, lpc-fits}
+use Rattle.map_promises.proofs.Members.{found-or-not}
+use Rattle.map_promises.proofs.Ranged.{lpc-fits}
+use Rattle.map_promises.proofs.Routing.{owner-nobody, owner-lio, owner-bio, routed, lpc-line, pin-routed}
 use Rattle.map_promises.proofs.Tracing.{tracing-names}
-
--- ---- whose a number is
-module _ (said : Said) where
-  owner-lpc : (n : ℕ) → n < 16 → said .lpc .present ≡ true → owner said n ≡ LpcInput
-  unfolding owner if
-  owner-lpc n l p = rw (lt-ltb n 16 l, p)
-
-  owner-nobody : (n : ℕ) → n < 16 → said .lpc .present ≡ false → owner said n ≡ Nobody
-  unfolding owner if
-  owner-nobody n l p = rw (lt-ltb n 16 l, p)
-
-  owner-lio : (n : ℕ) → 16 ≤ n → n < 48 → owner said n ≡ LioInput (n - 16)
-  unfolding owner if
-  owner-lio n l h = rw (le-ltb n 16 l, lt-ltb n 48 h)
-
-  owner-bio : (n : ℕ) → 48 ≤ n → owner said n ≡ bioOwner (said .bios) n
-  unfolding owner if
-  owner-bio n l = rw (le-ltb n 16 (omega arith), le-ltb n 48 l)
 
 -- an answer that is no arrival
 not-arrived : (v k : ℕ) → NoOwner ≡ Arrives v k → ⊥
@@ -65,11 +45,6 @@ wired-of said i v k h = go (hasBit (said .lio .low .mask) i) (hasBit (said .lio 
     go false true h = refl
     go false false h = absurd (let z : _≡_ {A = ℕ} 0 1 = cc in omega arith)
 
--- a map that keeps the rules is routed as it says
-routed : (map : Map) → keepsRules map ≡ true → (n : ℕ) → routeOf map n ≡ arrivalOf (says map) (owner (says map) n)
-unfolding routeOf arrival
-routed map h n = yes-if _ _ _ h
-
 module _ (map : Map) (kept : keepsRules map ≡ true) where
   abbrev said : Said
   said = says map
@@ -77,43 +52,11 @@ module _ (map : Map) (kept : keepsRules map ≡ true) where
   abbrev g : Good said
   g = good map kept
 
-  -- a bridge owns its numbers alone
-  owned : (j n : ℕ) → j < length (said .bios) → bioAt said j .base ≤ n → n < bioAt said j .base + 64
-      → bioOwner (said .bios) n ≡ BioInput (bioAt said j .node) (n - bioAt said j .base)
-  unfolding bioOwner
-  owned j n k a b =
-      finds noBio (owns n) (λ x. BioInput (x .node) (n - x .base)) Nobody (said .bios) j k
-      (both-true (leb (bioAt said j .base) n) (ltb n (bioAt said j .base + 64)) (le-leb _ _ a) (lt-ltb _ _ b))
-      (λ i h t.
-      ap (λ m. BioInput (bioAt said m .node) (n - bioAt said m .base))
-      (bio-number said g i j n h k
-      (leb-true _ _ (and-left (leb (bioAt said i .base) n) (ltb n (bioAt said i .base + 64)) t))
-      (ltb-true _ _ (and-right (leb (bioAt said i .base) n) (ltb n (bioAt said i .base + 64)) t)) a b))
-
-  -- the LPC's bridge by its place, and where the LPC lines go
-  lpc-line : (n : ℕ) → n < 16 → said .lpc .present ≡ true
-      → (j : ℕ) × (j < length (said .bios)) × (bridge (said .bios) ≡ Is (bioAt said j))
-      × (routeOf map n ≡ through (said .eios) (bioAt said j .node) (said .lpc .cascade))
-  unfolding arrivalOf pinArrival
-  lpc-line n l p =
-      let b = g .behind p in
-      let w = bridge-one (said .bios) (b .0) (b .1) in
-      let e : bridge (said .bios) ≡ Is (bioAt said (w .0)) = b .1 ∙ ap Is (sym (w .2)) in
-      (w .0, w .1, e, routed map kept n ∙ rw (owner-lpc said n l p, e))
-
   pub lines-share : LpcLinesShare map
-  unfolding arrivalOf
   lines-share n l p =
-      let w = lpc-line n l p in
-      let j = w .0 in
-      let f = bio-fits said (g .ranged) j (w .1) in
+      let w = lpc-line map kept n l p in
       let c = lpc-fits said (g .ranged) in
-      let m = bioAt said j .base + said .lpc .cascade in
-      let o : owner said m ≡ BioInput (bioAt said j .node) (m - bioAt said j .base) =
-      owner-bio said m (omega arith) ∙ owned j m (w .1) (omega arith) (omega arith) in
-      let r : routeOf map m ≡ through (said .eios) (bioAt said j .node) (m - bioAt said j .base) = routed map kept m ∙ rw o in
-      let same : m - bioAt said j .base ≡ said .lpc .cascade = add-sub-cancel-left (bioAt said j .base) (said .lpc .cascade) in
-      (bioAt said j, w .2, w .3 ∙ sym (r ∙ ap (through (said .eios) (bioAt said j .node)) same))
+      (bioAt said (w .0), w .2, w .3 ∙ sym (pin-routed map kept (w .0) (said .lpc .cascade) (w .1) (omega arith)))
 
   -- ---- there and back
   back-lio : (n v k : ℕ) → 16 ≤ n → n < 48 → routeOf map n ≡ Arrives v k → Tells n (traceOf map v k)
@@ -124,9 +67,9 @@ module _ (map : Map) (kept : keepsRules map ≡ true) where
       let e : 16 + (n - 16) ≡ n = omega arith in
       inl (t ∙ ap LioTold e)
 
-  told-as : (j v n : ℕ) → bioAt said j .base + v ≡ n → (pinTold said v (bioAt said j) ≡ BioTold n) ⊎ (pinTold said v (bioAt said j) ≡ LpcCascade n)
-  unfolding pinTold if
-  told-as j v n e = go (isLpcPin said (bioAt said j) v)
+  told-as : (j v n : ℕ) → bioAt said j .base + v ≡ n → (name said (pin j v) ≡ BioTold n) ⊎ (name said (pin j v) ≡ LpcCascade n)
+  unfolding if
+  told-as j v n e = go (isShared said j v)
     where
       go : (t : Bool)
           → (if t (LpcCascade (bioAt said j .base + v)) (BioTold (bioAt said j .base + v)) ≡ BioTold n)
@@ -162,10 +105,10 @@ module _ (map : Map) (kept : keepsRules map ≡ true) where
       ⊎-elim
       (λ p. absurd (not-arrived v k (rw (routed map kept n, owner-nobody said n l p) at q)))
       (λ p.
-      let w = lpc-line n l p in
+      let w = lpc-line map kept n l p in
       let c = lpc-fits said (g .ranged) in
       let t = tracing-names map kept (pin (w .0) (said .lpc .cascade)) v k (w .1, omega arith) .0 (sym (w .3) ∙ q) in
-      (bioAt said (w .0), w .2, t ∙ pin-is-lpc (w .0) p (w .2)))
+      (bioAt said (w .0), w .2, t ∙ sym (pin-told said g (w .0) (w .1) (said .lpc .cascade)) ∙ pin-is-lpc (w .0) p (w .2)))
       (is-bool (said .lpc .present))
 
   pub there-back : ThereAndBack map

@@ -14,23 +14,31 @@ use Rattle.clashes.proofs.Logic.{and-left, and-right, or-cases, both-true, left
 use Rattle.parts.specs.Inputs.{hasBit, leads, hasSlot, hasPin}
 use Rattle.lines.specs.Says.{Said, says}
 use Rattle.lines.specs.Routes.{lioArrival}
-use Rattle.lines.specs.Traces.{slotTold, isLpcPin, pinTold, landed, eioTraced, traced}
+use Rattle.lines.specs.Traces.{slotTold, pinTold, landed, eioTraced, traced}
 use Rattle.lines.specs.Rules.{keepsRules}
 use Rattle.lines.specs.Answers.{traceOf}
 use Rattle.lines.specs.declared.Map.{Map}
 use Rattle.lines.specs.declared.Route.the-variants.{Arrives}
 use Rattle.lines.specs.declared.Trace.the-variants.{Nothing, LioInput, BioInput, LpcCascade, MsiSlot}
 use Rattle.madt.specs.Adding.{noEio, noBio, noMsi}
-use Rattle.map_promises.specs.Sources.{Source, input, pin, slot, eioAt, bioAt, msiAt, IsSource, arrives, name}
+use Rattle.map_promises.specs.Sources.{Source, input, pin, slot, eioAt, bioAt, msiAt, IsSource, arrives, isShared, name}
 use Rattle.map_promises.specs.Statements.{TracingNames, Arrived, NothingExactly}
-use Rattle.map_promises.proofs.Kept.{Good, good, eio-node, eio-core, eio-not-low, eio-not-high, bio-node, bio-number, bio-msi, msi-slot}
-use Rattle.map_promises.proofs.Logic.{is-bool, both-bits}
+use Rattle.map_promises.proofs.Bridges.{pin-told}
+use Rattle.map_promises.proofs.Kept.{Good, good, eio-node, eio-core, eio-not-lio, bio-node, bio-number, bio-msi, msi-slot}
+use Rattle.map_promises.proofs.Logic.{is-bool, both-bits, bit-used}
 use Rattle.map_promises.proofs.Members.{finds, finds-none, found-or-not}
 use Rattle.map_promises.proofs.NoTwoAlike.{input-at, through-at, pin-at}
 
 -- a half leads an input
 led : (half : Half) (v i : ℕ) → v ≡ half .cascade → hasBit (half .mask) i ≡ true → leads half v i ≡ true
 led half v i e b = both-true (eqb (half .cascade) v) (hasBit (half .mask) i) (eq-eqb _ _ (sym e)) b
+
+-- and is used
+of-led : (half : Half) (v i : ℕ) → leads half v i ≡ true → (half .mask ≡ 0 → ⊥) × (half .cascade ≡ v)
+of-led half v i h =
+    let here = eqb (half .cascade) v in
+    let wired = hasBit (half .mask) i in
+    (bit-used (half .mask) i (and-right here wired h), eqb-true (half .cascade) v (and-left here wired h))
 
 module _ (said : Said) (g : Good said) where
   -- nothing is led by the LIO to the cascade of an EIO
@@ -42,10 +50,11 @@ module _ (said : Said) (g : Good said) where
       let high = said .lio .high in
       is-false (leads low v k || leads high v k)
       (λ t.
-      ⊎-elim
-      (λ r. eio-not-low said g e l (sym (eqb-true (low .cascade) v (and-left (eqb (low .cascade) v) (hasBit (low .mask) k) r))))
-      (λ r. eio-not-high said g e l (sym (eqb-true (high .cascade) v (and-left (eqb (high .cascade) v) (hasBit (high .mask) k) r))))
-      (or-cases (leads low v k) (leads high v k) t))
+      eio-not-lio said g e l
+      (⊎-elim
+      (λ r. inl (of-led low v k r))
+      (λ r. inr (of-led high v k r))
+      (or-cases (leads low v k) (leads high v k) t)))
 
   -- what enters by the EIO at a place landed on it
   eio-at : (e k : ℕ) → e < length (said .eios) → eioTraced said (eioAt said e .cascade) k ≡ landed said (eioAt said e .node) k
@@ -103,6 +112,7 @@ module _ (said : Said) (g : Good said) where
       let ev : eioAt said (w .0) .cascade ≡ v = cc in
       let ek : n ≡ k = cc in
       ap₂ (traced said) (sym ev) (sym ek) ∙ traced-eio (w .0) n (w .1) ∙ ap (λ a. landed said a n) (w .2) ∙ landed-pin j n (p .0) (p .1)
+      ∙ pin-told said g j (p .0) n
   names (slot m s e) v k p q =
       let ev : eioAt said e .cascade ≡ v = cc in
       let ek : s ≡ k = cc in
@@ -176,9 +186,9 @@ module _ (said : Said) (g : Good said) where
 
   -- a source's name is not nothing
   pub named : (x : Source) → name said x ≡ Nothing → ⊥
-  unfolding pinTold if
+  unfolding if
   named (input i) e = let o : _≡_ {A = ℕ} 0 1 = cc in omega arith
-  named (pin j v) e = picked (isLpcPin said (bioAt said j) v) (bioAt said j .base + v) e
+  named (pin j v) e = picked (isShared said j v) (bioAt said j .base + v) e
     where
       picked : (t : Bool) (n : ℕ) → if t (LpcCascade n) (BioInput n) ≡ Nothing → ⊥
       picked true n e = let o : _≡_ {A = ℕ} 0 1 = cc in omega arith
@@ -222,19 +232,18 @@ module _ (said : Said) (g : Good said) where
       ap₂ pin z (omega arith)
 
   one-name : (x y : Source) → IsSource said x → IsSource said y → name said x ≡ name said y → x ≡ y
-  unfolding pinTold
   one-name (input i) (input j) p q e = let z = is-lio (16 + i) (16 + j) e in ap input (omega arith)
-  one-name (input i) (pin j v) p q e = absurd (pin-not-lio (isLpcPin said (bioAt said j) v) (bioAt said j .base + v) (16 + i) (sym e))
+  one-name (input i) (pin j v) p q e = absurd (pin-not-lio (isShared said j v) (bioAt said j .base + v) (16 + i) (sym e))
   one-name (input i) (slot m s f) p q e = absurd (let o : _≡_ {A = ℕ} 0 1 = cc in omega arith)
-  one-name (pin j v) (input i) p q e = absurd (pin-not-lio (isLpcPin said (bioAt said j) v) (bioAt said j .base + v) (16 + i) e)
+  one-name (pin j v) (input i) p q e = absurd (pin-not-lio (isShared said j v) (bioAt said j .base + v) (16 + i) e)
   one-name (pin i v) (pin j w) p q e =
       pins-one i j v w p q
-      (pin-number (isLpcPin said (bioAt said i) v) (isLpcPin said (bioAt said j) w) (bioAt said i .base + v) (bioAt said j .base + w) e)
+      (pin-number (isShared said i v) (isShared said j w) (bioAt said i .base + v) (bioAt said j .base + w) e)
   one-name (pin j v) (slot m s f) p q e =
-      absurd (pin-not-slot (isLpcPin said (bioAt said j) v) (bioAt said j .base + v) (eioAt said f .node) s e)
+      absurd (pin-not-slot (isShared said j v) (bioAt said j .base + v) (eioAt said f .node) s e)
   one-name (slot m s f) (input i) p q e = absurd (let o : _≡_ {A = ℕ} 0 1 = cc in omega arith)
   one-name (slot m s f) (pin j v) p q e =
-      absurd (pin-not-slot (isLpcPin said (bioAt said j) v) (bioAt said j .base + v) (eioAt said f .node) s (sym e))
+      absurd (pin-not-slot (isShared said j v) (bioAt said j .base + v) (eioAt said f .node) s (sym e))
   one-name (slot m s f) (slot m′ s′ f′) p q e =
       let node : eioAt said f .node ≡ eioAt said f′ .node = cc in
       let number : s ≡ s′ = cc in

@@ -36,6 +36,15 @@ half-unused : (half : Half) → usedHalf half ≡ half → half .mask ≡ 0 → 
 unfolding usedHalf if
 half-unused half e m = let z : noHalf ≡ half = rw (eq-eqb (half .mask) 0 m) at e in ap (λ (x : Half). x .cascade) (sym z)
 
+-- so do the halves of what is said
+pub lio-said : (lio : Lio)
+    → (saidLio lio .low .mask ≡ 0 → saidLio lio .low .cascade ≡ 0) × (saidLio lio .high .mask ≡ 0 → saidLio lio .high .cascade ≡ 0)
+unfolding saidLio
+lio-said lio =
+    if-cases (λ (x : Lio). (x .low .mask ≡ 0 → x .low .cascade ≡ 0) × (x .high .mask ≡ 0 → x .high .cascade ≡ 0)) (lio .present) _ _
+    (λ t. (half-unused (usedHalf (lio .low)) (half-again (lio .low)), half-unused (usedHalf (lio .high)) (half-again (lio .high))))
+    (λ t. ((λ z. refl), (λ z. refl)))
+
 pub lio-unused : (x : Lio) (present : Bool) → x .present ≡ present → saidLio x ≡ x
     → (x .low .mask ≡ 0 → x .low .cascade ≡ 0) × (x .high .mask ≡ 0 → x .high .cascade ≡ 0)
     × (x .present ≡ false → (x .low ≡ noHalf) × (x .high ≡ noHalf))

@@ -1,4 +1,6 @@
 pub mod Sources
 pub mod Structures
+pub mod Clashing
 pub mod Statements
+pub mod Routing
 pub mod Walks

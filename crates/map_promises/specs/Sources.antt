@@ -2,9 +2,12 @@
 -- EIO. Each belongs to its own structure: the same input or slot of two structures is two sources." Nothing here knows of
 -- tracing.
 use Prim.Native.Nat.{ℕ, _+_, _<_, _≤_}
-use mathlib.Core.Bool.{true}
+use mathlib.Core.Bool.{Bool, true, not, _&&_}
 use mathlib.Core.Path.{_≡_}
-use lib.ListN.{length, getD}
+use lib.Dec.{eqb, leb}
+use lib.ListN.{length, getD, take}
+use Rattle.words.specs.Choice.{if}
+use Rattle.words.specs.Lists.{every}
 use Rattle.kinds.specs.declared.Eio.{Eio}
 use Rattle.kinds.specs.declared.Bio.{Bio}
 use Rattle.kinds.specs.declared.Msi.{Msi}
@@ -12,11 +15,10 @@ use Rattle.madt.specs.Adding.{noEio, noBio, noMsi}
 use Rattle.parts.specs.Inputs.{wired, pins}
 use Rattle.lines.specs.Says.{Said}
 use Rattle.lines.specs.Routes.{lioArrival, through}
-use Rattle.lines.specs.Traces.{pinTold}
 use Rattle.lines.specs.declared.Route.{Route}
 use Rattle.lines.specs.declared.Route.the-variants.{Arrives}
 use Rattle.lines.specs.declared.Trace.{Trace}
-use Rattle.lines.specs.declared.Trace.the-variants.{LioInput, MsiSlot}
+use Rattle.lines.specs.declared.Trace.the-variants.{LioInput, BioInput, LpcCascade, MsiSlot}
 
 -- input i of the LIO; pin v of the bridge at place j; slot s of the MSI at place m on the EIO at place e. Places are those in
 -- the map's lists, so that equal inputs of two structures differ.
@@ -48,10 +50,23 @@ arrives said (input i) = lioArrival (said .lio) i
 arrives said (pin j v) = through (said .eios) (bioAt said j .node) v
 arrives said (slot m s e) = Arrives (eioAt said e .cascade) s
 
--- what it is called
+-- "Its BIO is the one with the smallest hardware ID, the earliest of equals": no bridge has a smaller one than the bridge at
+-- place j, and no earlier one has the same
+abbrev pub isLpcBridge : Said → ℕ → Bool
+isLpcBridge said j =
+    every (λ b. leb (bioAt said j .node) (b .node)) (said .bios)
+    && every (λ b. not (eqb (b .node) (bioAt said j .node))) (take j (said .bios))
+
+-- "An LPC input arrives where the BIO input of the LPC's cascade does": there is an LPC, and pin v of the bridge at place j is
+-- that input
+abbrev pub isShared : Said → ℕ → ℕ → Bool
+isShared said j v = said .lpc .present && eqb (said .lpc .cascade) v && isLpcBridge said j
+
+-- what it is called: "a LIO input or a BIO input with its global number, the LPC cascade input (never told as a BIO input) with
+-- its global number, an MSI slot with its node"
 abbrev pub name : Said → Source → Trace
 name said (input i) = LioInput (16 + i)
-name said (pin j v) = pinTold said v (bioAt said j)
+name said (pin j v) = if (isShared said j v) (LpcCascade (bioAt said j .base + v)) (BioInput (bioAt said j .base + v))
 name said (slot m s e) = MsiSlot (eioAt said e .node) s
 
 -- its global number is g; a slot has none

@@ -1,21 +1,14 @@
 -- What is promised of maps. Each statement stands alone; proofs/ has a theorem of the same name for it.
 use Prim.Native.Nat.{ℕ, _+_, _^_, _<_, _≤_}
 use mathlib.Core.Bool.{true, false}
-use mathlib.Core.List.{List, List·Memᴰ}
 use mathlib.Core.Logic.{_⊎_}
 use mathlib.Core.Path.{_≡_}
-use Rattle.words.specs.Refusals.{refused}
 use Rattle.words.specs.declared.Refusal.{Refusal}
 use Rattle.kinds.specs.Ranges.{bitInBoth}
 use Rattle.kinds.specs.declared.Bio.{Bio}
-use Rattle.clashes.specs.Rules.{clash}
-use Rattle.clashes.specs.Search.{firstClash}
-use Rattle.clashes.specs.declared.Claim.{Claim}
-use Rattle.clashes.specs.declared.Pair.the-variants.{Two}
 use Rattle.lines.specs.Says.{Said, says, Same}
 use Rattle.lines.specs.Routes.{bridge}
-use Rattle.lines.specs.Claims.{claims}
-use Rattle.lines.specs.Rules.{tooMany, rangesKept, rule40, rule41, rule42, rule43, firstBroken, keepsRules}
+use Rattle.lines.specs.Rules.{rangesKept, firstBroken, keepsRules}
 use Rattle.lines.specs.Answers.{routeOf, traceOf, badMap, routeCode, traceCode}
 use Rattle.lines.specs.declared.Map.{Map}
 use Rattle.lines.specs.declared.Places.{Places}
@@ -24,9 +17,9 @@ use Rattle.lines.specs.declared.Route.{Route}
 use Rattle.lines.specs.declared.Route.the-variants.{Arrives, Unwired, NoOwner, Refused}
 use Rattle.lines.specs.declared.Trace.{Trace}
 use Rattle.lines.specs.declared.Trace.the-variants.{Nothing, LioInput, BioInput, LpcCascade, MsiSlot, Refused as NoTrace}
-use Rattle.lines.specs.declared.Verdict.the-variants.{Kept, Broken}
+use Rattle.lines.specs.declared.Verdict.the-variants.{Kept}
 use Rattle.map_promises.specs.Sources.{Source, IsSource, arrives, name}
-use Rattle.map_promises.specs.Structures.{Placed, Shared}
+use Rattle.map_promises.specs.Structures.{Placed}
 
 -- ---- demand 3: no two lines look alike
 -- every source arrives, and "Two different sources never arrive at the same core vector with the same number"
@@ -53,29 +46,6 @@ NothingExactly map =
     → (Arrived (says map) vector number × (traceOf map vector number ≡ Nothing → ⊥))
     ⊎ ((Arrived (says map) vector number → ⊥) × (traceOf map vector number ≡ Nothing))
 
--- ---- demand 3, its last sentence
--- no rule below 51 is broken
-pub record KeepsTo43 (map : Map) (places : Places) (madt : ℕ) : Type 0 where
-  pub r36 : rangesKept (says map) ≡ true
-  pub r37 : bitInBoth (says map .lio) ≡ false
-  pub r38 : tooMany map ≡ false
-  pub r40 : rule40 (says map) madt ≡ Kept
-  pub r41 : rule41 (claims (says map) places) ≡ Kept
-  pub r42 : rule42 (claims (says map) places) ≡ Kept
-  pub r43 : rule43 (says map) (places .lpc) ≡ Kept
-
--- the map is refused by 51, 52 or 53
-abbrev pub RefusedForClash : Map → Places → ℕ → ℕ → Type 0
-RefusedForClash map places madt fadt =
-    (n : ℕ) × (place : ℕ) × (partner : ℕ) × (51 ≤ n) × (n ≤ 53) × (firstBroken map places madt fadt ≡ Broken (refused n place) partner)
-
--- "refused for a clash exactly when two sources share a global number or an extended vector of one EIO, or two controllers
--- enter by one core vector"
-abbrev pub ClashExactly : Map → Places → ℕ → ℕ → Type 0
-ClashExactly map places madt fadt =
-    Placed (says map) places → KeepsTo43 map places madt
-    → (RefusedForClash map places madt fadt → Shared (says map)) × (Shared (says map) → RefusedForClash map places madt fadt)
-
 -- ---- places
 -- whether a rule is broken does not hang on the places: the reading, which knows them, accepts no map that 61 refuses, and
 -- refuses none that 61 lets pass
@@ -85,24 +55,6 @@ PlacesDoNotMatter map =
     → Placed (says map) places
     → (rangesKept (says map) ≡ true → bitInBoth (says map .lio) ≡ false → firstBroken map places madt fadt ≡ Kept → keepsRules map ≡ true)
     × (keepsRules map ≡ true → firstBroken map places madt fadt ≡ Kept)
-
--- "the first structure that clashes with an earlier": x at p clashes with y at q, which stands before it; no structure before
--- x clashes with an earlier one; and x clashes with none that stands before y
-pub record FirstClash (rule : ℕ) (all : List Claim) (p q : ℕ) : Type 0 where
-  pub x : Claim
-  pub y : Claim
-  pub x-listed : List·Memᴰ x all
-  pub y-listed : List·Memᴰ y all
-  pub x-at : x .place ≡ p
-  pub y-at : y .place ≡ q
-  pub earlier : q < p
-  pub clashes : clash rule x y ≡ true
-  pub first : (z w : Claim) → List·Memᴰ z all → List·Memᴰ w all → w .place < z .place → clash rule z w ≡ true → p ≤ z .place
-  pub earliest : (w : Claim) → List·Memᴰ w all → w .place < p → clash rule x w ≡ true → q ≤ w .place
-
--- what the search names is that
-abbrev pub SearchNames : ℕ → List Claim → Type 0
-SearchNames rule all = (p q : ℕ) → firstClash rule all ≡ Two p q → FirstClash rule all p q
 
 -- ---- the LPC lines, and there and back
 -- "The sixteen LPC lines count as the one pin that they share": each arrives where that pin does

@@ -1,16 +1,12 @@
--- The structures of a map that claim something, their places, and what two of them may not share.
+-- The structures of a map that claim something, and their places.
 use Prim.Native.Nat.{ℕ, _<_, _≤_}
-use mathlib.Core.Bool.{true}
-use mathlib.Core.Logic.{_⊎_}
 use mathlib.Core.Path.{_≡_}
 use lib.ListN.{length, getD}
-use Rattle.clashes.specs.Rules.{clash}
 use Rattle.clashes.specs.declared.Claim.{Claim}
 use Rattle.parts.specs.Claims.{lioClaim, eioClaim, bioClaim, msiClaim}
 use Rattle.lines.specs.Says.{Said}
-use Rattle.lines.specs.Rules.{slotPlaces}
 use Rattle.lines.specs.declared.Places.{Places}
-use Rattle.map_promises.specs.Sources.{Source, IsSource, HasNumber, LandsOn, eioAt, bioAt, msiAt}
+use Rattle.map_promises.specs.Sources.{eioAt, bioAt, msiAt}
 
 -- the LIO; the EIO, BIO or MSI at a place of its list
 pub data Structure : Type 0 where
@@ -46,37 +42,3 @@ pub record Placed (said : Said) (places : Places) : Type 0 where
   pub bios : length (said .bios) ≤ length (places .bios)
   pub msis : length (said .msis) ≤ length (places .msis)
   pub apart : (s t : Structure) → IsIn said s → IsIn said t → placeOf places s ≡ placeOf places t → s ≡ t
-
--- two different structures clash by a rule, wherever they stand
-abbrev pub Meet : Said → ℕ → Type 0
-Meet said rule =
-    (s : Structure) × (t : Structure) × IsIn said s × IsIn said t × (s ≡ t → ⊥)
-    × (clash rule (claimOf said slotPlaces s) (claimOf said slotPlaces t) ≡ true)
-
--- a controller enters core vector v: a used half of the LIO does, or an EIO
-abbrev pub Enters : Said → Structure → ℕ → Type 0
-Enters said lio v =
-    ((said .lio .low .mask ≡ 0 → ⊥) × (said .lio .low .cascade ≡ v)) ⊎ ((said .lio .high .mask ≡ 0 → ⊥) × (said .lio .high .cascade ≡ v))
-Enters said (eio e) v = eioAt said e .cascade ≡ v
-Enters said (bio j) v = ⊥
-Enters said (msi m) v = ⊥
-
--- "two sources share a global number"
-abbrev pub TwoNumber : Said → Type 0
-TwoNumber said =
-    (x : Source) × (y : Source) × IsSource said x × IsSource said y × (x ≡ y → ⊥) × (g : ℕ) × HasNumber said x g × HasNumber said y g
-
--- "or an extended vector of one EIO"
-abbrev pub TwoVector : Said → Type 0
-TwoVector said =
-    (x : Source) × (y : Source) × IsSource said x × IsSource said y × (x ≡ y → ⊥)
-    × (e : ℕ) × (k : ℕ) × (e < length (said .eios)) × LandsOn said x e k × LandsOn said y e k
-
--- "or two controllers enter by one core vector": both halves of the LIO are one controller
-abbrev pub TwoCore : Said → Type 0
-TwoCore said =
-    (s : Structure) × (t : Structure) × IsIn said s × IsIn said t × (s ≡ t → ⊥) × (v : ℕ) × Enters said s v × Enters said t v
-
--- two of them share what they may not
-abbrev pub Shared : Said → Type 0
-Shared said = TwoNumber said ⊎ (TwoVector said ⊎ TwoCore said)

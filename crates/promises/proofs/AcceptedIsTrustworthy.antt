@@ -22,6 +22,7 @@ use Rattle.lines.specs.declared.Map.{Map}
 use Rattle.map_promises.specs.Walks.{Normal}
 use Rattle.map_promises.proofs.NoTwoAlike.{no-two-alike}
 use Rattle.map_promises.proofs.RefusedExactly.{refused-exactly}
+use Rattle.map_promises.proofs.Routing.{route-is-sources, unwired-exactly, no-owner-exactly}
 use Rattle.map_promises.proofs.Tracing.{tracing-names, nothing-exactly}
 use Rattle.map_promises.proofs.ThereAndBack.{lpc-lines-share, there-and-back}
 use Rattle.map_promises.proofs.Verdicts.{check-kept, both-of-kept, each-kept, kept-yes}
@@ -61,6 +62,9 @@ trustworthy map k n =
       routes = answered .0;
       traces = answered .1;
       sci = sci-arrives map k;
+      arriving = route-is-sources map k;
+      unwired = unwired-exactly map k;
+      unowned = no-owner-exactly map k;
       alike = no-two-alike map k;
       tracing = tracing-names map k;
       nothing = nothing-exactly map k;

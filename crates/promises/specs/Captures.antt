@@ -9,18 +9,21 @@ use Rattle.words.specs.declared.Verdict.the-variants.{Sound, Refused}
 use Rattle.tables.specs.Survey.{survey}
 use Rattle.tables.specs.declared.Tables.{Tables}
 use Rattle.tables.specs.declared.Survey.the-variants.{Found}
-use Rattle.lines.specs.Says.{says}
+use Rattle.lines.specs.Says.{Said, says}
 use Rattle.lines.specs.Claims.{claims}
 use Rattle.lines.specs.Rules.{rule40, rule41, rule42, rule43, keepsRules}
 use Rattle.lines.specs.Answers.{routeOf, traceOf}
 use Rattle.lines.specs.declared.Map.{Map}
+use Rattle.lines.specs.declared.Places.{Places}
 use Rattle.lines.specs.declared.Route.the-variants.{Arrives, Refused as NoRoute}
 use Rattle.lines.specs.declared.Trace.the-variants.{Refused as NoTrace}
 use Rattle.lines.specs.declared.Verdict.the-variants.{Kept}
 use Rattle.processors.specs.Listing.{count}
 use Rattle.processors.specs.Repeats.{firstRepeat}
 use Rattle.processors.specs.declared.Repeat.the-variants.{Nowhere}
-use Rattle.map_promises.specs.Structures.{Shared}
+use Rattle.map_promises.specs.Structures.{Structure}
+use Rattle.map_promises.specs.Clashing.{ShareNode, ShareNumber, ShareVector, ShareCore, TwoNode, LoneBio, TwoNumber, TwoVector, TwoCore, Names, NamesLone}
+use Rattle.map_promises.specs.Routing.{RouteIsSources, UnwiredExactly, NoOwnerExactly}
 use Rattle.map_promises.specs.Statements.{NoTwoAlike, TracingNames, NothingExactly, LpcLinesShare, ThereAndBack}
 use Rattle.map_promises.specs.Walks.{Normal}
 use Rattle.reading.specs.Scan.{madtBytes, walkOf, scan}
@@ -42,6 +45,11 @@ pub record Trustworthy (map : Map) : Type 0 where
   pub traces : (vector number : ℕ) (r : Refusal) → traceOf map vector number ≡ NoTrace r → ⊥
   -- the SCI arrives somewhere
   pub sci : (vector : ℕ) × (number : ℕ) × (routeOf map (map .sci) ≡ Arrives vector number)
+  -- "The answer to a global number is: arrives (vector, number), unwired, or no owner": a source's number arrives where the
+  -- source does, and each of the other two answers is given exactly where it is due
+  pub arriving : RouteIsSources map
+  pub unwired : UnwiredExactly map
+  pub unowned : NoOwnerExactly map
   -- "Two different sources never arrive at the same core vector with the same number"
   pub alike : NoTwoAlike (says map)
   -- "tracing any vector and number back names the one source that arrives there, and says that none does exactly when none does"
@@ -60,7 +68,19 @@ abbrev pub ReadIsTrustworthy : List ℕ → List ℕ → Type 0
 ReadIsTrustworthy capture list = (count : ℕ) → readingOf capture list .answer ≡ Read count → Trustworthy (readingOf capture list .map)
 
 -- ---- demand 3, its last sentence
--- "A capture that breaks no earlier rule": none from 1 to 43
+-- "A capture that breaks no earlier rule": none from 1 to 40
+pub record NothingBefore41 (capture : List ℕ) (t : Tables) : Type 0 where
+  -- 1 to 30; the tables are t
+  pub tables : survey capture ≡ Found t
+  -- 31 to 38, structure by structure
+  pub structures : walkOf capture t .verdict ≡ Sound
+  -- no CORE repeats an ID, and one is enabled
+  pub r39 : firstRepeat (madtBytes capture (t .madt)) ≡ Nowhere
+  pub r40core : count (madtBytes capture (t .madt)) ≡ 0 → ⊥
+  -- the rest of 40, of the map that the walk found
+  pub r40 : rule40 (says (walkOf capture t .found .map)) (t .madt .place) ≡ Kept
+
+-- none from 1 to 43
 pub record NothingBefore51 (capture : List ℕ) (t : Tables) : Type 0 where
   -- 1 to 30; the tables are t
   pub tables : survey capture ≡ Found t
@@ -85,25 +105,39 @@ RulesInOrder capture =
     (NotRefusedBefore51 capture → (t : Tables) × NothingBefore51 capture t)
     × ((t : Tables) → NothingBefore51 capture t → NotRefusedBefore51 capture)
 
--- "refused for a clash": with 51, 52 or 53
-abbrev pub RefusedAsClash : List ℕ → Type 0
-RefusedAsClash capture = (n : ℕ) × (place : ℕ) × (51 ≤ n) × (n ≤ 53) × (scan capture .verdict ≡ Refused (refused n place))
+-- a number is told exactly when its rule is the first that is broken, and then at a place that is named so
+abbrev pub ExactlyAt : (ℕ → Type 0) → Type 0 → (ℕ → Type 0) → Type 0
+ExactlyAt told broken named = ((p : ℕ) → told p → broken × named p) × (broken → (p : ℕ) × told p)
 
--- "exactly when two sources share a global number or an extended vector of one EIO, or two controllers enter by one core
--- vector", in the map that the walk found
+-- "the first structure that clashes with an earlier" stands at p
+abbrev pub NamesLater : Said → Places → (Structure → Structure → Type 0) → ℕ → Type 0
+NamesLater said places Share p = (q : ℕ) × Names said places Share p q
+
+-- "refused for a clash exactly when": each number by itself, over the structures that the walk found; `told n p` is that n is told
+-- at place p
+pub record EachExactly (told : ℕ → ℕ → Type 0) (capture : List ℕ) (t : Tables) (said : Said) (places : Places) : Type 0 where
+  -- "EIO repeats an earlier node"
+  pub r41 : NothingBefore41 capture t → ExactlyAt (told 41) (TwoNode said) (NamesLater said places (ShareNode said))
+  -- "BIO without an EIO of its node"
+  pub r42 : NothingBefore41 capture t → ExactlyAt (told 42) ((TwoNode said → ⊥) × LoneBio said) (NamesLone said places)
+  -- "two sources share a global number"
+  pub r51 : NothingBefore51 capture t → ExactlyAt (told 51) (TwoNumber said) (NamesLater said places (ShareNumber said))
+  -- "or an extended vector of one EIO"
+  pub r52 :
+      NothingBefore51 capture t
+      → ExactlyAt (told 52) ((TwoNumber said → ⊥) × TwoVector said) (NamesLater said places (ShareVector said))
+  -- "or two controllers enter by one core vector"
+  pub r53 :
+      NothingBefore51 capture t
+      → ExactlyAt (told 53) ((TwoNumber said → ⊥) × (TwoVector said → ⊥) × TwoCore said) (NamesLater said places (ShareCore said))
+
+-- so of what the capture is refused with
 abbrev pub RefusedExactlyForSharing : List ℕ → Tables → Type 0
 RefusedExactlyForSharing capture t =
-    NothingBefore51 capture t
-    → (RefusedAsClash capture → Shared (says (walkOf capture t .found .map)))
-    × (Shared (says (walkOf capture t .found .map)) → RefusedAsClash capture)
+    EachExactly (λ n p. scan capture .verdict ≡ Refused (refused n p)) capture t (says (walkOf capture t .found .map)) (walkOf capture t .found .places)
 
 -- and so of the reading's answer, whatever list it is lent
-abbrev pub ReadRefusedAsClash : List ℕ → List ℕ → Type 0
-ReadRefusedAsClash capture list =
-    (n : ℕ) × (place : ℕ) × (51 ≤ n) × (n ≤ 53) × (readingOf capture list .answer ≡ NotRead (refused n place))
-
 abbrev pub ReadRefusedExactlyForSharing : List ℕ → List ℕ → Tables → Type 0
 ReadRefusedExactlyForSharing capture list t =
-    NothingBefore51 capture t
-    → (ReadRefusedAsClash capture list → Shared (says (walkOf capture t .found .map)))
-    × (Shared (says (walkOf capture t .found .map)) → ReadRefusedAsClash capture list)
+    EachExactly (λ n p. readingOf capture list .answer ≡ NotRead (refused n p)) capture t (says (walkOf capture t .found .map))
+    (walkOf capture t .found .places)

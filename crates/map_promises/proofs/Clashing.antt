@@ -1,0 +1,182 @@
+-- Each of 41, 42 and 51 to 53 is told of a map exactly where it is the first that is broken, and names what document 01 names.
+use Prim.Native.Nat.{ℕ, _<_}
+use native.Mathlib.Omega.{arith}
+use mathlib.Core.Path.{_≡_, refl, sym, _∙_}
+use mathlib.Core.List.{List}
+use mathlib.Core.Bool.{true, false}
+use lib.ListN.{getD}
+use Rattle.words.specs.Choice.{if}
+use Rattle.words.specs.Refusals.{refused}
+use Rattle.clashes.specs.Search.{firstClash, firstLone}
+use Rattle.clashes.specs.declared.Claim.{Claim}
+use Rattle.clashes.specs.declared.Pair.the-variants.{Two, None}
+use Rattle.lines.specs.Says.{Said, says}
+use Rattle.lines.specs.Claims.{claims}
+use Rattle.lines.specs.Rules.{tooMany, alone, both, spotted, rangesKept, rule54, ruleClash, orElse, lowest, verdictsFrom40, firstBroken}
+use Rattle.lines.specs.declared.Map.{Map}
+use Rattle.lines.specs.declared.Places.{Places}
+use Rattle.lines.specs.declared.Verdict.{Verdict}
+use Rattle.lines.specs.declared.Verdict.the-variants.{Kept, Broken}
+use Rattle.map_promises.specs.Structures.{Placed}
+use Rattle.map_promises.specs.Clashing.{ShareNode, ShareNumber, ShareVector, ShareCore, TwoNode, LoneBio, TwoNumber, TwoVector, TwoCore, Names, NamesLone, KeepsTo40, KeepsTo43, RefusedWith, NodeExactly, LoneExactly, NumberExactly, VectorExactly, CoreExactly}
+use Rattle.map_promises.proofs.Hubs.{bio-hub, names-lone, finds-lone}
+use Rattle.map_promises.proofs.Meetings.{Agrees, names, sharing, no-sharing, finds-two, finds-nothing}
+use Rattle.map_promises.proofs.Sharing.{node-agrees, number-agrees, vector-agrees, core-agrees, number-sharing, sharing-number, vector-sharing, sharing-vector}
+use Rattle.map_promises.proofs.Unused.{lio-said}
+use Rattle.map_promises.proofs.Verdicts.{eio-there, kept-check, alone-kept, both-kept, spotted-kept, alone-told, both-told, spotted-told, position, told-at}
+
+module _ (map : Map) (places : Places) (madt fadt : ℕ) where
+  abbrev said : Said
+  said = says map
+
+  abbrev all : List Claim
+  all = claims said places
+
+  abbrev rules : List Verdict
+  rules = verdictsFrom40 said places madt fadt
+
+  -- with 38 kept, the verdict is that of the rules from 40 on
+  from-40 : tooMany map ≡ false → firstBroken map places madt fadt ≡ lowest rules
+  unfolding firstBroken orElse
+  from-40 few = rw (kept-check 38 (tooMany map) madt few)
+
+  -- a number that is told is that of the first broken rule
+  told : tooMany map ≡ false → (n p q : ℕ) → RefusedWith map places madt fadt n p q
+      → (getD rules (position n) Kept ≡ Broken (refused n p) q) × ((i : ℕ) → i < position n → getD rules i Kept ≡ Kept)
+  told few n p q h = told-at said places madt fadt n p q (sym (from-40 few) ∙ h)
+
+  module _ (ok : Placed said places) where
+    -- ---- 41 and 42
+    module _ (h : KeepsTo40 map madt) where
+      nodes : Agrees said 41 (ShareNode said)
+      nodes = node-agrees said (h .r36)
+
+      node-told : (p q : ℕ) → RefusedWith map places madt fadt 41 p q → TwoNode said × ((q ≡ 0) × ((r : ℕ) × Names said places (ShareNode said) p r))
+      unfolding verdictsFrom40 if
+      node-told p q t =
+          let w = alone-told 41 41 p q (firstClash 41 all) (told (h .r38) 41 p q t .0) in
+          let n = names said places ok nodes p (w .2 .0) (w .2 .1) in
+          (sharing said places ok nodes p (w .2 .0) n, (w .1, (w .2 .0, n)))
+
+      node-tells : TwoNode said → (p : ℕ) × (q : ℕ) × RefusedWith map places madt fadt 41 p q
+      unfolding verdictsFrom40 lowest orElse alone
+      node-tells w =
+          let f = finds-two said places ok nodes w in
+          (f .0, 0, from-40 (h .r38) ∙ rw (h .r40, f .2))
+
+      lone-told : (p q : ℕ) → RefusedWith map places madt fadt 42 p q → ((TwoNode said → ⊥) × LoneBio said) × ((q ≡ 0) × NamesLone said places p)
+      unfolding verdictsFrom40 if
+      lone-told p q t =
+          let k = told (h .r38) 42 p q t in
+          let w = spotted-told 42 42 p q (firstLone all) (k .0) in
+          let n = names-lone said (h .r36) places ok p (w .2) in
+          let never = no-sharing said places ok nodes (alone-kept 41 (firstClash 41 all) (k .1 1 (omega arith))) in
+          ((never, (n .j, n .lone)), (w .1, n))
+
+      lone-tells : (TwoNode said → ⊥) → LoneBio said → (p : ℕ) × (q : ℕ) × RefusedWith map places madt fadt 42 p q
+      unfolding verdictsFrom40 lowest orElse alone spotted
+      lone-tells never w =
+          let f = finds-lone said (h .r36) places ok w in
+          (f .0, 0, from-40 (h .r38) ∙ rw (h .r40, finds-nothing said places ok nodes never, f .1))
+
+    -- ---- 51 to 53
+    module _ (h : KeepsTo43 map places madt) where
+      abbrev ranged : rangesKept said ≡ true
+      ranged = h .to40 .r36
+
+      numbers : Agrees said 51 (ShareNumber said)
+      numbers = number-agrees said ranged
+
+      vectors : Agrees said 52 (ShareVector said)
+      vectors = vector-agrees said ranged (eio-there said madt (h .to40 .r40)) (bio-hub said ranged places ok (spotted-kept 42 (firstLone all) (h .r42)))
+
+      cores : Agrees said 53 (ShareCore said)
+      cores = core-agrees said ranged (lio-said (map .lio) .0) (lio-said (map .lio) .1)
+
+      -- with the rules below 51 kept, the verdict is that of the rest
+      from-51 : firstBroken map places madt fadt
+          ≡ orElse (ruleClash 51 all) (orElse (ruleClash 52 all) (orElse (ruleClash 53 all) (orElse (rule54 said fadt) Kept)))
+      unfolding verdictsFrom40 lowest orElse
+      from-51 = from-40 (h .to40 .r38) ∙ rw (h .to40 .r40, h .r41, h .r42, h .r43)
+
+      -- a number that is told is of its own search, and the searches before it found nothing
+      clash-told : (n : ℕ) → getD rules (position n) Kept ≡ ruleClash n all → (p q : ℕ) → RefusedWith map places madt fadt n p q
+          → firstClash n all ≡ Two p q
+      clash-told n own p q t = both-told n n p q (firstClash n all) (sym own ∙ told (h .to40 .r38) n p q t .0) .1
+
+      clash-none : (k n m : ℕ) → getD rules k Kept ≡ ruleClash n all → k < position m → (p q : ℕ) → RefusedWith map places madt fadt m p q
+          → firstClash n all ≡ None
+      clash-none k n m own l p q t = both-kept n (firstClash n all) (sym own ∙ told (h .to40 .r38) m p q t .1 k l)
+
+      no-number : (TwoNumber said → ⊥) → firstClash 51 all ≡ None
+      no-number never = finds-nothing said places ok numbers (λ w. never (sharing-number said w))
+
+      number-none : firstClash 51 all ≡ None → TwoNumber said → ⊥
+      number-none e w = no-sharing said places ok numbers e (number-sharing said w)
+
+      no-vector : (TwoVector said → ⊥) → firstClash 52 all ≡ None
+      no-vector never = finds-nothing said places ok vectors (λ w. never (sharing-vector said w))
+
+      vector-none : firstClash 52 all ≡ None → TwoVector said → ⊥
+      vector-none e w = no-sharing said places ok vectors e (vector-sharing said w)
+
+      number-told : (p q : ℕ) → RefusedWith map places madt fadt 51 p q → TwoNumber said × Names said places (ShareNumber said) p q
+      unfolding verdictsFrom40 if
+      number-told p q t =
+          let n = names said places ok numbers p q (clash-told 51 refl p q t) in
+          (sharing-number said (sharing said places ok numbers p q n), n)
+
+      number-tells : TwoNumber said → (p : ℕ) × (q : ℕ) × RefusedWith map places madt fadt 51 p q
+      unfolding orElse both
+      number-tells w =
+          let f = finds-two said places ok numbers (number-sharing said w) in
+          (f .0, f .1, from-51 ∙ rw (f .2))
+
+      vector-told : (p q : ℕ) → RefusedWith map places madt fadt 52 p q
+          → ((TwoNumber said → ⊥) × TwoVector said) × Names said places (ShareVector said) p q
+      unfolding verdictsFrom40 if
+      vector-told p q t =
+          let n = names said places ok vectors p q (clash-told 52 refl p q t) in
+          let never = number-none (clash-none 4 51 52 refl (omega arith) p q t) in
+          ((never, sharing-vector said (sharing said places ok vectors p q n)), n)
+
+      vector-tells : (TwoNumber said → ⊥) → TwoVector said → (p : ℕ) × (q : ℕ) × RefusedWith map places madt fadt 52 p q
+      unfolding orElse both
+      vector-tells never w =
+          let f = finds-two said places ok vectors (vector-sharing said w) in
+          (f .0, f .1, from-51 ∙ rw (no-number never, f .2))
+
+      core-told : (p q : ℕ) → RefusedWith map places madt fadt 53 p q
+          → ((TwoNumber said → ⊥) × (TwoVector said → ⊥) × TwoCore said) × Names said places (ShareCore said) p q
+      unfolding verdictsFrom40 if
+      core-told p q t =
+          let n = names said places ok cores p q (clash-told 53 refl p q t) in (
+            (
+              number-none (clash-none 4 51 53 refl (omega arith) p q t),
+              vector-none (clash-none 5 52 53 refl (omega arith) p q t),
+              sharing said places ok cores p q n,
+            ),
+            n,
+          )
+
+      core-tells : (TwoNumber said → ⊥) → (TwoVector said → ⊥) → TwoCore said → (p : ℕ) × (q : ℕ) × RefusedWith map places madt fadt 53 p q
+      unfolding orElse both
+      core-tells never none w =
+          let f = finds-two said places ok cores w in
+          (f .0, f .1, from-51 ∙ rw (no-number never, no-vector none, f .2))
+
+-- THE PROMISES
+pub node-exactly : (map : Map) (places : Places) (madt fadt : ℕ) → NodeExactly map places madt fadt
+node-exactly map places madt fadt ok h = (node-told map places madt fadt ok h, node-tells map places madt fadt ok h)
+
+pub lone-exactly : (map : Map) (places : Places) (madt fadt : ℕ) → LoneExactly map places madt fadt
+lone-exactly map places madt fadt ok h = (lone-told map places madt fadt ok h, λ w. lone-tells map places madt fadt ok h (w .0) (w .1))
+
+pub number-exactly : (map : Map) (places : Places) (madt fadt : ℕ) → NumberExactly map places madt fadt
+number-exactly map places madt fadt ok h = (number-told map places madt fadt ok h, number-tells map places madt fadt ok h)
+
+pub vector-exactly : (map : Map) (places : Places) (madt fadt : ℕ) → VectorExactly map places madt fadt
+vector-exactly map places madt fadt ok h = (vector-told map places madt fadt ok h, λ w. vector-tells map places madt fadt ok h (w .0) (w .1))
+
+pub core-exactly : (map : Map) (places : Places) (madt fadt : ℕ) → CoreExactly map places madt fadt
+core-exactly map places madt fadt ok h = (core-told map places madt fadt ok h, λ w. core-tells map places madt fadt ok h (w .0) (w .1) (w .2))

@@ -1,0 +1,222 @@
+-- Each global number is answered by whose it is: a source's with its arrival, an unwired input's and an LPC line's as such, and
+-- the rest with no owner.
+use Prim.Native.Nat.{ℕ, _+_, _-_, _<_, _≤_}
+use native.Mathlib.Nat.{add-sub-cancel-left}
+use native.Mathlib.Omega.{arith}
+use mathlib.Core.Path.{_≡_, sym, _∙_, ap}
+use mathlib.Core.Logic.{_⊎_, inl, inr, ⊎-elim}
+use mathlib.Core.Bool.{true, false}
+use borrow.Author.Tests.{leb-true, ltb-true, le-leb, lt-ltb, le-ltb}
+use lib.Dec.{leb, ltb}
+use lib.ListN.{length}
+use Rattle.words.specs.Choice.{if}
+use Rattle.words.proofs.Choices.{yes-if}
+use Rattle.clashes.proofs.Logic.{and-left, and-right, both-true, or-neither}
+use Rattle.parts.specs.Inputs.{hasBit, wired, owns}
+use Rattle.lines.specs.Says.{Said, says}
+use Rattle.lines.specs.Routes.{lioArrival, bridge, pinArrival, bioOwner, owner, arrivalOf, arrival, through}
+use Rattle.lines.specs.Rules.{keepsRules}
+use Rattle.lines.specs.Answers.{routeOf}
+use Rattle.lines.specs.declared.Map.{Map}
+use Rattle.lines.specs.declared.Bridge.the-variants.{Is}
+use Rattle.lines.specs.declared.Owner.the-variants.{LpcInput, LioInput, BioInput, Nobody}
+use Rattle.lines.specs.declared.Route.{Route}
+use Rattle.lines.specs.declared.Route.the-variants.{Arrives, NoOwner, Unwired}
+use Rattle.madt.specs.Adding.{noBio}
+use Rattle.map_promises.specs.Sources.{input, pin, slot, bioAt}
+use Rattle.map_promises.specs.Routing.{IsSourced, IsUnwired, IsLpcLine, Rest, RouteIsSources, UnwiredExactly, NoOwnerExactly}
+use Rattle.map_promises.proofs.Bridges.{bridge-one}
+use Rattle.map_promises.proofs.Kept.{Good, good, bio-number}
+use Rattle.map_promises.proofs.Logic.{order, is-bool, wired-small}
+use Rattle.map_promises.proofs.Members.{finds, found-or-not}
+use Rattle.map_promises.proofs.NoTwoAlike.{pin-at, every-source-arrives}
+use Rattle.map_promises.proofs.Ranged.{bio-fits}
+
+-- ---- whose a number is
+module _ (said : Said) where
+  owner-lpc : (n : ℕ) → n < 16 → said .lpc .present ≡ true → owner said n ≡ LpcInput
+  unfolding owner if
+  owner-lpc n l p = rw (lt-ltb n 16 l, p)
+
+  pub owner-nobody : (n : ℕ) → n < 16 → said .lpc .present ≡ false → owner said n ≡ Nobody
+  unfolding owner if
+  owner-nobody n l p = rw (lt-ltb n 16 l, p)
+
+  pub owner-lio : (n : ℕ) → 16 ≤ n → n < 48 → owner said n ≡ LioInput (n - 16)
+  unfolding owner if
+  owner-lio n l h = rw (le-ltb n 16 l, lt-ltb n 48 h)
+
+  pub owner-bio : (n : ℕ) → 48 ≤ n → owner said n ≡ bioOwner (said .bios) n
+  unfolding owner if
+  owner-bio n l = rw (le-ltb n 16 (omega arith), le-ltb n 48 l)
+
+-- a map that keeps the rules is routed as it says
+pub routed : (map : Map) → keepsRules map ≡ true → (n : ℕ) → routeOf map n ≡ arrivalOf (says map) (owner (says map) n)
+unfolding routeOf arrival
+routed map h n = yes-if _ _ _ h
+
+-- an input that is not wired
+not-wired : (said : Said) (i : ℕ) → wired (said .lio) i ≡ false → lioArrival (said .lio) i ≡ Unwired
+unfolding lioArrival if
+not-wired said i h =
+    let n = or-neither (hasBit (said .lio .low .mask) i) (hasBit (said .lio .high .mask) i) h in
+    rw (n .0, n .1)
+
+module _ (map : Map) (kept : keepsRules map ≡ true) where
+  abbrev said : Said
+  said = says map
+
+  abbrev g : Good said
+  g = good map kept
+
+  -- a bridge owns its numbers alone
+  owned : (j n : ℕ) → j < length (said .bios) → bioAt said j .base ≤ n → n < bioAt said j .base + 64
+      → bioOwner (said .bios) n ≡ BioInput (bioAt said j .node) (n - bioAt said j .base)
+  unfolding bioOwner
+  owned j n k a b =
+      finds noBio (owns n) (λ x. BioInput (x .node) (n - x .base)) Nobody (said .bios) j k
+      (both-true (leb (bioAt said j .base) n) (ltb n (bioAt said j .base + 64)) (le-leb _ _ a) (lt-ltb _ _ b))
+      (λ i h t.
+      ap (λ m. BioInput (bioAt said m .node) (n - bioAt said m .base))
+      (bio-number said g i j n h k
+      (leb-true _ _ (and-left (leb (bioAt said i .base) n) (ltb n (bioAt said i .base + 64)) t))
+      (ltb-true _ _ (and-right (leb (bioAt said i .base) n) (ltb n (bioAt said i .base + 64)) t)) a b))
+
+  -- ---- where each kind of number is routed
+  -- the LPC's bridge by its place, and where the LPC lines go
+  pub lpc-line : (n : ℕ) → n < 16 → said .lpc .present ≡ true
+      → (j : ℕ) × (j < length (said .bios)) × (bridge (said .bios) ≡ Is (bioAt said j))
+      × (routeOf map n ≡ through (said .eios) (bioAt said j .node) (said .lpc .cascade))
+  unfolding arrivalOf pinArrival
+  lpc-line n l p =
+      let b = g .behind p in
+      let w = bridge-one (said .bios) (b .0) (b .1) in
+      let e : bridge (said .bios) ≡ Is (bioAt said (w .0)) = b .1 ∙ ap Is (sym (w .2)) in
+      (w .0, w .1, e, routed map kept n ∙ rw (owner-lpc said n l p, e))
+
+  input-routed : (i : ℕ) → i < 32 → routeOf map (16 + i) ≡ lioArrival (said .lio) i
+  unfolding arrivalOf
+  input-routed i l =
+      let same : 16 + i - 16 ≡ i = add-sub-cancel-left 16 i in
+      routed map kept (16 + i) ∙ rw (owner-lio said (16 + i) (omega arith) (omega arith), same)
+
+  pub pin-routed : (j v : ℕ) → j < length (said .bios) → v < 64
+      → routeOf map (bioAt said j .base + v) ≡ through (said .eios) (bioAt said j .node) v
+  unfolding arrivalOf
+  pin-routed j v k l =
+      let base = bioAt said j .base in
+      let f = bio-fits said (g .ranged) j k in
+      let o = owner-bio said (base + v) (omega arith) ∙ owned j (base + v) k (omega arith) (omega arith) in
+      routed map kept (base + v) ∙ ap (arrivalOf said) o ∙ ap (through (said .eios) (bioAt said j .node)) (add-sub-cancel-left base v)
+
+  route-is-source : RouteIsSources map
+  route-is-source (input i) n p e = ap (routeOf map) (sym e) ∙ input-routed i (wired-small (said .lio) i p)
+  route-is-source (pin j v) n p e = ap (routeOf map) (sym e) ∙ pin-routed j v (p .0) (p .1)
+  route-is-source (slot m s f) n p e = absurd e
+
+  unwired-routed : (n : ℕ) → IsUnwired said n → routeOf map n ≡ Unwired
+  unwired-routed n u = ap (routeOf map) (sym (u .3)) ∙ input-routed (u .0) (u .1) ∙ not-wired said (u .0) (u .2)
+
+  -- ---- every number is of one kind
+  -- it arrives somewhere
+  abbrev Lands : ℕ → Type 0
+  Lands n = (vector : ℕ) × (number : ℕ) × (routeOf map n ≡ Arrives vector number)
+
+  lpc-lands : (n : ℕ) → IsLpcLine said n → Lands n
+  lpc-lands n l =
+      let w = lpc-line n (l .0) (l .1) in
+      let a = pin-at said g (w .0) (said .lpc .cascade) (w .1) in
+      (_, _, w .3 ∙ a .3)
+
+  source-lands : (n : ℕ) → IsSourced said n → Lands n
+  source-lands n s =
+      let a = every-source-arrives said g (s .0) (s .1) in
+      (a .0, a .1, route-is-source (s .0) n (s .1) (s .2) ∙ a .2)
+
+  abbrev Kinds : ℕ → Type 0
+  Kinds n = IsLpcLine said n ⊎ (IsSourced said n ⊎ (IsUnwired said n ⊎ (routeOf map n ≡ NoOwner)))
+
+  low-kind : (n : ℕ) → n < 16 → Kinds n
+  unfolding arrivalOf
+  low-kind n l =
+      ⊎-elim
+      (λ no. inr (inr (inr (routed map kept n ∙ rw (owner-nobody said n l no)))))
+      (λ yes. inl (l, yes))
+      (is-bool (said .lpc .present))
+
+  lio-kind : (n : ℕ) → 16 ≤ n → n < 48 → Kinds n
+  lio-kind n a b =
+      let e : 16 + (n - 16) ≡ n = omega arith in
+      ⊎-elim
+      (λ no. inr (inr (inl (n - 16, omega arith, no, e))))
+      (λ yes. inr (inl (input (n - 16), yes, e)))
+      (is-bool (wired (said .lio) (n - 16)))
+
+  bio-kind : (n : ℕ) → 48 ≤ n → Kinds n
+  unfolding arrivalOf bioOwner
+  bio-kind n a =
+      ⊎-elim
+      (λ w.
+      let base = bioAt said (w .0) .base in
+      let low : base ≤ n = leb-true _ _ (and-left (leb base n) (ltb n (base + 64)) (w .2)) in
+      let high : n < base + 64 = ltb-true _ _ (and-right (leb base n) (ltb n (base + 64)) (w .2)) in
+      inr (inl (pin (w .0) (n - base), (w .1, omega arith), omega arith)))
+      (λ w. inr (inr (inr (routed map kept n ∙ rw (owner-bio said n a, w .1)))))
+      (found-or-not noBio (owns n) (λ b. BioInput (b .node) (n - b .base)) Nobody (said .bios))
+
+  kind : (n : ℕ) → Kinds n
+  kind n =
+      ⊎-elim
+      (low-kind n)
+      (λ r. let a : 16 ≤ n = ⊎-elim (λ z. omega arith) (λ z. omega arith) r in
+      ⊎-elim (lio-kind n a) (λ s. bio-kind n (⊎-elim (λ z. omega arith) (λ z. omega arith) s)) (order n 48))
+      (order n 16)
+
+  pub answered : (n : ℕ) → Lands n ⊎ ((routeOf map n ≡ Unwired) ⊎ (routeOf map n ≡ NoOwner))
+  answered n =
+      ⊎-elim
+      (λ l. inl (lpc-lands n l))
+      (⊎-elim (λ s. inl (source-lands n s)) (⊎-elim (λ u. inr (inl (unwired-routed n u))) (λ o. inr (inr o))))
+      (kind n)
+
+  -- ---- the three answers are told apart
+  lands-unwired : (n : ℕ) → Lands n → routeOf map n ≡ Unwired → ⊥
+  lands-unwired n a e = let z : Arrives (a .0) (a .1) ≡ Unwired = sym (a .2) ∙ e in let o : _≡_ {A = ℕ} 0 1 = cc in omega arith
+
+  lands-unowned : (n : ℕ) → Lands n → routeOf map n ≡ NoOwner → ⊥
+  lands-unowned n a e = let z : Arrives (a .0) (a .1) ≡ NoOwner = sym (a .2) ∙ e in let o : _≡_ {A = ℕ} 0 1 = cc in omega arith
+
+  unwired-unowned : (n : ℕ) → routeOf map n ≡ Unwired → routeOf map n ≡ NoOwner → ⊥
+  unwired-unowned n d e = let z : _≡_ {A = Route} Unwired NoOwner = sym d ∙ e in let o : _≡_ {A = ℕ} 0 1 = cc in omega arith
+
+  of-unwired : (n : ℕ) → routeOf map n ≡ Unwired → IsUnwired said n
+  of-unwired n e =
+      ⊎-elim
+      (λ l. absurd (lands-unwired n (lpc-lands n l) e))
+      (⊎-elim (λ s. absurd (lands-unwired n (source-lands n s) e)) (⊎-elim (λ u. u) (λ o. absurd (unwired-unowned n e o))))
+      (kind n)
+
+  of-unowned : (n : ℕ) → routeOf map n ≡ NoOwner → Rest said n
+  of-unowned n e =
+      record {
+        sourced = λ s. lands-unowned n (source-lands n s) e;
+        unwired = λ u. unwired-unowned n (unwired-routed n u) e;
+        lpc = λ l. lands-unowned n (lpc-lands n l) e;
+      }
+
+  unowned : (n : ℕ) → Rest said n → routeOf map n ≡ NoOwner
+  unowned n r =
+      ⊎-elim
+      (λ l. absurd (r .lpc l))
+      (⊎-elim (λ s. absurd (r .sourced s)) (⊎-elim (λ u. absurd (r .unwired u)) (λ o. o)))
+      (kind n)
+
+-- THE PROMISES
+pub route-is-sources : (map : Map) → keepsRules map ≡ true → RouteIsSources map
+route-is-sources map h = route-is-source map h
+
+pub unwired-exactly : (map : Map) → keepsRules map ≡ true → UnwiredExactly map
+unwired-exactly map h n = (of-unwired map h n, unwired-routed map h n)
+
+pub no-owner-exactly : (map : Map) → keepsRules map ≡ true → NoOwnerExactly map
+no-owner-exactly map h n = (of-unowned map h n, unowned map h n)

@@ -1,0 +1,182 @@
+-- What two structures may not share, and what is told of it: document 01, "Refusals in order", 41, 42 and 51 to 53, each by
+-- itself. The sharing is said of sources and controllers, not of claims. Each statement at the end stands alone;
+-- proofs/Clashing.antt has a theorem for it.
+use Prim.Native.Nat.{ℕ, _<_, _≤_}
+use mathlib.Core.Bool.{true, false}
+use mathlib.Core.Logic.{_⊎_}
+use mathlib.Core.Path.{_≡_}
+use lib.ListN.{length}
+use Rattle.words.specs.Refusals.{refused}
+use Rattle.kinds.specs.Ranges.{bitInBoth}
+use Rattle.lines.specs.Says.{Said, says}
+use Rattle.lines.specs.Claims.{claims}
+use Rattle.lines.specs.Rules.{tooMany, rangesKept, rule40, rule41, rule42, rule43, firstBroken}
+use Rattle.lines.specs.declared.Map.{Map}
+use Rattle.lines.specs.declared.Places.{Places}
+use Rattle.lines.specs.declared.Verdict.the-variants.{Kept, Broken}
+use Rattle.map_promises.specs.Sources.{Source, input, pin, slot, eioAt, bioAt, IsSource, HasNumber, LandsOn}
+use Rattle.map_promises.specs.Structures.{Structure, lio, eio, bio, msi, IsIn, placeOf, Placed}
+
+-- ---- what a structure has
+-- "Each belongs to its own structure"
+abbrev pub structureOf : Source → Structure
+structureOf (input i) = lio
+structureOf (pin j v) = bio j
+structureOf (slot m s e) = msi m
+
+-- x is a source of structure s
+abbrev pub IsSourceOf : Said → Structure → Source → Type 0
+IsSourceOf said s x = IsSource said x × (structureOf x ≡ s)
+
+-- an EIO has node n
+abbrev pub HasNode : Said → Structure → ℕ → Type 0
+HasNode said lio n = ⊥
+HasNode said (eio e) n = eioAt said e .node ≡ n
+HasNode said (bio j) n = ⊥
+HasNode said (msi m) n = ⊥
+
+-- a controller enters core vector v: a used half of the LIO does, or an EIO
+abbrev pub Enters : Said → Structure → ℕ → Type 0
+Enters said lio v =
+    ((said .lio .low .mask ≡ 0 → ⊥) × (said .lio .low .cascade ≡ v)) ⊎ ((said .lio .high .mask ≡ 0 → ⊥) × (said .lio .high .cascade ≡ v))
+Enters said (eio e) v = eioAt said e .cascade ≡ v
+Enters said (bio j) v = ⊥
+Enters said (msi m) v = ⊥
+
+-- ---- what two structures share
+-- 41: they are EIO of one node
+abbrev pub ShareNode : Said → Structure → Structure → Type 0
+ShareNode said s t = (n : ℕ) × HasNode said s n × HasNode said t n
+
+-- 51: a source of each has one global number
+abbrev pub ShareNumber : Said → Structure → Structure → Type 0
+ShareNumber said s t =
+    (x : Source) × (y : Source) × IsSourceOf said s x × IsSourceOf said t y × (g : ℕ) × HasNumber said x g × HasNumber said y g
+
+-- 52: a source of each takes the same extended vector of one EIO
+abbrev pub ShareVector : Said → Structure → Structure → Type 0
+ShareVector said s t =
+    (x : Source) × (y : Source) × IsSourceOf said s x × IsSourceOf said t y
+    × (e : ℕ) × (k : ℕ) × (e < length (said .eios)) × LandsOn said x e k × LandsOn said y e k
+
+-- 53: they are controllers that enter one core vector
+abbrev pub ShareCore : Said → Structure → Structure → Type 0
+ShareCore said s t = (v : ℕ) × Enters said s v × Enters said t v
+
+-- ---- what is broken
+-- two different structures of the map share something
+pub record Sharing (said : Said) (Share : Structure → Structure → Type 0) : Type 0 where
+  pub s : Structure
+  pub t : Structure
+  pub s-in : IsIn said s
+  pub t-in : IsIn said t
+  pub differ : s ≡ t → ⊥
+  pub share : Share s t
+
+-- 41: "EIO repeats an earlier node"
+abbrev pub TwoNode : Said → Type 0
+TwoNode said = Sharing said (ShareNode said)
+
+-- 42: "BIO without an EIO of its node"
+abbrev pub IsLone : Said → ℕ → Type 0
+IsLone said j =
+    (j < length (said .bios)) × ((e : ℕ) → e < length (said .eios) → eioAt said e .node ≡ bioAt said j .node → ⊥)
+
+abbrev pub LoneBio : Said → Type 0
+LoneBio said = (j : ℕ) × IsLone said j
+
+-- 51: "two sources share a global number"
+abbrev pub TwoNumber : Said → Type 0
+TwoNumber said =
+    (x : Source) × (y : Source) × IsSource said x × IsSource said y × (x ≡ y → ⊥) × (g : ℕ) × HasNumber said x g × HasNumber said y g
+
+-- 52: "two sources share an extended vector of one EIO"
+abbrev pub TwoVector : Said → Type 0
+TwoVector said =
+    (x : Source) × (y : Source) × IsSource said x × IsSource said y × (x ≡ y → ⊥)
+    × (e : ℕ) × (k : ℕ) × (e < length (said .eios)) × LandsOn said x e k × LandsOn said y e k
+
+-- 53: "two controllers enter one core vector"; both halves of the LIO are one controller
+abbrev pub TwoCore : Said → Type 0
+TwoCore said = Sharing said (ShareCore said)
+
+-- ---- what is named
+-- "the first structure that clashes with an earlier": s at p shares with t at q, which stands before it; no structure before s
+-- shares with an earlier one; and s shares with none that stands before t
+pub record Names (said : Said) (places : Places) (Share : Structure → Structure → Type 0) (p q : ℕ) : Type 0 where
+  pub s : Structure
+  pub t : Structure
+  pub s-in : IsIn said s
+  pub t-in : IsIn said t
+  pub s-at : placeOf places s ≡ p
+  pub t-at : placeOf places t ≡ q
+  pub earlier : q < p
+  pub share : Share s t
+  pub first : (u v : Structure) → IsIn said u → IsIn said v → placeOf places v < placeOf places u → Share u v → p ≤ placeOf places u
+  pub earliest : (v : Structure) → IsIn said v → placeOf places v < p → Share s v → q ≤ placeOf places v
+
+-- "where one line fits several structures, the first in table order is named": of the BIO without an EIO, the one at p
+pub record NamesLone (said : Said) (places : Places) (p : ℕ) : Type 0 where
+  pub j : ℕ
+  pub lone : IsLone said j
+  pub at : placeOf places (bio j) ≡ p
+  pub first : (i : ℕ) → IsLone said i → p ≤ placeOf places (bio i)
+
+-- ---- "The lowest line that applies wins"
+-- no rule below 41 is broken
+pub record KeepsTo40 (map : Map) (madt : ℕ) : Type 0 where
+  pub r36 : rangesKept (says map) ≡ true
+  pub r37 : bitInBoth (says map .lio) ≡ false
+  pub r38 : tooMany map ≡ false
+  pub r40 : rule40 (says map) madt ≡ Kept
+
+-- no rule below 51 is broken
+pub record KeepsTo43 (map : Map) (places : Places) (madt : ℕ) : Type 0 where
+  pub to40 : KeepsTo40 map madt
+  pub r41 : rule41 (claims (says map) places) ≡ Kept
+  pub r42 : rule42 (claims (says map) places) ≡ Kept
+  pub r43 : rule43 (says map) (places .lpc) ≡ Kept
+
+-- ---- demand 3, its last sentence: the statements
+-- the map is refused with n, at p, with partner q
+abbrev pub RefusedWith : Map → Places → ℕ → ℕ → ℕ → ℕ → ℕ → Type 0
+RefusedWith map places madt fadt n p q = firstBroken map places madt fadt ≡ Broken (refused n p) q
+
+-- a number is told exactly when its rule is the first that is broken, and then at a place and with a partner that are named so
+abbrev pub Exactly : (ℕ → ℕ → Type 0) → Type 0 → (ℕ → ℕ → Type 0) → Type 0
+Exactly told broken named = ((p q : ℕ) → told p q → broken × named p q) × (broken → (p : ℕ) × (q : ℕ) × told p q)
+
+-- 41: exactly when two EIO have one node; the later is named, and no partner
+abbrev pub NodeExactly : Map → Places → ℕ → ℕ → Type 0
+NodeExactly map places madt fadt =
+    Placed (says map) places → KeepsTo40 map madt
+    → Exactly (RefusedWith map places madt fadt 41) (TwoNode (says map))
+    (λ p q. (q ≡ 0) × ((r : ℕ) × Names (says map) places (ShareNode (says map)) p r))
+
+-- 42: exactly when no two EIO have one node, and a BIO has no EIO of its node; the first such is named, and no partner
+abbrev pub LoneExactly : Map → Places → ℕ → ℕ → Type 0
+LoneExactly map places madt fadt =
+    Placed (says map) places → KeepsTo40 map madt
+    → Exactly (RefusedWith map places madt fadt 42) ((TwoNode (says map) → ⊥) × LoneBio (says map))
+    (λ p q. (q ≡ 0) × NamesLone (says map) places p)
+
+-- 51: exactly when two sources share a global number
+abbrev pub NumberExactly : Map → Places → ℕ → ℕ → Type 0
+NumberExactly map places madt fadt =
+    Placed (says map) places → KeepsTo43 map places madt
+    → Exactly (RefusedWith map places madt fadt 51) (TwoNumber (says map)) (Names (says map) places (ShareNumber (says map)))
+
+-- 52: exactly when no two sources do, and two share an extended vector of one EIO
+abbrev pub VectorExactly : Map → Places → ℕ → ℕ → Type 0
+VectorExactly map places madt fadt =
+    Placed (says map) places → KeepsTo43 map places madt
+    → Exactly (RefusedWith map places madt fadt 52) ((TwoNumber (says map) → ⊥) × TwoVector (says map))
+    (Names (says map) places (ShareVector (says map)))
+
+-- 53: exactly when no two sources share either, and two controllers enter one core vector
+abbrev pub CoreExactly : Map → Places → ℕ → ℕ → Type 0
+CoreExactly map places madt fadt =
+    Placed (says map) places → KeepsTo43 map places madt
+    → Exactly (RefusedWith map places madt fadt 53)
+    ((TwoNumber (says map) → ⊥) × (TwoVector (says map) → ⊥) × TwoCore (says map))
+    (Names (says map) places (ShareCore (says map)))
