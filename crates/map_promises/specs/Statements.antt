@@ -109,6 +109,11 @@ TraceFits (LpcCascade n) = n < 2 ^ 32
 TraceFits (MsiSlot node slot) = (node < 2 ^ 8) × (slot < 2 ^ 32)
 TraceFits (NoTrace r) = (0 < r .number) × (r .place < 2 ^ 32)
 
+-- every answer of a map that keeps the rules fits its code
+abbrev pub AnswersFit : Map → Type 0
+AnswersFit map =
+    keepsRules map ≡ true → ((n : ℕ) → RouteFits (routeOf map n)) × ((vector number : ℕ) → TraceFits (traceOf map vector number))
+
 -- no two answers have one code
 abbrev pub RouteCodesApart : Type 0
 RouteCodesApart = (r s : Route) → RouteFits r → RouteFits s → routeCode r ≡ routeCode s → r ≡ s
