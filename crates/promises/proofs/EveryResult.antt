@@ -14,20 +14,27 @@ use Rattle.words.proofs.Choices.{no-if, if-cases}
 use Rattle.tables.specs.Survey.{survey}
 use Rattle.tables.specs.declared.Survey.{Survey}
 use Rattle.tables.specs.declared.Survey.the-variants as surveys
-use Rattle.lines.specs.Answers.{refusalCode}
+use Rattle.lines.specs.Answers.{refusalCode, routeCode, traceCode}
+use Rattle.lines.specs.declared.Route.{Route}
+use Rattle.lines.specs.declared.Route.the-variants as routes
+use Rattle.lines.specs.declared.Trace.{Trace}
+use Rattle.lines.specs.declared.Trace.the-variants as traces
 use Rattle.processors.specs.Listing.{hasRoom, filled}
+use Rattle.map_promises.specs.Statements.{RouteFits, TraceFits}
+use Rattle.map_promises.proofs.AnswersFit.{answers-fit}
 use Rattle.reading.specs.Scan.{emptyMap, turnedDown, afterWalk, afterSurvey, scan}
 use Rattle.reading.specs.Reading.{withoutMap, madtFound, readingOf}
 use Rattle.reading.specs.declared.Answer.the-variants as answers
 use Rattle.reading.specs.declared.Reading.{Reading}
 use Rattle.reading.specs.declared.Scan.{Scan}
+use Rattle.reading.proofs.AcceptedKeepsRules.{accepted-keeps-rules}
 use Rattle.reading.proofs.Laws.{judged-refused, reading-refused, reading-sound, answered-60}
 use Rattle.reading.proofs.Scanned.{verdict-left}
 use Rattle.text.specs.Text.{outcome}
 use Rattle.text.specs.declared.Written.{Written}
 use Rattle.text.specs.declared.Written.the-variants.{Whole, NoRoom}
 use Rattle.promises.specs.RefusalTable.{isRefusalNumber, OfTheTable}
-use Rattle.promises.specs.EveryResult.{RefusalOf, ScanRefuses, ReadRefuses, CReadRefuses, CRouteRefuses, CTraceRefuses, WriteTextRefuses, RouteRefuses, TraceRefuses}
+use Rattle.promises.specs.EveryResult.{RefusalOf, ScanRefuses, ReadRefuses, CReadRefuses, CRouteRefuses, CTraceRefuses, NoRoomLeaves, MapRouteRefuses, MapTraceRefuses}
 use Rattle.promises.proofs.EveryRefusal.{of-scan, reading-refusals, refused-leaves-list, route-refusals, trace-refusals, map-refusals}
 use Rattle.promises.proofs.ReadForC.{c-reading}
 use Rattle.promises.proofs.Told.{tell-none}
@@ -57,6 +64,23 @@ above-0 (suc n) h = omega arith
 
 coded : (capture : List ℕ) (result : ℕ) (r : Refusal) → result ≡ refusalCode r → OfTheTable capture r → RefusalOf capture result
 coded capture result r e o = (omega (arith, e, above-0 (r .number) (o .number)), (r, e, o))
+
+-- ---- an answer's is not
+route-below : (t : Route) → RouteFits t → ((r : Refusal) → t ≡ routes.Refused r → ⊥) → routeCode t < 2 ^ 48
+unfolding routeCode
+route-below (routes.Arrives vector number) fits never = omega (arith, fits .0, fits .1)
+route-below routes.Unwired fits never = omega arith
+route-below routes.NoOwner fits never = omega arith
+route-below (routes.Refused r) fits never = absurd (never r refl)
+
+trace-below : (t : Trace) → TraceFits t → ((r : Refusal) → t ≡ traces.Refused r → ⊥) → traceCode t < 2 ^ 48
+unfolding traceCode
+trace-below traces.Nothing fits never = omega arith
+trace-below (traces.LioInput n) fits never = omega (arith, fits)
+trace-below (traces.BioInput n) fits never = omega (arith, fits)
+trace-below (traces.LpcCascade n) fits never = omega (arith, fits)
+trace-below (traces.MsiSlot node slot) fits never = omega (arith, fits .0, fits .1)
+trace-below (traces.Refused r) fits never = absurd (never r refl)
 
 -- ---- a room that is too short
 whole-not : {n : ℕ} {X : Type 0} → _≡_ {A = Written} (Whole n) NoRoom → X
@@ -97,19 +121,27 @@ c-read-refuses κs a q x p =
 
 pub c-route-refuses : CRouteRefuses
 c-route-refuses κs a q x p =
-    ⊎-elim (λ w. inl (coded _ q (w .0) (p ∙ w .2) (w .3))) (λ w. inr (_, p ∙ w .1, w .2)) (route-refusals _ _)
+    ⊎-elim (λ w. inl (coded _ q (w .0) (p ∙ w .2) (w .3)))
+    (λ w.
+    let small = route-below _ (answers-fit _ (accepted-keeps-rules _ (w .0)) .0 _) (w .2) in
+    inr (omega (arith, p ∙ w .1, small), (_, p ∙ w .1, w .2)))
+    (route-refusals _ _)
 
 pub c-trace-refuses : CTraceRefuses
 c-trace-refuses κs a q x p =
-    ⊎-elim (λ w. inl (coded _ q (w .0) (p ∙ w .2) (w .3))) (λ w. inr (_, p ∙ w .1, w .2)) (trace-refusals _ _ _)
+    ⊎-elim (λ w. inl (coded _ q (w .0) (p ∙ w .2) (w .3)))
+    (λ w.
+    let small = trace-below _ (answers-fit _ (accepted-keeps-rules _ (w .0)) .1 _ _) (w .2) in
+    inr (omega (arith, p ∙ w .1, small), (_, p ∙ w .1, w .2)))
+    (trace-refusals _ _ _)
 
-pub write-text-refuses : WriteTextRefuses
-write-text-refuses κs a q x p h =
+pub no-room-leaves : NoRoomLeaves
+no-room-leaves κs a q x p h =
     let short = short-room _ _ (sym (p .0) ∙ h) in
     (p .1 .0 ∙ stays _ _ short, omega (arith, shorter _ _ short, p .1 .1))
 
-pub route-refuses : RouteRefuses
-route-refuses κs a q x p r h = map-refusals _ .0 _ r (sym p ∙ h)
+pub map-route-refuses : MapRouteRefuses
+map-route-refuses κs a q x p r h = map-refusals _ .0 _ r (sym p ∙ h)
 
-pub trace-refuses : TraceRefuses
-trace-refuses κs a q x p r h = map-refusals _ .1 _ _ r (sym p ∙ h)
+pub map-trace-refuses : MapTraceRefuses
+map-trace-refuses κs a q x p r h = map-refusals _ .1 _ _ r (sym p ∙ h)

@@ -68,32 +68,32 @@ CReadRefuses =
     Always c-read.ps c-read.r c-read-reads.Post
     (λ κs a result x. (RefusalOf (now (a .0)) result × (now (x .1 .0) ≡ now (a .1 .0))) ⊎ (result ≤ 256))
 
--- a refusal, or the code of an answer that is none
+-- a refusal, or below 2^48 the code of an answer that is none
 abbrev pub CRouteRefuses : Type 0
 CRouteRefuses =
     Always c-route.ps c-route.r c-route-reads.Post
     (λ κs a result x. RefusalOf (now (a .0)) result
-    ⊎ ((t : Route) × (result ≡ routeCode t) × ((r : Refusal) → t ≡ routes.Refused r → ⊥)))
+    ⊎ ((result < 2 ^ 48) × ((t : Route) × (result ≡ routeCode t) × ((r : Refusal) → t ≡ routes.Refused r → ⊥))))
 
 abbrev pub CTraceRefuses : Type 0
 CTraceRefuses =
     Always c-trace.ps c-trace.r c-trace-reads.Post
     (λ κs a result x. RefusalOf (now (a .0)) result
-    ⊎ ((t : Trace) × (result ≡ traceCode t) × ((r : Refusal) → t ≡ traces.Refused r → ⊥)))
+    ⊎ ((result < 2 ^ 48) × ((t : Trace) × (result ≡ traceCode t) × ((r : Refusal) → t ≡ traces.Refused r → ⊥))))
 
 -- a room that is too short for the text stays as it was, and one of 16,384 bytes never is too short
-abbrev pub WriteTextRefuses : Type 0
-WriteTextRefuses =
+abbrev pub NoRoomLeaves : Type 0
+NoRoomLeaves =
     Always write-text.ps write-text.r write-text-reads.Post
     (λ κs a result x. result ≡ writings.NoRoom → (now (x .1 .0) ≡ now (a .1 .0)) × (length (now (a .1 .0)) < 16384))
 
 -- ---- "any map may be asked about": 61 at place 0, and no other refusal
-abbrev pub RouteRefuses : Type 0
-RouteRefuses =
+abbrev pub MapRouteRefuses : Type 0
+MapRouteRefuses =
     Always route.ps route.r route-reads.Post
     (λ κs a result x. (r : Refusal) → result ≡ routes.Refused r → r ≡ refused 61 0)
 
-abbrev pub TraceRefuses : Type 0
-TraceRefuses =
+abbrev pub MapTraceRefuses : Type 0
+MapTraceRefuses =
     Always trace.ps trace.r trace-reads.Post
     (λ κs a result x. (r : Refusal) → result ≡ traces.Refused r → r ≡ refused 61 0)
