@@ -34,8 +34,8 @@ use Rattle.text.specs.Text.{outcome}
 use Rattle.text.specs.declared.Written.{Written}
 use Rattle.text.specs.declared.Written.the-variants.{Whole, NoRoom}
 use Rattle.promises.specs.RefusalTable.{isRefusalNumber, OfTheTable}
-use Rattle.promises.specs.EveryResult.{RefusalOf, ScanRefuses, ReadRefuses, CReadRefuses, CRouteRefuses, CTraceRefuses, NoRoomLeaves, MapRouteRefuses, MapTraceRefuses}
-use Rattle.promises.proofs.EveryRefusal.{of-scan, reading-refusals, refused-leaves-list, route-refusals, trace-refusals, map-refusals}
+use Rattle.promises.specs.EveryResult.{RefusalTo, ScanRefuses, ReadRefuses, CReadRefuses, CRouteRefuses, CTraceRefuses, NoRoomLeaves, MapRouteRefuses, MapTraceRefuses}
+use Rattle.promises.proofs.EveryRefusal.{of-scan, to-54, reading-refusals, refused-leaves-list, route-refusals, trace-refusals, map-refusals}
 use Rattle.promises.proofs.ReadForC.{c-reading}
 use Rattle.promises.proofs.Told.{tell-none}
 use Rattle.promises.proofs.WhyRefused.{why-refused}
@@ -62,8 +62,9 @@ above-0 : (n : ℕ) → isRefusalNumber n ≡ true → 0 < n
 above-0 zero h = absurd (true≢false (sym h))
 above-0 (suc n) h = omega arith
 
-coded : (capture : List ℕ) (result : ℕ) (r : Refusal) → result ≡ refusalCode r → OfTheTable capture r → RefusalOf capture result
-coded capture result r e o = (omega (arith, e, above-0 (r .number) (o .number)), (r, e, o))
+coded : (last : ℕ) (capture : List ℕ) (result : ℕ) (r : Refusal) → result ≡ refusalCode r → OfTheTable capture r → r .number ≤ last
+    → RefusalTo last capture result
+coded last capture result r e o below = (omega (arith, e, above-0 (r .number) (o .number)), (r, e, o, below))
 
 -- ---- an answer's is not
 route-below : (t : Route) → RouteFits t → ((r : Refusal) → t ≡ routes.Refused r → ⊥) → routeCode t < 2 ^ 48
@@ -103,7 +104,7 @@ shorter text room h = leb-false (length text) (length room) h
 pub scan-refuses : ScanRefuses
 scan-refuses κs a q x p r h =
     let e = sym (ap (λ (s : Scan). s .verdict) p) ∙ h in
-    (of-scan _ r e, ap (λ (s : Scan). s .map) p ∙ of-scan-no-map _ r e)
+    (of-scan _ r e, to-54 _ r e, ap (λ (s : Scan). s .map) p ∙ of-scan-no-map _ r e)
 
 pub read-refuses : ReadRefuses
 read-refuses κs a q x p r h =
@@ -113,15 +114,15 @@ read-refuses κs a q x p r h =
 pub c-read-refuses : CReadRefuses
 c-read-refuses κs a q x p =
     ⊎-elim
-    (λ w. inl (coded _ q (w .refusal) (p .0 ∙ w .result) (w .ofthetable), p .1 ∙ w .kept))
+    (λ w. inl (coded 60 _ q (w .refusal) (p .0 ∙ w .result) (w .ofthetable) (omega (arith, to-54 _ (w .refusal) (w .broken))), p .1 ∙ w .kept))
     (⊎-elim
-    (λ w. inl (coded _ q (refused 60 0) (p .0 ∙ w .result) (tell-none _ 60 refl refl), p .1 ∙ w .kept))
+    (λ w. inl (coded 60 _ q (refused 60 0) (p .0 ∙ w .result) (tell-none _ 60 refl refl) (omega arith), p .1 ∙ w .kept))
     (λ w. inr (omega (arith, p .0 ∙ w .result, w .most))))
     (c-reading _ _)
 
 pub c-route-refuses : CRouteRefuses
 c-route-refuses κs a q x p =
-    ⊎-elim (λ w. inl (coded _ q (w .0) (p ∙ w .2) (w .3)))
+    ⊎-elim (λ w. inl (coded 54 _ q (w .0) (p ∙ w .2) (w .3) (to-54 _ (w .0) (w .1))))
     (λ w.
     let small = route-below _ (answers-fit _ (accepted-keeps-rules _ (w .0)) .0 _) (w .2) in
     inr (omega (arith, p ∙ w .1, small), (_, p ∙ w .1, w .2)))
@@ -129,7 +130,7 @@ c-route-refuses κs a q x p =
 
 pub c-trace-refuses : CTraceRefuses
 c-trace-refuses κs a q x p =
-    ⊎-elim (λ w. inl (coded _ q (w .0) (p ∙ w .2) (w .3)))
+    ⊎-elim (λ w. inl (coded 54 _ q (w .0) (p ∙ w .2) (w .3) (to-54 _ (w .0) (w .1))))
     (λ w.
     let small = trace-below _ (answers-fit _ (accepted-keeps-rules _ (w .0)) .1 _ _) (w .2) in
     inr (omega (arith, p ∙ w .1, small), (_, p ∙ w .1, w .2)))
