@@ -140,7 +140,8 @@ module _ (map : Map) (kept : keepsRules map ≡ true) where
   traced-fits v k =
       if-cases TraceFits _ _ _
       (λ t.
-      let small : k < 32 = ⊎-elim (lead-small (said .lio .low) v k) (lead-small (said .lio .high) v k) (or-cases (leads (said .lio .low) v k) (leads (said .lio .high) v k) t) in
+      let which = or-cases (leads (said .lio .low) v k) (leads (said .lio .high) v k) t in
+      let small : k < 32 = ⊎-elim (lead-small (said .lio .low) v k) (lead-small (said .lio .high) v k) which in
       omega arith)
       (λ t. eio-trace-fits v k)
 
