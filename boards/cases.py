@@ -390,6 +390,8 @@ read("52: BIO before the MSI", made(C, L, eio(3, 0), bio(0, 64), msi(0, 64)), re
 read("52: an EIO that stands last is not named", made(C, L, msi(0, 64), bio(0, 64), eio(3, 0)), refused(52, 219))
 read("52: slots are on every EIO", made(C, L, eio(3, 0), eio(4, 5), msi(0, 256), bio(5, 64)), refused(52, 245))
 read("52: two equal MSI, as the source describes", plus(eio(4, 5), msi(64, 192), bio(5, 128)), refused(52, 307))
+read("52: the first that clashes, of three MSI and a BIO",
+     made(C, L, eio(3, 0), bio(0, 64), msi(64, 64), msi(100, 8), msi(0, 8)), refused(52, 249))
 read("53: EIO cascade 2", put(EIO, eio(2, 0)), refused(53, 230))
 read("53: LIO after the EIO", made(C, eio(2, 0), L), refused(53, 190))
 read("53: high half", put(LIO, lio(2, 3, 0xFF, 0xFF00)), refused(53, 230))
@@ -423,19 +425,37 @@ read_bytes("C: no bytes", b"", refused(1, 0), 16)
 
 # Routes and traces by the C entries: kind, vector or node, number.
 for number, answer in ((72, "kind 0 3 8"), (26, "kind 0 2 10"), (3, "kind 0 3 19"), (45, "kind 1 0 0"), (50, "kind 2 0 0"),
-                       (128, "kind 2 0 0"), (127, "kind 0 3 63"), (83, "kind 0 3 19"), (0xFFFFFFFF, "kind 2 0 0")):
+                       (128, "kind 2 0 0"), (127, "kind 0 3 63"), (83, "kind 0 3 19"), (0xFFFFFFFF, "kind 2 0 0"),
+                       (39, "kind 0 2 23"), (40, "kind 1 0 0"), (47, "kind 1 0 0"), (48, "kind 2 0 0"), (63, "kind 2 0 0")):
     route(f"A: {number}", A, number, answer)
 for vector, number, answer in ((3, 19, "kind 3 0 83"), (3, 64, "kind 4 0 64"), (2, 24, "kind 0 0 0"), (3, 8, "kind 2 0 72"),
-                               (2, 10, "kind 1 0 26"), (0xFFFFFFFF, 19, "kind 0 0 0"), (3, 0xFFFFFFFF, "kind 0 0 0")):
+                               (2, 10, "kind 1 0 26"), (0xFFFFFFFF, 19, "kind 0 0 0"), (3, 0xFFFFFFFF, "kind 0 0 0"),
+                               (2, 42, "kind 0 0 0")):
     trace(f"A: {vector} {number}", A, vector, number, answer)
 TWO_BRIDGES = made(C, L, eio(3, 0), eio(4, 5), bio(5, 128), bio(0, 64), lpc(19))
 route("the LPC's bridge has the smallest hardware ID", TWO_BRIDGES, 3, "kind 0 3 19")
 trace("the LPC's pin", TWO_BRIDGES, 3, 19, "kind 3 0 83")
 trace("the other bridge's input 19", TWO_BRIDGES, 4, 19, "kind 2 0 147")
+route("the other bridge's number of it", TWO_BRIDGES, 147, "kind 0 4 19")
+NO_LPC = board(STRUCTURES_OF_A[:LPC])
+route("0 without an LPC", NO_LPC, 0, "kind 2 0 0")
+trace("input 19 without an LPC", NO_LPC, 3, 19, "kind 2 0 83")
 HALVES = put(LIO, lio(2, 5, 0xF, 0xF0), 72)
 route("low half", HALVES, 16, "kind 0 2 0")
 route("high half", HALVES, 20, "kind 0 5 4")
+route("in no half", HALVES, 24, "kind 1 0 0")
+trace("high half", HALVES, 5, 4, "kind 1 0 20")
+trace("the high half's input at the low half's vector", HALVES, 2, 4, "kind 0 0 0")
+route("high half alone", put(LIO, lio(0, 2, 0, 0xFFFFFF)), 26, "kind 0 2 10")
+route("both halves unused", put(LIO, lio(255, 255, 0, 0)), 26, "kind 1 0 0")
+route("both halves on one vector", put(LIO, lio(2, 2, 0xFFFF, 0xFF0000)), 32, "kind 0 2 16")
+route("an unused half enters nowhere, not by the EIO's vector", put(LIO, lio(2, 3, 0xFFFFFF, 0)), 72, "kind 0 3 8")
+route("EIO cascade 9", put(EIO, eio(9, 0)), 72, "kind 0 9 8")
+LAST_BASE = put(BIO, bio(0, 65472), 65535)
+route("the last global number", LAST_BASE, 65535, "kind 0 3 63")
+route("64 is nobody's where the base is 65,472", LAST_BASE, 64, "kind 2 0 0")
 trace("a slot on node 5", plus(eio(4, 5)), 4, 64, "kind 4 5 64")
+trace("the same slot on node 0", plus(eio(4, 5)), 3, 64, "kind 4 0 64")
 trace("below the slots of node 5", plus(eio(4, 5)), 4, 63, "kind 0 0 0")
 route("refused as the reading is", put(MSI, msi(63, 193)), 72, refused(52, 262))
 trace("refused as the reading is", b"", 3, 19, refused(1, 0))

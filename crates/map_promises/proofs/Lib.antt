@@ -19,6 +19,8 @@ pub mod SameAnswers
 pub mod Places
 pub mod RefusedExactly
 pub mod CodesApart
+pub mod AnswersFit
+pub mod Examples
 pub mod Shelves
 pub mod InOrder
 pub mod Rising

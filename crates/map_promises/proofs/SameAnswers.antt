@@ -1,4 +1,4 @@
--- Maps that say the same get the same answers, and any map and any question have one answer.
+-- Maps that say the same get the same answers.
 use Prim.Native.Nat.{ℕ}
 use mathlib.Core.Path.{_≡_, refl, sym, _∙_, ap, ap₂}
 use mathlib.Core.Bool.{Bool, not, _&&_, _||_}
@@ -15,7 +15,7 @@ use Rattle.lines.specs.Answers.{routeOf, traceOf, badMap}
 use Rattle.lines.specs.declared.Map.{Map}
 use Rattle.lines.specs.declared.Route.the-variants.{Refused}
 use Rattle.lines.specs.declared.Trace.the-variants.{Refused as NoTrace}
-use Rattle.map_promises.specs.Statements.{SameAnswers, RouteDetermined, TraceDetermined}
+use Rattle.map_promises.specs.Statements.{SameAnswers}
 
 -- the rules look at the counts and at what is said
 abbrev keeps : Bool → Said → Bool
@@ -44,12 +44,6 @@ unfolding traceOf
 trace-same map other s v k =
     ap₂ (λ (b : Bool) (said : Said). if b (traced said v k) (NoTrace badMap)) (keeps-same map other s) (s .said)
 
--- THE PROMISES
+-- THE PROMISE
 pub same-answers : (map other : Map) → SameAnswers map other
 same-answers map other s = (keeps-same map other s, route-same map other s, trace-same map other s)
-
-pub route-determined : (map : Map) (n : ℕ) → RouteDetermined map n
-route-determined map n r s p q = p ∙ sym q
-
-pub trace-determined : (map : Map) (vector number : ℕ) → TraceDetermined map vector number
-trace-determined map v k r s p q = p ∙ sym q

@@ -199,7 +199,7 @@ module _ (said : Said) (ranged : rangesKept said ≡ true) where
           pin i s,
           slot k s (r .0),
           ((p, l), refl),
-          ((q, r .1, omega arith, omega (arith, msi-fits said ranged k q)), refl),
+          ((q, r .1, omega arith, omega (arith, msi-fits said ranged k q .0)), refl),
           r .0,
           s,
           r .1,
@@ -212,7 +212,7 @@ module _ (said : Said) (ranged : rangesKept said ≡ true) where
         let l : s < 64 = vectors (at (msi k)) (at (bio i)) h .1 in (
           slot k s (r .0),
           pin i s,
-          ((p, r .1, omega arith, omega (arith, msi-fits said ranged k p)), refl),
+          ((p, r .1, omega arith, omega (arith, msi-fits said ranged k p .0)), refl),
           ((q, l), refl),
           r .0,
           s,
@@ -229,8 +229,8 @@ module _ (said : Said) (ranged : rangesKept said ≡ true) where
     vector-shared (msi i) (msi k) p q h =
         let v = vectors (at (msi i)) (at (msi k)) h in
         ⊎-elim
-        (λ o. two-slots i k (msiAt said k .start) p q (omega arith) (omega (arith, v .2)) (omega arith) (omega (arith, msi-fits said ranged k q)))
-        (λ o. two-slots i k (msiAt said i .start) p q (omega arith) (omega (arith, msi-fits said ranged i p)) (⊎-elim (λ z. omega arith) (λ z. omega arith) o) (omega (arith, v .1)))
+        (λ o. two-slots i k (msiAt said k .start) p q (omega arith) (omega (arith, v .2)) (omega arith) (omega (arith, msi-fits said ranged k q .0)))
+        (λ o. two-slots i k (msiAt said i .start) p q (omega arith) (omega (arith, msi-fits said ranged i p .0)) (⊎-elim (λ z. omega arith) (λ z. omega arith) o) (omega (arith, v .1)))
         (order (msiAt said i .start) (msiAt said k .start))
 
     pub vector-agrees : Agrees said 52 (ShareVector said)
@@ -253,8 +253,8 @@ module _ (said : Said) (ranged : rangesKept said ≡ true) where
   entered (msi j) v k h = absurd h
   entered lio v k h =
       ⊎-elim
-      (λ u. (omega (arith, low-used said ranged (u .0), u .1), inl (sym (u .1))))
-      (λ u. (omega (arith, high-used said ranged (u .0), u .1), inr (sym (u .1))))
+      (λ u. (omega (arith, low-used said ranged (u .0) .0, u .1), inl (sym (u .1))))
+      (λ u. (omega (arith, high-used said ranged (u .0) .0, u .1), inr (sym (u .1))))
       h
 
   core-clash : (s t : Structure) → IsIn said s → IsIn said t → (v : ℕ) → Enters said s v → Enters said t v → Clash said 53 s t

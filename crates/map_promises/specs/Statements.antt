@@ -92,13 +92,6 @@ SameAnswers map other =
     × ((n : ℕ) → routeOf map n ≡ routeOf other n)
     × ((vector number : ℕ) → traceOf map vector number ≡ traceOf other vector number)
 
--- any two results that the contracts of `route` and `trace` allow are equal
-abbrev pub RouteDetermined : Map → ℕ → Type 0
-RouteDetermined map n = (r s : Route) → r ≡ routeOf map n → s ≡ routeOf map n → r ≡ s
-
-abbrev pub TraceDetermined : Map → ℕ → ℕ → Type 0
-TraceDetermined map vector number = (r s : Trace) → r ≡ traceOf map vector number → s ≡ traceOf map vector number → r ≡ s
-
 -- ---- answers as numbers
 -- a route, or a trace, whose values fit the code: a core vector and a node take a byte, any other value 32 bits, and a
 -- refusal's number is not 0
@@ -115,6 +108,11 @@ TraceFits (BioInput n) = n < 2 ^ 32
 TraceFits (LpcCascade n) = n < 2 ^ 32
 TraceFits (MsiSlot node slot) = (node < 2 ^ 8) × (slot < 2 ^ 32)
 TraceFits (NoTrace r) = (0 < r .number) × (r .place < 2 ^ 32)
+
+-- every answer of a map that keeps the rules fits its code
+abbrev pub AnswersFit : Map → Type 0
+AnswersFit map =
+    keepsRules map ≡ true → ((n : ℕ) → RouteFits (routeOf map n)) × ((vector number : ℕ) → TraceFits (traceOf map vector number))
 
 -- no two answers have one code
 abbrev pub RouteCodesApart : Type 0

@@ -111,6 +111,9 @@ scan-told capture = go (survey capture) refl (survey-told capture)
 pub of-scan : (capture : List ℕ) (r : Refusal) → scan capture .verdict ≡ verdicts.Refused r → OfTheTable capture r
 of-scan capture r e = (rw e at (scan-told capture)) .0
 
+pub to-54 : (capture : List ℕ) (r : Refusal) → scan capture .verdict ≡ verdicts.Refused r → r .number ≤ 54
+to-54 capture r e = (rw e at (scan-told capture)) .1
+
 -- THE PROMISES
 pub reading-refusals : (capture list : List ℕ) → ReadingRefusals capture list
 reading-refusals capture list r h =

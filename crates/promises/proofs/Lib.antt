@@ -9,6 +9,7 @@ pub mod WhyRefused
 pub mod EveryRefusal
 pub mod Examples
 pub mod FirstRule
-pub mod Determined
+pub mod OneAnswer
 pub mod ReadForC
+pub mod EveryResult
 pub mod RulesInOrder

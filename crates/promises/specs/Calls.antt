@@ -1,5 +1,5 @@
--- What is promised of the public calls over a capture: one question, one answer; and the C entry for the reading does what the
--- reading does. Each statement stands alone; proofs/ has a theorem for it.
+-- What is promised of the C entry for the reading: it does what the reading does. Each statement stands alone; proofs/ has a
+-- theorem for it.
 use Prim.Native.Nat.{ℕ, _*_, _^_, _<_, _≤_}
 use mathlib.Core.List.{List, _++_}
 use mathlib.Core.Logic.{_⊎_}
@@ -14,38 +14,11 @@ use Rattle.processors.specs.Image.{image}
 use Rattle.processors.specs.Listing.{processors, count}
 use Rattle.reading.specs.Scan.{scan}
 use Rattle.reading.specs.Reading.{madtFound, readingOf, listAfter}
-use Rattle.reading.specs.Entries.{readCode, readResult, bytesAfter, routeResult, traceResult}
+use Rattle.reading.specs.Entries.{readCode, readResult, bytesAfter}
 use Rattle.reading.specs.declared.Answer.{Answer}
 use Rattle.reading.specs.declared.Answer.the-variants.{Read, Refused}
-use Rattle.reading.specs.declared.Reading.{Reading}
-use Rattle.reading.specs.declared.Scan.{Scan}
 use Rattle.promises.specs.RefusalTable.{OfTheTable}
 
--- ---- "For each public call, the inputs determine the result and the list's content afterwards, refused calls too": any two
--- results that the contract allows are equal, and so are the lists
-abbrev pub ScanDetermined : List ℕ → Type 0
-ScanDetermined capture = (r s : Scan) → r ≡ scan capture → s ≡ scan capture → r ≡ s
-
-abbrev pub ReadDetermined : List ℕ → List ℕ → Type 0
-ReadDetermined capture list =
-    (r s : Reading) (l m : List ℕ)
-    → (r ≡ readingOf capture list) × (l ≡ listAfter capture list) → (s ≡ readingOf capture list) × (m ≡ listAfter capture list)
-    → (r ≡ s) × (l ≡ m)
-
-abbrev pub CReadDetermined : List ℕ → List ℕ → Type 0
-CReadDetermined capture list =
-    (r s : ℕ) (l m : List ℕ)
-    → (r ≡ readResult capture list) × (l ≡ bytesAfter capture list) → (s ≡ readResult capture list) × (m ≡ bytesAfter capture list)
-    → (r ≡ s) × (l ≡ m)
-
-abbrev pub CRouteDetermined : List ℕ → ℕ → Type 0
-CRouteDetermined capture number = (r s : ℕ) → r ≡ routeResult capture number → s ≡ routeResult capture number → r ≡ s
-
-abbrev pub CTraceDetermined : List ℕ → ℕ → ℕ → Type 0
-CTraceDetermined capture vector number =
-    (r s : ℕ) → r ≡ traceResult capture vector number → s ≡ traceResult capture vector number → r ≡ s
-
--- ---- the reading for C
 -- lent the bytes of a list, it leaves the bytes of what the reading leaves of that list, and gives the reading's answer as a
 -- number
 abbrev pub SameReading : List ℕ → List ℕ → Type 0

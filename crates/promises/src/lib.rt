@@ -1,2 +1,3 @@
-// No code: what is promised of every capture and of the calls over one, as theorems over the definitions that the contracts
-// cite. The statements stand in specs/, the proofs in proofs/. The promises of maps stand in map_promises.
+// No code: what is promised of every capture, as theorems over the definitions that the contracts cite, and of every public
+// call, as theorems over the contracts themselves. The statements stand in specs/, the proofs in proofs/. The promises of maps
+// stand in map_promises.

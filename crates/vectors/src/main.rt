@@ -7,7 +7,6 @@ use capture::Root;
 use libc::STDIN_FILENO;
 use libc::STDOUT_FILENO;
 use reading::Answer;
-use reading::Reading;
 use tables::Survey;
 use tables::Tables;
 use words::Refusal;
@@ -134,8 +133,7 @@ fn say_list(list: &[u32]) {
     }
 }
 
-fn say_answer(reading: Reading) {
-    let answer = reading.answer;
+fn say_answer(answer: Answer) {
     match answer {
         Answer::Read(count) => say_number(b"read ", count as u64),
         Answer::Refused(refusal) => say_refusal(refusal),
@@ -148,7 +146,8 @@ fn read_into(bytes: &[u8], list: &mut [u32], room: usize) {
         return;
     }
     let reading = reading::read(bytes, &mut list[..room]);
-    say_answer(reading);
+    let answer = reading.answer;
+    say_answer(answer);
     say_list(list);
 }
 

@@ -1,0 +1,153 @@
+-- Every answer of a map that keeps the rules fits its code: rule 36 bounds core vectors, nodes, bases and slots.
+use Prim.Native.Nat.{ℕ, zero, suc, _+_, _-_, _^_, _<_, _≤_}
+use native.Mathlib.Omega.{arith}
+use mathlib.Core.Path.{_≡_, refl, sym, subst}
+use mathlib.Core.Logic.{⊎-elim}
+use mathlib.Core.Bool.{Bool, true}
+use mathlib.Core.List.{List}
+use borrow.Author.Tests.{ltb-true}
+use lib.Dec.{eqb, leb, ltb}
+use lib.ListN.{length, getD}
+use Rattle.words.specs.Lists.{first}
+use Rattle.words.proofs.Choices.{if-cases}
+use Rattle.clashes.proofs.Logic.{and-left, and-right, or-cases}
+use Rattle.kinds.specs.declared.Half.{Half}
+use Rattle.parts.specs.Inputs.{hasBit, leads, hasPin, hasSlot, owns}
+use Rattle.lines.specs.Says.{Said, says}
+use Rattle.lines.specs.Routes.{lioArrival, through, bridge, pinArrival, bioOwner, owner, arrivalOf}
+use Rattle.lines.specs.Traces.{slotTold, pinTold, landed, eioTraced, traced}
+use Rattle.lines.specs.Rules.{rangesKept, keepsRules}
+use Rattle.lines.specs.declared.Map.{Map}
+use Rattle.lines.specs.declared.Bridge.{Bridge}
+use Rattle.lines.specs.declared.Bridge.the-variants.{Is, None}
+use Rattle.lines.specs.declared.Owner.{Owner}
+use Rattle.lines.specs.declared.Owner.the-variants.{BioInput as ofBio, Nobody}
+use Rattle.lines.specs.declared.Route.the-variants.{Arrives, NoOwner}
+use Rattle.lines.specs.declared.Trace.the-variants.{Nothing, MsiSlot}
+use Rattle.kinds.specs.Used.{noEio, noBio, noMsi}
+use Rattle.map_promises.specs.Sources.{eioAt, bioAt, msiAt}
+use Rattle.map_promises.specs.Statements.{RouteFits, TraceFits, AnswersFit}
+use Rattle.map_promises.proofs.Kept.{good}
+use Rattle.map_promises.proofs.Members.{found-or-not}
+use Rattle.map_promises.proofs.Ranged.{eio-fits, bio-fits, msi-fits, low-used, high-used, lpc-fits}
+use Rattle.map_promises.proofs.Routing.{routed}
+use Rattle.map_promises.proofs.Tracing.{told}
+use Rattle.map_promises.proofs.Unused.{lio-said}
+
+-- what holds of all that a search can find holds of what it finds
+found-holds : {A R : Type 0} (d : A) (P : R → Type 0) (test : A → Bool) (found : A → R) (none : R) (l : List A)
+    → ((i : ℕ) → i < length l → test (getD l i d) ≡ true → P (found (getD l i d))) → P none → P (first test found none l)
+found-holds d P test found none l each last =
+    ⊎-elim (λ w. subst P (sym (w .3)) (each (w .0) (w .1) (w .2))) (λ w. subst P (sym (w .1)) last) (found-or-not d test found none l)
+
+bit-small : (mask i : ℕ) → hasBit mask i ≡ true → i < 32
+unfolding hasBit
+bit-small mask i h = ltb-true i 32 (and-left (ltb i 32) _ h)
+
+lead-small : (half : Half) (v i : ℕ) → leads half v i ≡ true → i < 32
+lead-small half v i h = bit-small (half .mask) i (and-right (eqb (half .cascade) v) (hasBit (half .mask) i) h)
+
+pin-small : (node v : ℕ) (b : _) → hasPin node v b ≡ true → v < 64
+unfolding hasPin
+pin-small node v b h = ltb-true v 64 (and-right (eqb (b .node) node) (ltb v 64) h)
+
+-- an unused half's byte is 0
+half-small : (mask cascade : ℕ) → ((mask ≡ 0 → ⊥) → (2 ≤ cascade) × (cascade ≤ 9)) → (mask ≡ 0 → cascade ≡ 0) → cascade ≤ 9
+half-small zero cascade used unused = omega (arith, unused refl)
+half-small (suc mask) cascade used unused = used (λ z. omega arith) .1
+
+module _ (map : Map) (kept : keepsRules map ≡ true) where
+  abbrev said : Said
+  said = says map
+
+  ranged : rangesKept said ≡ true
+  ranged = good map kept .ranged
+
+  low-small : said .lio .low .cascade ≤ 9
+  low-small = half-small (said .lio .low .mask) _ (low-used said ranged) (lio-said (map .lio) .0)
+
+  high-small : said .lio .high .cascade ≤ 9
+  high-small = half-small (said .lio .high .mask) _ (high-used said ranged) (lio-said (map .lio) .1)
+
+  -- ---- routes
+  through-fits : (node v : ℕ) → v < 64 → RouteFits (through (said .eios) node v)
+  unfolding through
+  through-fits node v small =
+      found-holds noEio RouteFits (λ e. eqb (e .node) node) (λ e. Arrives (e .cascade) v) NoOwner (said .eios)
+      (λ i k t. (omega (arith, eio-fits said ranged i k .2), omega arith))
+      (omega arith)
+
+  lio-route-fits : (i : ℕ) → i < 32 → RouteFits (lioArrival (said .lio) i)
+  unfolding lioArrival
+  lio-route-fits i small =
+      if-cases RouteFits _ _ _ (λ t. (omega (arith, low-small), omega arith))
+      (λ t. if-cases RouteFits _ _ _ (λ u. (omega (arith, high-small), omega arith)) (λ u. omega arith))
+
+  pin-route-fits : (b : Bridge) → RouteFits (pinArrival (said .eios) b (said .lpc .cascade))
+  unfolding pinArrival
+  pin-route-fits (Is b) = through-fits (b .node) (said .lpc .cascade) (omega (arith, lpc-fits said ranged))
+  pin-route-fits None = omega arith
+
+  bio-route-fits : (n : ℕ) → RouteFits (arrivalOf said (bioOwner (said .bios) n))
+  unfolding bioOwner arrivalOf
+  bio-route-fits n =
+      found-holds noBio (λ (o : Owner). RouteFits (arrivalOf said o)) (owns n) (λ b. ofBio (b .node) (n - b .base)) Nobody (said .bios)
+      (λ i k t.
+      let base = bioAt said i .base in
+      let high : n < base + 64 = ltb-true _ _ (and-right (leb base n) (ltb n (base + 64)) t) in
+      through-fits (bioAt said i .node) (n - base) (omega arith))
+      (omega arith)
+
+  arrival-fits : (n : ℕ) → RouteFits (arrivalOf said (owner said n))
+  unfolding owner arrivalOf
+  arrival-fits n =
+      if-cases (λ (o : Owner). RouteFits (arrivalOf said o)) _ _ _
+      (λ t. if-cases (λ (o : Owner). RouteFits (arrivalOf said o)) _ _ _ (λ u. pin-route-fits (bridge (said .bios))) (λ u. omega arith))
+      (λ t. if-cases (λ (o : Owner). RouteFits (arrivalOf said o)) _ _ _
+      (λ u. lio-route-fits (n - 16) (let less = ltb-true n 48 u in omega arith))
+      (λ u. bio-route-fits n))
+
+  -- ---- traces
+  slot-fits : (node k : ℕ) → node ≤ 63 → TraceFits (slotTold (said .msis) node k)
+  unfolding slotTold
+  slot-fits node k small =
+      found-holds noMsi TraceFits (hasSlot k) (λ _. MsiSlot node k) Nothing (said .msis)
+      (λ i l t.
+      let m = msiAt said i in
+      let high : k < m .start + m .count = ltb-true _ _ (and-right (leb (m .start) k) (ltb k (m .start + m .count)) t) in
+      (omega arith, omega (arith, msi-fits said ranged i l .1)))
+      (omega arith)
+
+  landed-fits : (node k : ℕ) → node ≤ 63 → TraceFits (landed said node k)
+  unfolding landed pinTold
+  landed-fits node k small =
+      found-holds noBio TraceFits (hasPin node k) (pinTold said k) (slotTold (said .msis) node k) (said .bios)
+      (λ i l t.
+      let few = pin-small node k (bioAt said i) t in
+      let fits : bioAt said i .base + k < 2 ^ 32 = omega (arith, bio-fits said ranged i l .2) in
+      if-cases TraceFits _ _ _ (λ u. fits) (λ u. fits))
+      (slot-fits node k small)
+
+  eio-trace-fits : (v k : ℕ) → TraceFits (eioTraced said v k)
+  unfolding eioTraced
+  eio-trace-fits v k =
+      found-holds noEio TraceFits (λ e. eqb (e .cascade) v) (λ e. landed said (e .node) k) Nothing (said .eios)
+      (λ i l t. landed-fits (eioAt said i .node) k (eio-fits said ranged i l .1))
+      (omega arith)
+
+  traced-fits : (v k : ℕ) → TraceFits (traced said v k)
+  unfolding traced
+  traced-fits v k =
+      if-cases TraceFits _ _ _
+      (λ t.
+      let which = or-cases (leads (said .lio .low) v k) (leads (said .lio .high) v k) t in
+      let small : k < 32 = ⊎-elim (lead-small (said .lio .low) v k) (lead-small (said .lio .high) v k) which in
+      omega arith)
+      (λ t. eio-trace-fits v k)
+
+-- THE PROMISE
+pub answers-fit : (map : Map) → AnswersFit map
+answers-fit map kept = (
+  (λ n. subst RouteFits (sym (routed map kept n)) (arrival-fits map kept n)),
+  λ v k. subst TraceFits (sym (told map kept v k)) (traced-fits map kept v k),
+)

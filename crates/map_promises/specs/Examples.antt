@@ -1,0 +1,274 @@
+-- "any map may be asked about": maps that no capture gives. Each rule of 61 is broken alone, counts go past the arrays, and
+-- unused places hold garbage; and of a clash the earliest partner is found, which no refusal tells. All of it is computed by the
+-- definitions that the contracts cite.
+use Prim.Native.Nat.{ℕ}
+use mathlib.Core.Bool.{true, false}
+use mathlib.Core.List.{List, [], _∷_, _++_, map}
+use mathlib.Core.Path.{_≡_}
+use lib.ListN.{length, take, replicate}
+use Rattle.words.specs.Refusals.{refused}
+use Rattle.words.specs.declared.Verdict.{Verdict}
+use Rattle.words.specs.declared.Verdict.the-variants as verdicts
+use Rattle.kinds.specs.Used.{noEio, noBio, noMsi}
+use Rattle.kinds.specs.declared.Lio.{Lio}
+use Rattle.kinds.specs.declared.Eio.{Eio}
+use Rattle.kinds.specs.declared.Bio.{Bio}
+use Rattle.kinds.specs.declared.Msi.{Msi}
+use Rattle.kinds.specs.declared.Lpc.{Lpc}
+use Rattle.clashes.specs.Search.{firstClash}
+use Rattle.clashes.specs.declared.Pair.{Pair}
+use Rattle.clashes.specs.declared.Pair.the-variants.{Two}
+use Rattle.lines.specs.Says.{says}
+use Rattle.lines.specs.Claims.{claims}
+use Rattle.lines.specs.Rules.{firstBroken}
+use Rattle.lines.specs.Answers.{routeOf, traceOf, badMap}
+use Rattle.lines.specs.declared.Map.{Map}
+use Rattle.lines.specs.declared.Places.{Places}
+use Rattle.lines.specs.declared.Route.{Route}
+use Rattle.lines.specs.declared.Route.the-variants.{Arrives, NoOwner, Refused}
+use Rattle.lines.specs.declared.Trace.{Trace}
+use Rattle.lines.specs.declared.Trace.the-variants.{BioInput, MsiSlot, Refused as NoTrace}
+
+-- ---- structures
+-- a LIO by its low and its high half, each by cascade and mask
+abbrev pub lio : ℕ → ℕ → ℕ → ℕ → Lio
+lio low lowmask high highmask =
+    record { present = true; low = record { cascade = low; mask = lowmask }; high = record { cascade = high; mask = highmask } }
+
+-- an EIO by its cascade and its node, a bridge by its hardware ID and its base, slots by the first and their number
+abbrev pub eio : ℕ → ℕ → Eio
+eio cascade node = record { cascade = cascade; node = node; nodes = 1 }
+
+abbrev pub bio : ℕ → ℕ → Bio
+bio node base = record { node = node; base = base }
+
+abbrev pub msi : ℕ → ℕ → Msi
+msi start count = record { start = start; count = count }
+
+abbrev pub lpc : ℕ → Lpc
+lpc cascade = record { present = true; cascade = cascade }
+
+abbrev pub absentLpc : ℕ → Lpc
+absentLpc cascade = record { present = false; cascade = cascade }
+
+-- ---- maps that differ from board A's in one kind: by a count and an array, or by what is used
+abbrev pub used : {A : Type 0} → A → List A → ℕ × List A
+used none xs = (length xs, take 4 (xs ++ replicate 4 none))
+
+abbrev pub eios : List Eio → ℕ × List Eio
+eios = used noEio
+
+abbrev pub bios : List Bio → ℕ × List Bio
+bios = used noBio
+
+abbrev pub msis : List Msi → ℕ × List Msi
+msis = used noMsi
+
+abbrev pub holding : Lio → ℕ × List Eio → ℕ × List Bio → ℕ × List Msi → Lpc → ℕ → Map
+holding lio eios bios msis lpc sci =
+    record {
+      lio = lio;
+      eiocount = eios .0;
+      eios = eios .1;
+      biocount = bios .0;
+      bios = bios .1;
+      msicount = msis .0;
+      msis = msis .1;
+      lpc = lpc;
+      sci = sci;
+    }
+
+abbrev pub lioA : Lio
+lioA = lio 2 0xFFFFFF 0 0
+
+abbrev pub eiosA : ℕ × List Eio
+eiosA = eios (eio 3 0 ∷ [])
+
+abbrev pub biosA : ℕ × List Bio
+biosA = bios (bio 0 64 ∷ [])
+
+abbrev pub msisA : ℕ × List Msi
+msisA = msis (msi 64 192 ∷ [])
+
+abbrev pub withLio : Lio → Map
+withLio other = holding other eiosA biosA msisA (lpc 19) 75
+
+abbrev pub withEios : ℕ × List Eio → Map
+withEios others = holding lioA others biosA msisA (lpc 19) 75
+
+abbrev pub withBios : ℕ × List Bio → Map
+withBios others = holding lioA eiosA others msisA (lpc 19) 75
+
+abbrev pub withMsis : ℕ × List Msi → Map
+withMsis others = holding lioA eiosA biosA others (lpc 19) 75
+
+abbrev pub withLpc : Lpc → Map
+withLpc other = holding lioA eiosA biosA msisA other 75
+
+abbrev pub withSci : ℕ → Map
+withSci = holding lioA eiosA biosA msisA (lpc 19)
+
+-- two EIO, of nodes 0 and 5
+abbrev pub onTwo : ℕ × List Bio → ℕ × List Msi → Map
+onTwo bios msis = holding lioA (eios (eio 3 0 ∷ eio 4 5 ∷ [])) bios msis (lpc 19) 75
+
+-- four of each kind that may repeat, with other counts
+abbrev pub counting : ℕ → ℕ → ℕ → Map
+counting e b m =
+    holding lioA
+    (e, eio 3 0 ∷ eio 4 1 ∷ eio 5 2 ∷ eio 6 3 ∷ [])
+    (b, bio 0 64 ∷ bio 1 128 ∷ bio 2 192 ∷ bio 3 256 ∷ [])
+    (m, msi 64 1 ∷ msi 65 1 ∷ msi 66 1 ∷ msi 67 1 ∷ [])
+    (lpc 19) 75
+
+-- ---- questions and answers
+-- places of the LIO and of the first EIO, MSI and BIO; a second one stands behind all of them, and so does a third MSI
+abbrev pub at : ℕ → ℕ → ℕ → ℕ → Places
+at lio eio msi bio =
+    record {
+      lio = lio;
+      eios = eio ∷ 294 ∷ 0 ∷ 0 ∷ [];
+      bios = bio ∷ 314 ∷ 0 ∷ 0 ∷ [];
+      msis = msi ∷ 334 ∷ 354 ∷ 0 ∷ [];
+      lpc = 279;
+    }
+
+-- where a number arrives; what arrives at a vector with a number; the first broken rule, with the MADT at 118 and the FADT at 400;
+-- the first clash by a rule
+pub data Question : Type 0 where
+  number : ℕ → Question
+  arrival : ℕ → ℕ → Question
+  rules : Places → Question
+  clash : ℕ → Places → Question
+
+pub data Told : Type 0 where
+  routed : Route → Told
+  traced : Trace → Told
+  judged : Verdict → Told
+  paired : Pair → Told
+
+unfoldable pub told : Map → Question → Told
+told map (number n) = routed (routeOf map n)
+told map (arrival vector n) = traced (traceOf map vector n)
+told map (rules places) = judged (firstBroken map places 118 400)
+told map (clash rule places) = paired (firstClash rule (claims (says map) places))
+
+pub data Example : Type 0 where
+  example : Map → Question → Told → Example
+
+abbrev pub given : Example → Told
+given (example map question answer) = told map question
+
+abbrev pub expected : Example → Told
+expected (example map question answer) = answer
+
+-- 72 and 26 are asked, and refused with 61
+abbrev pub no72 : Map → Example
+no72 map = example map (number 72) (routed (Refused badMap))
+
+abbrev pub no26 : Map → Example
+no26 map = example map (number 26) (routed (Refused badMap))
+
+-- ---- each rule broken alone
+unfoldable pub brokenAlone : List Example
+brokenAlone =
+    -- 36
+    no72 (withEios (eios (eio 1 0 ∷ [])))
+    ∷ no72 (withEios (eios (eio 10 0 ∷ [])))
+    ∷ no72 (withEios (eios (eio 3 0 ∷ eio 4 64 ∷ [])))
+    ∷ no72 (withEios (eios (record { cascade = 3; node = 0; nodes = 0 } ∷ [])))
+    ∷ no72 (withLio (lio 10 0xFFFFFF 0 0))
+    ∷ no72 (withLio (lio 0 0 1 0xFFFFFF))
+    ∷ no72 (withMsis (msis (msi 64 0 ∷ [])))
+    ∷ no72 (withMsis (msis (msi 65 192 ∷ [])))
+    ∷ no72 (withMsis (msis (msi 0xFFFFFFFF 2 ∷ [])))
+    ∷ no72 (withBios (bios (bio 0 63 ∷ [])))
+    ∷ no26 (holding lioA eiosA (bios (bio 0 65473 ∷ [])) msisA (lpc 19) 26)
+    ∷ no72 (withLpc (lpc 64))
+    -- 37
+    ∷ no72 (withLio (lio 2 255 5 128))
+    -- 38
+    ∷ example (counting 4 4 4) (number 72) (routed (Arrives 3 8))
+    ∷ no72 (counting 5 4 4)
+    ∷ no72 (counting 4 5 4)
+    ∷ no72 (counting 4 4 255)
+    -- 40
+    ∷ no72 (withLio (record { present = false; low = record { cascade = 2; mask = 1 }; high = record { cascade = 0; mask = 0 } }))
+    ∷ no26 (holding lioA (eios []) (bios []) msisA (absentLpc 0) 26)
+    -- 41 to 43
+    ∷ no72 (withEios (eios (eio 3 0 ∷ eio 4 0 ∷ [])))
+    ∷ no72 (withBios (bios (bio 0 64 ∷ bio 9 128 ∷ [])))
+    ∷ no26 (holding lioA eiosA (bios []) msisA (lpc 19) 26)
+    -- 51 to 54
+    ∷ no72 (onTwo (bios (bio 0 64 ∷ bio 5 127 ∷ [])) msisA)
+    ∷ no72 (withMsis (msis (msi 63 193 ∷ [])))
+    ∷ no72 (withEios (eios (eio 2 0 ∷ [])))
+    ∷ no72 (withSci 45)
+    ∷ example (withSci 45) (arrival 3 8) (traced (NoTrace badMap))
+    ∷ []
+
+-- ---- "its unused places … hold 0, and 61 doesn't look at them": nor does any answer
+unfoldable pub unusedPlaces : List Example
+unusedPlaces =
+    example (withLio (lio 2 0xFFFFFF 77 0)) (number 26) (routed (Arrives 2 10))
+    ∷ example (withLio (lio 2 0xFFFFFF 3 0)) (number 72) (routed (Arrives 3 8))
+    ∷ example (withEios (1, eio 3 0 ∷ eio 3 200 ∷ eio 3 0 ∷ eio 0 0 ∷ [])) (arrival 3 8) (traced (BioInput 72))
+    ∷ example (withBios (1, bio 0 64 ∷ bio 0 1 ∷ bio 0 64 ∷ bio 9 9 ∷ [])) (number 72) (routed (Arrives 3 8))
+    ∷ example (withMsis (1, msi 64 192 ∷ msi 0 0xFFFFFFFF ∷ msi 64 192 ∷ msi 0 0 ∷ [])) (arrival 3 64) (traced (MsiSlot 0 64))
+    ∷ example (withLpc (absentLpc 999)) (number 72) (routed (Arrives 3 8))
+    ∷ example (withLpc (absentLpc 19)) (number 3) (routed NoOwner)
+    ∷ example (withLpc (absentLpc 19)) (arrival 3 19) (traced (BioInput 83))
+    ∷ []
+
+-- ---- the first broken rule, and its place
+abbrev pub names : Map → Places → ℕ → ℕ → Example
+names map places n place = example map (rules places) (judged (verdicts.Refused (refused n place)))
+
+unfoldable pub firstNamed : List Example
+firstNamed =
+    example (withSci 75) (rules (at 207 230 243 262)) (judged verdicts.Sound)
+    ∷ names (counting 4 5 4) (at 207 230 243 262) 38 118
+    ∷ names (withEios (eios [])) (at 207 230 243 262) 40 118
+    ∷ names (withEios (eios (eio 3 0 ∷ eio 3 0 ∷ []))) (at 207 230 243 262) 41 294
+    ∷ names (withBios (bios (bio 9 64 ∷ []))) (at 207 230 243 262) 42 262
+    ∷ names (withBios (bios [])) (at 207 230 243 262) 43 279
+    ∷ names (withBios (bios (bio 0 64 ∷ bio 0 64 ∷ []))) (at 207 230 243 262) 51 314
+    ∷ names (onTwo (bios (bio 0 64 ∷ bio 5 127 ∷ [])) msisA) (at 207 230 243 262) 51 314
+    ∷ names (withBios (bios (bio 0 64 ∷ bio 0 128 ∷ []))) (at 207 230 243 262) 52 314
+    -- of slots and a bridge the later is named, and never the EIO
+    ∷ names (withMsis (msis (msi 63 193 ∷ []))) (at 207 230 243 262) 52 262
+    ∷ names (withMsis (msis (msi 0 64 ∷ []))) (at 207 230 262 243) 52 262
+    ∷ names (withMsis (msis (msi 0 64 ∷ []))) (at 207 299 230 249) 52 249
+    -- the first that clashes, with the earliest that it clashes with
+    ∷ names (withMsis (msis (msi 64 64 ∷ msi 100 8 ∷ msi 0 8 ∷ []))) (at 207 230 262 243) 52 334
+    ∷ names (withMsis (msis (msi 64 64 ∷ msi 128 64 ∷ msi 100 64 ∷ []))) (at 207 230 243 262) 52 354
+    ∷ names (withEios (eios (eio 2 0 ∷ []))) (at 207 230 243 262) 53 230
+    ∷ names (withEios (eios (eio 2 0 ∷ []))) (at 220 207 243 262) 53 220
+    ∷ names (withLio (lio 2 255 3 0xFF00)) (at 207 230 243 262) 53 230
+    ∷ names (withSci 45) (at 207 230 243 262) 54 400
+    ∷ []
+
+-- ---- of a clash, the structure that is named and the earliest that it clashes with
+abbrev pub pairs : Map → Places → ℕ → ℕ → ℕ → Example
+pairs map places n place partner = example map (clash n places) (paired (Two place partner))
+
+unfoldable pub partners : List Example
+partners =
+    pairs (withBios (bios (bio 0 64 ∷ bio 0 64 ∷ []))) (at 207 230 243 262) 51 314 262
+    ∷ pairs (onTwo (bios (bio 0 64 ∷ bio 5 127 ∷ [])) msisA) (at 207 230 243 262) 51 314 262
+    ∷ pairs (withBios (bios (bio 0 64 ∷ bio 0 128 ∷ []))) (at 207 230 243 262) 52 314 262
+    -- of slots and a bridge the later is named, and never the EIO
+    ∷ pairs (withMsis (msis (msi 63 193 ∷ []))) (at 207 230 243 262) 52 262 243
+    ∷ pairs (withMsis (msis (msi 0 64 ∷ []))) (at 207 230 262 243) 52 262 243
+    ∷ pairs (withMsis (msis (msi 0 64 ∷ []))) (at 207 299 230 249) 52 249 230
+    -- the first that clashes, with the earliest that it clashes with
+    ∷ pairs (withMsis (msis (msi 64 64 ∷ msi 100 8 ∷ msi 0 8 ∷ []))) (at 207 230 262 243) 52 334 262
+    ∷ pairs (withMsis (msis (msi 64 64 ∷ msi 128 64 ∷ msi 100 64 ∷ []))) (at 207 230 243 262) 52 354 243
+    ∷ pairs (withEios (eios (eio 2 0 ∷ []))) (at 207 230 243 262) 53 230 207
+    ∷ pairs (withEios (eios (eio 2 0 ∷ []))) (at 220 207 243 262) 53 220 207
+    ∷ pairs (withLio (lio 2 255 3 0xFF00)) (at 207 230 243 262) 53 230 207
+    ∷ []
+
+-- asked in turn, the definitions give the answers
+abbrev pub MapExamples : List Example → Type 0
+MapExamples examples = map given examples ≡ map expected examples

@@ -1,0 +1,148 @@
+-- Every result that the contract of a public call allows is an answer, or a refusal of the table that leaves what was lent.
+use Prim.Native.Nat.{ℕ, zero, suc, _^_, _<_, _≤_}
+use native.Mathlib.Omega.{arith}
+use mathlib.Core.Path.{_≡_, refl, sym, _∙_, ap}
+use mathlib.Core.Logic.{inl, inr, ⊎-elim}
+use mathlib.Core.List.{List}
+use mathlib.Core.Bool.{true, false, true≢false}
+use borrow.Author.Tests.{leb-false}
+use lib.ListN.{length}
+use Rattle.words.specs.Refusals.{refused}
+use Rattle.words.specs.declared.Refusal.{Refusal}
+use Rattle.words.specs.declared.Verdict.the-variants as verdicts
+use Rattle.words.proofs.Choices.{no-if, if-cases}
+use Rattle.tables.specs.Survey.{survey}
+use Rattle.tables.specs.declared.Survey.{Survey}
+use Rattle.tables.specs.declared.Survey.the-variants as surveys
+use Rattle.lines.specs.Answers.{refusalCode, routeCode, traceCode}
+use Rattle.lines.specs.declared.Route.{Route}
+use Rattle.lines.specs.declared.Route.the-variants as routes
+use Rattle.lines.specs.declared.Trace.{Trace}
+use Rattle.lines.specs.declared.Trace.the-variants as traces
+use Rattle.processors.specs.Listing.{hasRoom, filled}
+use Rattle.map_promises.specs.Statements.{RouteFits, TraceFits}
+use Rattle.map_promises.proofs.AnswersFit.{answers-fit}
+use Rattle.reading.specs.Scan.{emptyMap, turnedDown, afterWalk, afterSurvey, scan}
+use Rattle.reading.specs.Reading.{withoutMap, madtFound, readingOf}
+use Rattle.reading.specs.declared.Answer.the-variants as answers
+use Rattle.reading.specs.declared.Reading.{Reading}
+use Rattle.reading.specs.declared.Scan.{Scan}
+use Rattle.reading.proofs.AcceptedKeepsRules.{accepted-keeps-rules}
+use Rattle.reading.proofs.Laws.{judged-refused, reading-refused, reading-sound, answered-60}
+use Rattle.reading.proofs.Scanned.{verdict-left}
+use Rattle.text.specs.Text.{outcome}
+use Rattle.text.specs.declared.Written.{Written}
+use Rattle.text.specs.declared.Written.the-variants.{Whole, NoRoom}
+use Rattle.promises.specs.RefusalTable.{isRefusalNumber, OfTheTable}
+use Rattle.promises.specs.EveryResult.{RefusalTo, ScanRefuses, ReadRefuses, CReadRefuses, CRouteRefuses, CTraceRefuses, NoRoomLeaves, MapRouteRefuses, MapTraceRefuses}
+use Rattle.promises.proofs.EveryRefusal.{of-scan, to-54, reading-refusals, refused-leaves-list, route-refusals, trace-refusals, map-refusals}
+use Rattle.promises.proofs.ReadForC.{c-reading}
+use Rattle.promises.proofs.Told.{tell-none}
+use Rattle.promises.proofs.WhyRefused.{why-refused}
+
+-- ---- no map beside a refusal
+of-scan-no-map : (capture : List ℕ) (r : Refusal) → scan capture .verdict ≡ verdicts.Refused r → scan capture .map ≡ emptyMap
+unfolding scan afterSurvey afterWalk turnedDown
+of-scan-no-map capture r = go (survey capture)
+  where
+    go : (s : Survey) → afterSurvey capture s .verdict ≡ verdicts.Refused r → afterSurvey capture s .map ≡ emptyMap
+    go (surveys.Refused q) h = refl
+    go (surveys.Found t) h = ap (λ (s : Scan). s .map) (judged-refused t _ _ (sym (verdict-left t _ _) ∙ h))
+
+of-read-no-map : (capture list : List ℕ) (r : Refusal) → readingOf capture list .answer ≡ answers.Refused r → readingOf capture list .map ≡ emptyMap
+unfolding withoutMap madtFound
+of-read-no-map capture list r h =
+    ⊎-elim
+    (λ w. ap (λ (q : Reading). q .map) (reading-refused capture list w))
+    (λ w. ap (λ (q : Reading). q .map) (reading-sound capture list (w .0) ∙ answered-60 _ _ list (w .2)))
+    (why-refused capture list r h)
+
+-- ---- a refusal's number is 2^48 or more
+above-0 : (n : ℕ) → isRefusalNumber n ≡ true → 0 < n
+above-0 zero h = absurd (true≢false (sym h))
+above-0 (suc n) h = omega arith
+
+coded : (last : ℕ) (capture : List ℕ) (result : ℕ) (r : Refusal) → result ≡ refusalCode r → OfTheTable capture r → r .number ≤ last
+    → RefusalTo last capture result
+coded last capture result r e o below = (omega (arith, e, above-0 (r .number) (o .number)), (r, e, o, below))
+
+-- ---- an answer's is not
+route-below : (t : Route) → RouteFits t → ((r : Refusal) → t ≡ routes.Refused r → ⊥) → routeCode t < 2 ^ 48
+unfolding routeCode
+route-below (routes.Arrives vector number) fits never = omega (arith, fits .0, fits .1)
+route-below routes.Unwired fits never = omega arith
+route-below routes.NoOwner fits never = omega arith
+route-below (routes.Refused r) fits never = absurd (never r refl)
+
+trace-below : (t : Trace) → TraceFits t → ((r : Refusal) → t ≡ traces.Refused r → ⊥) → traceCode t < 2 ^ 48
+unfolding traceCode
+trace-below traces.Nothing fits never = omega arith
+trace-below (traces.LioInput n) fits never = omega (arith, fits)
+trace-below (traces.BioInput n) fits never = omega (arith, fits)
+trace-below (traces.LpcCascade n) fits never = omega (arith, fits)
+trace-below (traces.MsiSlot node slot) fits never = omega (arith, fits .0, fits .1)
+trace-below (traces.Refused r) fits never = absurd (never r refl)
+
+-- ---- a room that is too short
+whole-not : {n : ℕ} {X : Type 0} → _≡_ {A = Written} (Whole n) NoRoom → X
+whole-not e = absurd (let o : _≡_ {A = ℕ} 0 1 = cc in omega arith)
+
+short-room : (text room : List ℕ) → outcome text room ≡ NoRoom → hasRoom text room ≡ false
+unfolding outcome
+short-room text room =
+    if-cases (λ (w : Written). w ≡ NoRoom → hasRoom text room ≡ false) _ _ _ (λ fits e. whole-not e) (λ short e. short)
+
+stays : (text room : List ℕ) → hasRoom text room ≡ false → filled text room ≡ room
+unfolding filled
+stays text room h = no-if _ _ _ h refl
+
+shorter : (text room : List ℕ) → hasRoom text room ≡ false → length room < length text
+unfolding hasRoom
+shorter text room h = leb-false (length text) (length room) h
+
+-- THE PROMISES
+pub scan-refuses : ScanRefuses
+scan-refuses κs a q x p r h =
+    let e = sym (ap (λ (s : Scan). s .verdict) p) ∙ h in
+    (of-scan _ r e, to-54 _ r e, ap (λ (s : Scan). s .map) p ∙ of-scan-no-map _ r e)
+
+pub read-refuses : ReadRefuses
+read-refuses κs a q x p r h =
+    let e = sym (ap (λ (s : Reading). s .answer) (p .0)) ∙ h in
+    (reading-refusals _ _ r e, ap (λ (s : Reading). s .map) (p .0) ∙ of-read-no-map _ _ r e, p .1 ∙ refused-leaves-list _ _ r e)
+
+pub c-read-refuses : CReadRefuses
+c-read-refuses κs a q x p =
+    ⊎-elim
+    (λ w. inl (coded 60 _ q (w .refusal) (p .0 ∙ w .result) (w .ofthetable) (omega (arith, to-54 _ (w .refusal) (w .broken))), p .1 ∙ w .kept))
+    (⊎-elim
+    (λ w. inl (coded 60 _ q (refused 60 0) (p .0 ∙ w .result) (tell-none _ 60 refl refl) (omega arith), p .1 ∙ w .kept))
+    (λ w. inr (omega (arith, p .0 ∙ w .result, w .most))))
+    (c-reading _ _)
+
+pub c-route-refuses : CRouteRefuses
+c-route-refuses κs a q x p =
+    ⊎-elim (λ w. inl (coded 54 _ q (w .0) (p ∙ w .2) (w .3) (to-54 _ (w .0) (w .1))))
+    (λ w.
+    let small = route-below _ (answers-fit _ (accepted-keeps-rules _ (w .0)) .0 _) (w .2) in
+    inr (omega (arith, p ∙ w .1, small), (_, p ∙ w .1, w .2)))
+    (route-refusals _ _)
+
+pub c-trace-refuses : CTraceRefuses
+c-trace-refuses κs a q x p =
+    ⊎-elim (λ w. inl (coded 54 _ q (w .0) (p ∙ w .2) (w .3) (to-54 _ (w .0) (w .1))))
+    (λ w.
+    let small = trace-below _ (answers-fit _ (accepted-keeps-rules _ (w .0)) .1 _ _) (w .2) in
+    inr (omega (arith, p ∙ w .1, small), (_, p ∙ w .1, w .2)))
+    (trace-refusals _ _ _)
+
+pub no-room-leaves : NoRoomLeaves
+no-room-leaves κs a q x p h =
+    let short = short-room _ _ (sym (p .0) ∙ h) in
+    (p .1 .0 ∙ stays _ _ short, omega (arith, shorter _ _ short, p .1 .1))
+
+pub map-route-refuses : MapRouteRefuses
+map-route-refuses κs a q x p r h = map-refusals _ .0 _ r (sym p ∙ h)
+
+pub map-trace-refuses : MapTraceRefuses
+map-trace-refuses κs a q x p r h = map-refusals _ .1 _ _ r (sym p ∙ h)

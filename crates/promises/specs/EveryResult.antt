@@ -1,0 +1,101 @@
+-- The mission's first demand, of every result that the contract of a public call allows: each call "either answers or refuses
+-- with a number and a place from our table", and "A refusal returns its number and place, no map, and every lent list or room
+-- untouched" (document 01). It is said of the contracts that the code is proved to meet, as one answer is (OneAnswer).
+use Prim.Native.Nat.{ℕ, _^_, _≤_, _<_}
+use mathlib.Core.List.{List}
+use mathlib.Core.Logic.{_⊎_}
+use mathlib.Core.Path.{_≡_}
+use lib.ListN.{length}
+use contract.Lifetimes.{Lfts}
+use denote.Ref.{now}
+use denote.Triple.Clauses.{AtExit}
+use borrow.Fn.Kinds.{PK, RK, Out, Dens, resT, endedOf}
+use Rattle.words.specs.Refusals.{refused}
+use Rattle.words.specs.declared.Refusal.{Refusal}
+use Rattle.words.specs.declared.Verdict.the-variants as verdicts
+use Rattle.lines.specs.Answers.{refusalCode, routeCode, traceCode}
+use Rattle.lines.specs.declared.Route.{Route}
+use Rattle.lines.specs.declared.Route.the-variants as routes
+use Rattle.lines.specs.declared.Trace.{Trace}
+use Rattle.lines.specs.declared.Trace.the-variants as traces
+use Rattle.lines.proofs.Map.route.Kinds as route
+use Rattle.lines.proofs.Map.route.Reads as route-reads
+use Rattle.lines.proofs.Map.trace.Kinds as trace
+use Rattle.lines.proofs.Map.trace.Reads as trace-reads
+use Rattle.reading.specs.Scan.{emptyMap}
+use Rattle.reading.specs.declared.Answer.the-variants as answers
+use Rattle.reading.proofs.scan_capture.Kinds as scan-capture
+use Rattle.reading.proofs.scan_capture.Reads as scan-capture-reads
+use Rattle.reading.proofs.read.Kinds as read
+use Rattle.reading.proofs.read.Reads as read-reads
+use Rattle.reading.proofs.entries.yasmirand_read.Kinds as c-read
+use Rattle.reading.proofs.entries.yasmirand_read.Reads as c-read-reads
+use Rattle.reading.proofs.entries.yasmirand_route.Kinds as c-route
+use Rattle.reading.proofs.entries.yasmirand_route.Reads as c-route-reads
+use Rattle.reading.proofs.entries.yasmirand_trace.Kinds as c-trace
+use Rattle.reading.proofs.entries.yasmirand_trace.Reads as c-trace-reads
+use Rattle.text.specs.declared.Written.the-variants as writings
+use Rattle.text.proofs.write_text.Kinds as write-text
+use Rattle.text.proofs.write_text.Reads as write-text-reads
+use Rattle.promises.specs.RefusalTable.{OfTheTable}
+
+-- whatever is handed in, every result that a contract allows is as claimed. Below, a .0 and a .1 .0 are the first two
+-- parameters, and x .1 .0 is the second at the call's exit.
+abbrev pub Always : {n : ℕ} (ps : List (PK n)) (r : RK n) → Out n ps r → Out n ps r → Type 0
+Always {n} ps r Allowed Claimed =
+    (κs : Lfts n) (a : Dens κs ps) (result : resT r κs .Denot) (x : AtExit (endedOf n ps r) κs)
+    → Allowed κs a result x → Claimed κs a result x
+
+-- ---- over a capture. Where no list is lent, 60 is not given
+abbrev pub ScanRefuses : Type 0
+ScanRefuses =
+    Always scan-capture.ps scan-capture.r scan-capture-reads.Post
+    (λ κs a result x. (r : Refusal) → result .verdict ≡ verdicts.Refused r
+    → OfTheTable (now (a .0)) r × (r .number ≤ 54) × (result .map ≡ emptyMap))
+
+abbrev pub ReadRefuses : Type 0
+ReadRefuses =
+    Always read.ps read.r read-reads.Post
+    (λ κs a result x. (r : Refusal) → result .answer ≡ answers.Refused r
+    → OfTheTable (now (a .0)) r × (result .map ≡ emptyMap) × (now (x .1 .0) ≡ now (a .1 .0)))
+
+-- a refusal as a number, up to one of the table: 2^48 or more
+abbrev pub RefusalTo : ℕ → List ℕ → ℕ → Type 0
+RefusalTo last capture result =
+    (2 ^ 48 ≤ result) × ((r : Refusal) × (result ≡ refusalCode r) × OfTheTable capture r × (r .number ≤ last))
+
+-- "its 64-bit result is the count, or refusal number × 2^48 + place"; there are at most 256 processors
+abbrev pub CReadRefuses : Type 0
+CReadRefuses =
+    Always c-read.ps c-read.r c-read-reads.Post
+    (λ κs a result x. (RefusalTo 60 (now (a .0)) result × (now (x .1 .0) ≡ now (a .1 .0))) ⊎ (result ≤ 256))
+
+-- a refusal, or below 2^48 the code of an answer that is none
+abbrev pub CRouteRefuses : Type 0
+CRouteRefuses =
+    Always c-route.ps c-route.r c-route-reads.Post
+    (λ κs a result x. RefusalTo 54 (now (a .0)) result
+    ⊎ ((result < 2 ^ 48) × ((t : Route) × (result ≡ routeCode t) × ((r : Refusal) → t ≡ routes.Refused r → ⊥))))
+
+abbrev pub CTraceRefuses : Type 0
+CTraceRefuses =
+    Always c-trace.ps c-trace.r c-trace-reads.Post
+    (λ κs a result x. RefusalTo 54 (now (a .0)) result
+    ⊎ ((result < 2 ^ 48) × ((t : Trace) × (result ≡ traceCode t) × ((r : Refusal) → t ≡ traces.Refused r → ⊥))))
+
+-- a room that is too short for the text stays as it was, and one of 16,384 bytes never is too short
+abbrev pub NoRoomLeaves : Type 0
+NoRoomLeaves =
+    Always write-text.ps write-text.r write-text-reads.Post
+    (λ κs a result x. result ≡ writings.NoRoom → (now (x .1 .0) ≡ now (a .1 .0)) × (length (now (a .1 .0)) < 16384))
+
+-- ---- "any map may be asked about": 61 at place 0, and no other refusal
+abbrev pub MapRouteRefuses : Type 0
+MapRouteRefuses =
+    Always route.ps route.r route-reads.Post
+    (λ κs a result x. (r : Refusal) → result ≡ routes.Refused r → r ≡ refused 61 0)
+
+abbrev pub MapTraceRefuses : Type 0
+MapTraceRefuses =
+    Always trace.ps trace.r trace-reads.Post
+    (λ κs a result x. (r : Refusal) → result ≡ traces.Refused r → r ≡ refused 61 0)
