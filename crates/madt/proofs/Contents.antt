@@ -155,11 +155,10 @@ module _ (base sci : ℕ) (all : List Whole) (x : Whole) where
   same-map : isType 18 (x .bytes) ≡ false → isType 20 (x .bytes) ≡ false → isType 21 (x .bytes) ≡ false → isType 22 (x .bytes) ≡ false
       → isType 23 (x .bytes) ≡ false → (m ≡ mapOf sci (all ++ (x ∷ []))) × (p ≡ placesOf base (all ++ (x ∷ [])))
   unfolding mapOf placesOf
-  same-map t18 t20 t21 t22 t23 =
-      (
-        rw (made-same 18 all x t18 (λ s. saidLio (lioOf s)), made-same 20 all x t20 eioOf, count-same 20 all x t20, made-same 21 all x t21 msiOf, count-same 21 all x t21, made-same 22 all x t22 bioOf, count-same 22 all x t22, made-same 23 all x t23 lpcOf),
-        rw (standing-same 18 all x t18 base, standing-same 20 all x t20 base, standing-same 21 all x t21 base, standing-same 22 all x t22 base, standing-same 23 all x t23 base),
-      )
+  same-map t18 t20 t21 t22 t23 = (
+    rw (made-same 18 all x t18 (λ s. saidLio (lioOf s)), made-same 20 all x t20 eioOf, count-same 20 all x t20, made-same 21 all x t21 msiOf, count-same 21 all x t21, made-same 22 all x t22 bioOf, count-same 22 all x t22, made-same 23 all x t23 lpcOf),
+    rw (standing-same 18 all x t18 base, standing-same 20 all x t20 base, standing-same 21 all x t21 base, standing-same 22 all x t22 base, standing-same 23 all x t23 base),
+  )
 
   same-enabled : isType 17 (x .bytes) ≡ false → enabledIn all ≡ enabledIn (all ++ (x ∷ []))
   unfolding enabledIn
@@ -168,8 +167,11 @@ module _ (base sci : ℕ) (all : List Whole) (x : Whole) where
   more-enabled : isType 17 (x .bytes) ≡ true → isEnabled (coreOf (x .bytes)) ≡ true → enabledIn all + 1 ≡ enabledIn (all ++ (x ∷ []))
   unfolding enabledIn
   more-enabled t h =
-      rw (made-more 17 all x t coreOf, those-more isEnabled (made 17 coreOf all) (coreOf (x .bytes)) h,
-      length-append (those isEnabled (made 17 coreOf all)) (coreOf (x .bytes) ∷ []))
+      rw (
+        made-more 17 all x t coreOf,
+        those-more isEnabled (made 17 coreOf all) (coreOf (x .bytes)) h,
+        length-append (those isEnabled (made 17 coreOf all)) (coreOf (x .bytes) ∷ []),
+      )
 
   more-disabled : isType 17 (x .bytes) ≡ true → isEnabled (coreOf (x .bytes)) ≡ false → enabledIn all ≡ enabledIn (all ++ (x ∷ []))
   unfolding enabledIn
@@ -213,8 +215,7 @@ module _ (base sci : ℕ) (all : List Whole) (x : Whole) where
       let t21 = type-no 21 (x .bytes) (λ e. omega arith) in
       let t22 = type-no 22 (x .bytes) (λ e. omega arith) in
       let t23 = type-no 23 (x .bytes) (λ e. omega arith) in
-      let t17 = type-no 17 (x .bytes) (λ e. omega arith) in
-      (
+      let t17 = type-no 17 (x .bytes) (λ e. omega arith) in (
         rw (one-made 18 base all x here noLio (λ s. saidLio (lioOf s)) free, made-same 20 all x t20 eioOf, count-same 20 all x t20, made-same 21 all x t21 msiOf, count-same 21 all x t21, made-same 22 all x t22 bioOf, count-same 22 all x t22, made-same 23 all x t23 lpcOf),
         rw (one-standing 18 base all x here free, standing-same 20 all x t20 base, standing-same 21 all x t21 base, standing-same 22 all x t22 base, standing-same 23 all x t23 base),
         same-enabled t17,
@@ -232,8 +233,7 @@ module _ (base sci : ℕ) (all : List Whole) (x : Whole) where
       let t21 = type-no 21 (x .bytes) (λ e. omega arith) in
       let t22 = type-no 22 (x .bytes) (λ e. omega arith) in
       let t23 = type-no 23 (x .bytes) (λ e. omega arith) in
-      let t17 = type-no 17 (x .bytes) (λ e. omega arith) in
-      (
+      let t17 = type-no 17 (x .bytes) (λ e. omega arith) in (
         rw (made-same 18 all x t18 (λ s. saidLio (lioOf s)), four-made 20 base all x here noEio eioOf free, count-more 20 all x here, made-same 21 all x t21 msiOf, count-same 21 all x t21, made-same 22 all x t22 bioOf, count-same 22 all x t22, made-same 23 all x t23 lpcOf),
         rw (standing-same 18 all x t18 base, four-standing 20 base all x here free, standing-same 21 all x t21 base, standing-same 22 all x t22 base, standing-same 23 all x t23 base),
         same-enabled t17,
@@ -251,8 +251,7 @@ module _ (base sci : ℕ) (all : List Whole) (x : Whole) where
       let t20 = type-no 20 (x .bytes) (λ e. omega arith) in
       let t22 = type-no 22 (x .bytes) (λ e. omega arith) in
       let t23 = type-no 23 (x .bytes) (λ e. omega arith) in
-      let t17 = type-no 17 (x .bytes) (λ e. omega arith) in
-      (
+      let t17 = type-no 17 (x .bytes) (λ e. omega arith) in (
         rw (made-same 18 all x t18 (λ s. saidLio (lioOf s)), made-same 20 all x t20 eioOf, count-same 20 all x t20, four-made 21 base all x here noMsi msiOf free, count-more 21 all x here, made-same 22 all x t22 bioOf, count-same 22 all x t22, made-same 23 all x t23 lpcOf),
         rw (standing-same 18 all x t18 base, standing-same 20 all x t20 base, four-standing 21 base all x here free, standing-same 22 all x t22 base, standing-same 23 all x t23 base),
         same-enabled t17,
@@ -270,8 +269,7 @@ module _ (base sci : ℕ) (all : List Whole) (x : Whole) where
       let t20 = type-no 20 (x .bytes) (λ e. omega arith) in
       let t21 = type-no 21 (x .bytes) (λ e. omega arith) in
       let t23 = type-no 23 (x .bytes) (λ e. omega arith) in
-      let t17 = type-no 17 (x .bytes) (λ e. omega arith) in
-      (
+      let t17 = type-no 17 (x .bytes) (λ e. omega arith) in (
         rw (made-same 18 all x t18 (λ s. saidLio (lioOf s)), made-same 20 all x t20 eioOf, count-same 20 all x t20, made-same 21 all x t21 msiOf, count-same 21 all x t21, four-made 22 base all x here noBio bioOf free, count-more 22 all x here, made-same 23 all x t23 lpcOf),
         rw (standing-same 18 all x t18 base, standing-same 20 all x t20 base, standing-same 21 all x t21 base, four-standing 22 base all x here free, standing-same 23 all x t23 base),
         same-enabled t17,
@@ -289,8 +287,7 @@ module _ (base sci : ℕ) (all : List Whole) (x : Whole) where
       let t20 = type-no 20 (x .bytes) (λ e. omega arith) in
       let t21 = type-no 21 (x .bytes) (λ e. omega arith) in
       let t22 = type-no 22 (x .bytes) (λ e. omega arith) in
-      let t17 = type-no 17 (x .bytes) (λ e. omega arith) in
-      (
+      let t17 = type-no 17 (x .bytes) (λ e. omega arith) in (
         rw (made-same 18 all x t18 (λ s. saidLio (lioOf s)), made-same 20 all x t20 eioOf, count-same 20 all x t20, made-same 21 all x t21 msiOf, count-same 21 all x t21, made-same 22 all x t22 bioOf, count-same 22 all x t22, one-made 23 base all x here noLpc lpcOf free),
         rw (standing-same 18 all x t18 base, standing-same 20 all x t20 base, standing-same 21 all x t21 base, standing-same 22 all x t22 base, one-standing 23 base all x here free),
         same-enabled t17,

@@ -60,5 +60,3 @@ module _ {A : Type 0} (s : List ℕ) (core lio ht eio msi bio lpc other : A) whe
       (no-if _ _ _ (type-no _ _ e) (no-if _ _ _ (type-no _ _ f) (no-if _ _ _ (type-no _ _ g) refl))))))
 
 -- ---- a type that is passed over
-
-

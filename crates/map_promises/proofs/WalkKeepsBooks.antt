@@ -302,9 +302,18 @@ module _ {until : ℕ} {all : List Whole} (g : Good until all) (sci : ℕ) where
   ranges : rangesKept (says (mapOf sci all)) ≡ true
   unfolding rangesKept eiosFit biosFit msisFit brokenField
   ranges =
-      rw (the-lio .normal, the-lio .fits, said-eios g sci, fit-all 20 eioOf noEio eioField (λ s t. of-eio s _ _ _ _ _ _ _ _ t),
-      said-bios g sci, fit-all 22 bioOf noBio bioField (λ s t. of-bio s _ _ _ _ _ _ _ _ t),
-      said-msis g sci, fit-all 21 msiOf noMsi msiField (λ s t. of-msi s _ _ _ _ _ _ _ _ t), the-lpc .1, the-lpc .0)
+      rw (
+        the-lio .normal,
+        the-lio .fits,
+        said-eios g sci,
+        fit-all 20 eioOf noEio eioField (λ s t. of-eio s _ _ _ _ _ _ _ _ t),
+        said-bios g sci,
+        fit-all 22 bioOf noBio bioField (λ s t. of-bio s _ _ _ _ _ _ _ _ t),
+        said-msis g sci,
+        fit-all 21 msiOf noMsi msiField (λ s t. of-msi s _ _ _ _ _ _ _ _ t),
+        the-lpc .1,
+        the-lpc .0,
+      )
 
   few : tooMany (mapOf sci all) ≡ false
   unfolding mapOf

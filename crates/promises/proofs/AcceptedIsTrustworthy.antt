@@ -4,18 +4,19 @@
 use Prim.Native.Nat.{ℕ}
 use native.Mathlib.Omega.{arith}
 use mathlib.Core.Path.{_≡_, refl, _∙_}
-use mathlib.Core.List.{List}
+use mathlib.Core.List.{List, _∷_}
 use mathlib.Core.Bool.{true, false, not, _&&_, true≢false}
-use Rattle.words.specs.Refusals.{unless}
+use Rattle.words.specs.Refusals.{rule, unless, isSound}
 use Rattle.words.specs.declared.Refusal.{Refusal}
 use Rattle.words.proofs.Choices.{yes-if, if-cases}
+use Rattle.words.proofs.Verdicts.{is-sound, rule-kept, each-sound}
 use Rattle.words.specs.declared.Verdict.{Verdict}
 use Rattle.words.specs.declared.Verdict.the-variants as verdicts
 use Rattle.kinds.specs.Ranges.{bitInBoth}
 use Rattle.clashes.proofs.Logic.{and-right}
 use Rattle.lines.specs.Says.{says}
 use Rattle.lines.specs.Routes.{arrival}
-use Rattle.lines.specs.Rules.{rangesKept, tooMany, check, lost, lowest, verdictsFrom40, firstBroken, isKept, keepsRules, slotPlaces}
+use Rattle.lines.specs.Rules.{rangesKept, tooMany, lost, rulesTo43, rulesFrom51, mapRules, firstBroken, keepsRules, slotPlaces}
 use Rattle.lines.specs.Answers.{routeOf}
 use Rattle.lines.specs.declared.Route.{Route}
 use Rattle.lines.specs.declared.Route.the-variants.{Arrives, Unwired, NoOwner, Refused as NoRoute}
@@ -26,7 +27,6 @@ use Rattle.map_promises.proofs.RefusedExactly.{refused-exactly}
 use Rattle.map_promises.proofs.Routing.{route-is-sources, unwired-exactly, no-owner-exactly}
 use Rattle.map_promises.proofs.Tracing.{tracing-names, nothing-exactly}
 use Rattle.map_promises.proofs.ThereAndBack.{lpc-lines-share, there-and-back}
-use Rattle.map_promises.proofs.Verdicts.{check-kept, both-of-kept, each-kept, kept-yes}
 use Rattle.reading.specs.Scan.{scan}
 use Rattle.reading.specs.Reading.{withoutMap, answered, madtFound, readingOf}
 use Rattle.reading.specs.declared.Answer.{Answer}
@@ -44,14 +44,14 @@ not-lost NoOwner h = absurd (true≢false h)
 not-lost (NoRoute r) h = absurd (true≢false h)
 
 sci-arrives : (map : Map) → keepsRules map ≡ true → (vector : ℕ) × (number : ℕ) × (routeOf map (map .sci) ≡ Arrives vector number)
-unfolding keepsRules firstBroken verdictsFrom40 routeOf
+unfolding keepsRules firstBroken mapRules rulesTo43 rulesFrom51 routeOf
 sci-arrives map k =
     let said = says map in
     let lower = rangesKept said && not (bitInBoth (said .lio)) in
-    let first = kept-yes (firstBroken map slotPlaces 0 0) (and-right lower (isKept (firstBroken map slotPlaces 0 0)) k) in
-    let rules = verdictsFrom40 said slotPlaces 0 0 in
-    let r54 = each-kept rules (both-of-kept (check 38 (tooMany map) 0) (lowest rules) first .1) 7 in
-    let w = not-lost (arrival said (said .sci)) (check-kept 54 (lost (arrival said (said .sci))) 0 r54) in
+    let first = is-sound (firstBroken map slotPlaces 0 0) (and-right lower (isSound (firstBroken map slotPlaces 0 0)) k) in
+    let lostSci = lost (arrival said (said .sci)) in
+    let r54 = each-sound (rule (tooMany map) 38 0 ∷ mapRules said slotPlaces 0 0) first 8 in
+    let w = not-lost (arrival said (said .sci)) (rule-kept lostSci 54 0 r54) in
     (w .0, w .1, yes-if _ _ _ k ∙ w .2)
 
 trustworthy : (map : Map) → keepsRules map ≡ true → Normal map → Trustworthy map

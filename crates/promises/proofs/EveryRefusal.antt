@@ -24,35 +24,30 @@ use Rattle.lines.specs.declared.Route.{Route}
 use Rattle.lines.specs.declared.Route.the-variants as routes
 use Rattle.lines.specs.declared.Trace.{Trace}
 use Rattle.lines.specs.declared.Trace.the-variants as traces
-use Rattle.lines.specs.declared.Verdict.{Verdict as Rules}
-use Rattle.lines.specs.declared.Verdict.the-variants as rules
+use Rattle.madt.specs.Walk.{walkRules}
+use Rattle.madt.proofs.Accepted.{walk-verdict}
 use Rattle.processors.specs.Listing.{filled, count}
 use Rattle.processors.specs.Repeats.{firstRepeat}
 use Rattle.processors.specs.declared.Repeat.{Repeat}
 use Rattle.processors.specs.declared.Repeat.the-variants.{At, Nowhere}
 use Rattle.processors.proofs.Inside.{repeat-inside}
 use Rattle.map_promises.proofs.RefusedExactly.{refused-exactly}
-use Rattle.map_promises.proofs.WalkKeepsBooks.{walked-keeps}
-use Rattle.reading.specs.Scan.{madtBytes, walkOf, turnedDown, repeatRule, processorRule, mapRule, rulesAfterWalk, madtRules, scan}
+use Rattle.map_promises.proofs.WalkKeepsBooks.{walk-stands}
+use Rattle.reading.specs.Scan.{madtBytes, walkOf, turnedDown, repeatRule, processorRule, scan}
 use Rattle.reading.specs.Reading.{listAfter}
 use Rattle.reading.specs.Entries.{routeResult, traceResult}
 use Rattle.reading.specs.declared.Answer.the-variants.{Refused}
-use Rattle.reading.proofs.Laws.{bytes-small, scan-refused}
+use Rattle.reading.proofs.Laws.{bytes-small, laterRules, scan-refused}
 use Rattle.promises.specs.RefusalTable.{OfTheTable, ReadingRefusals, RefusedLeavesList, RouteRefusals, TraceRefusals, MapRefusals}
 use Rattle.promises.proofs.AcceptedIsTrustworthy.{accepted-is-trustworthy}
-use Rattle.promises.proofs.MapRefusals.{RuleTold, broken-told}
+use Rattle.promises.proofs.MapRefusals.{map-told}
 use Rattle.reading.proofs.Scanned.{found-verdict}
 use Rattle.promises.proofs.TableRefusals.{SurveyTold, survey-told}
-use Rattle.promises.proofs.Told.{Told, widen, Inside, tell, tell-none, none-told, more-told}
+use Rattle.promises.proofs.Told.{Told, widen, Inside, tell, tell-none, more-told, joined-told}
 use Rattle.promises.proofs.WhyRefused.{why-refused}
 use Rattle.promises.proofs.WalkRefusals.{walked-told}
 
 -- ---- 31 to 54
-map-rule-told : (capture : List ℕ) (v : Rules) → RuleTold capture v → Told 54 capture (mapRule v)
-unfolding mapRule
-map-rule-told capture rules.Kept told = told
-map-rule-told capture (rules.Broken r partner) told = told
-
 module _ (capture : List ℕ) (t : Tables) (inside : TablesInside capture t) where
   abbrev table : List ℕ
   table = madtBytes capture (t .madt)
@@ -82,21 +77,17 @@ module _ (capture : List ℕ) (t : Tables) (inside : TablesInside capture t) (at
   unfolding processorRule
   processors-told = if-cases (Told 54 capture) _ _ _ (λ z. tell capture 40 (t .madt .place) (refl, refl, omega arith) (at .0)) (λ z. omega arith)
 
-  rules-told : walkOf capture t .verdict ≡ verdicts.Sound → Told 54 capture (firstRefusal (rulesAfterWalk (madtBytes capture (t .madt)) t (walkOf capture t .found)))
-  unfolding rulesAfterWalk
+  rules-told : walkOf capture t .verdict ≡ verdicts.Sound → Told 54 capture (firstRefusal (laterRules capture t))
   rules-told sound =
       more-told 54 capture _ _ (repeat-told (firstRepeat (madtBytes capture (t .madt))) refl)
       (λ z. more-told 54 capture _ _ processors-told
-      (λ z. more-told 54 capture _ _
-      (map-rule-told capture _
-      (broken-told capture
-      (walked-keeps (madtBytes capture (t .madt)) (t .madt .place) (t .sci) (t .madt .length) (inside .madt .long) (small capture t inside) sound)
+      (λ z. map-told capture
+      (walk-stands (madtBytes capture (t .madt)) (t .madt .place) (t .sci) (t .madt .length) (inside .madt .long) (small capture t inside) sound)
       (inside .madt .inside) (t .madt .place) (t .fadt .place) (at .0) (at .1)))
-      (λ z. none-told 54 capture)))
 
 -- ---- 1 to 54
 scan-told : (capture : List ℕ) → Told 54 capture (scan capture .verdict)
-unfolding madtRules turnedDown
+unfolding turnedDown
 scan-told capture = go (survey capture) refl (survey-told capture)
   where
     go : (s : Survey) → survey capture ≡ s → SurveyTold capture s → Told 54 capture (scan capture .verdict)
@@ -104,9 +95,10 @@ scan-told capture = go (survey capture) refl (survey-told capture)
     go (surveys.Found t) e told =
         let i = tables-inside capture t e in
         rw (found-verdict capture e)
-        (more-told 54 capture _ _
-        (widen 38 54 capture (walkOf capture t .verdict) (omega arith) (walk-of-told capture t i))
-        (rules-told capture t i told))
+        (joined-told 54 capture (walkRules (madtBytes capture (t .madt)) (t .madt .place)) (laterRules capture t)
+        (rw (sym (walk-verdict (madtBytes capture (t .madt)) (t .madt .place) (t .sci)))
+        (widen 38 54 capture (walkOf capture t .verdict) (omega arith) (walk-of-told capture t i)))
+        (λ sound. rules-told capture t i told (walk-verdict _ _ _ ∙ sound)))
 
 pub of-scan : (capture : List ℕ) (r : Refusal) → scan capture .verdict ≡ verdicts.Refused r → OfTheTable capture r
 of-scan capture r e = (rw e at (scan-told capture)) .0

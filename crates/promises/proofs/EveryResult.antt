@@ -11,9 +11,7 @@ use Rattle.words.specs.Refusals.{refused}
 use Rattle.words.specs.declared.Refusal.{Refusal}
 use Rattle.words.specs.declared.Verdict.the-variants as verdicts
 use Rattle.words.proofs.Choices.{no-if, if-cases}
-use Rattle.tables.specs.Survey.{survey}
-use Rattle.tables.specs.declared.Survey.{Survey}
-use Rattle.tables.specs.declared.Survey.the-variants as surveys
+use Rattle.words.proofs.Verdicts.{unless-refused, unless-sound}
 use Rattle.lines.specs.Answers.{refusalCode, routeCode, traceCode}
 use Rattle.lines.specs.declared.Route.{Route}
 use Rattle.lines.specs.declared.Route.the-variants as routes
@@ -22,14 +20,14 @@ use Rattle.lines.specs.declared.Trace.the-variants as traces
 use Rattle.processors.specs.Listing.{hasRoom, filled}
 use Rattle.map_promises.specs.Statements.{RouteFits, TraceFits}
 use Rattle.map_promises.proofs.AnswersFit.{answers-fit}
-use Rattle.reading.specs.Scan.{emptyMap, turnedDown, afterWalk, afterSurvey, scan}
+use Rattle.reading.specs.Scan.{emptyMap, turnedDown, scan}
 use Rattle.reading.specs.Reading.{withoutMap, madtFound, readingOf}
 use Rattle.reading.specs.declared.Answer.the-variants as answers
 use Rattle.reading.specs.declared.Reading.{Reading}
 use Rattle.reading.specs.declared.Scan.{Scan}
 use Rattle.reading.proofs.AcceptedKeepsRules.{accepted-keeps-rules}
-use Rattle.reading.proofs.Laws.{judged-refused, reading-refused, reading-sound, answered-60}
-use Rattle.reading.proofs.Scanned.{verdict-left}
+use Rattle.reading.proofs.Laws.{answered-60}
+use Rattle.reading.proofs.Scanned.{scan-verdict}
 use Rattle.text.specs.Text.{outcome}
 use Rattle.text.specs.declared.Written.{Written}
 use Rattle.text.specs.declared.Written.the-variants.{Whole, NoRoom}
@@ -42,19 +40,15 @@ use Rattle.promises.proofs.WhyRefused.{why-refused}
 
 -- ---- no map beside a refusal
 of-scan-no-map : (capture : List ℕ) (r : Refusal) → scan capture .verdict ≡ verdicts.Refused r → scan capture .map ≡ emptyMap
-unfolding scan afterSurvey afterWalk turnedDown
-of-scan-no-map capture r = go (survey capture)
-  where
-    go : (s : Survey) → afterSurvey capture s .verdict ≡ verdicts.Refused r → afterSurvey capture s .map ≡ emptyMap
-    go (surveys.Refused q) h = refl
-    go (surveys.Found t) h = ap (λ (s : Scan). s .map) (judged-refused t _ _ (sym (verdict-left t _ _) ∙ h))
+unfolding scan turnedDown
+of-scan-no-map capture r h = ap (λ (s : Scan). s .map) (unless-refused turnedDown _ _ (sym (scan-verdict capture) ∙ h))
 
 of-read-no-map : (capture list : List ℕ) (r : Refusal) → readingOf capture list .answer ≡ answers.Refused r → readingOf capture list .map ≡ emptyMap
-unfolding withoutMap madtFound
+unfolding readingOf withoutMap madtFound
 of-read-no-map capture list r h =
     ⊎-elim
-    (λ w. ap (λ (q : Reading). q .map) (reading-refused capture list w))
-    (λ w. ap (λ (q : Reading). q .map) (reading-sound capture list (w .0) ∙ answered-60 _ _ list (w .2)))
+    (λ w. ap (λ (q : Reading). q .map) (unless-refused _ _ _ w))
+    (λ w. ap (λ (q : Reading). q .map) (unless-sound _ _ _ (w .0) ∙ answered-60 _ _ list (w .2)))
     (why-refused capture list r h)
 
 -- ---- a refusal's number is 2^48 or more

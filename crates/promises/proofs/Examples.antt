@@ -4,9 +4,9 @@ use mathlib.Core.List.{List}
 use mathlib.Core.Path.{refl}
 use Rattle.reading.specs.declared.Scan.{Scan}
 use Rattle.words.specs.Choice.{if}
-use Rattle.words.specs.Refusals.{unless, firstRefusal, inEach}
+use Rattle.words.specs.Refusals.{unless, firstRefusal, inEach, isSound}
 use Rattle.words.specs.Bytes.{numberAt, spelled, total, byteSum}
-use Rattle.words.specs.Lists.{first, every, numbersFrom, numbersBelow}
+use Rattle.words.specs.Lists.{first, every, those, numbersFrom, numbersBelow}
 use Rattle.capture.specs.Fields.{version, segmentCount, totalLength, rsdpAddress, headerSize, descriptor, descriptorsEnd, segmentAddress, segmentLength, segments, lengths, segmentPlace}
 use Rattle.capture.specs.Presence.{isPresent, placeOf, holds, placeIn, located, rsdpStretch, rsdpPlace, presenceRules}
 use Rattle.capture.specs.Rules.{wrongSize, wrongMark, wrongVersion, wrongCount, wrongTotal, emptySegment, endsPastMemory, endBefore, startsEarly, segmentBroken, segmentRules, containerRules}
@@ -26,19 +26,18 @@ use Rattle.parts.specs.Inputs.{hasBit, lesser, hasPin}
 use Rattle.lines.specs.Answers.{routeOf, traceOf}
 use Rattle.lines.specs.Claims.{placed, claims}
 use Rattle.lines.specs.Routes.{lioArrival, through, bridge, pinArrival, bioOwner, owner, arrivalOf, arrival}
-use Rattle.lines.specs.Rules.{check, alone, both, spotted, eiosFit, biosFit, msisFit, rangesKept, noBridge, lost, orElse, lowest, verdictsFrom40, firstBroken, isKept, keepsRules}
+use Rattle.lines.specs.Rules.{atLater, spotted, eiosFit, biosFit, msisFit, rangesKept, noBridge, lost, rulesTo43, rulesFrom51, mapRules, firstBroken, keepsRules}
 use Rattle.lines.specs.Traces.{slotTold, isBridge, isLpcPin, pinTold, landed, eioTraced, traced}
-use Rattle.madt.specs.Adding.{noMap, noPlaces, nothing, withCore, withLio, withEio, withMsi, withBio, withLpc}
-use Rattle.madt.specs.Pieces.{pieceAt, piecesFrom, pieces, sizeOf, sizeAt}
-use Rattle.madt.specs.Rules.{isType, coreFault, rangeFault, lioFault, counted, judged}
-use Rattle.madt.specs.Takes.{taking, takeCore, takeLio, takeHt, takeEio, takeMsi, takeBio, takeLpc, takeOne}
-use Rattle.madt.specs.Walk.{turnedAway, afterTaking, walk, walked}
+use Rattle.madt.specs.Pieces.{pieceAt, piecesFrom, pieces, structures}
+use Rattle.madt.specs.Rules.{isType, isKnown, lengthOf, wrongLength as wrongStructureLength, wrongVersion as wrongStructureVersion, isHt, wrongFlags as reservedFlags, brokenField, outOfRange, sharedBit, oneTooMany, structureRules}
+use Rattle.madt.specs.Contents.{ofType, made, standing, mapOf, placesOf, enabledIn, foundIn}
+use Rattle.madt.specs.Walk.{rulesInTurn, walkRules, turnedAway, walked}
 use Rattle.processors.specs.Image.{fourBytes, image}
 use Rattle.processors.specs.Listing.{isEnabledCore, entriesOf, entriesIn, processors, countOf, countIn, count, hasRoom, written, filled}
 use Rattle.processors.specs.Repeats.{twins, earlierTwin, hasTwin, repeats, spot, firstRepeat}
 use Rattle.reading.specs.Entries.{answerIn, readCode, readResult, bytesAfter}
 use Rattle.reading.specs.Reading.{withoutMap, answered, madtFound, readingOf, listAfter}
-use Rattle.reading.specs.Scan.{madtBytes, emptyMap, turnedDown, repeatRule, processorRule, mapRule, rulesAfterWalk, madtRules, scanRules, accepted, scan}
+use Rattle.reading.specs.Scan.{madtBytes, emptyMap, turnedDown, repeatRule, processorRule, madtRules, lineRules, rulesBefore51, allRules, accepted, scan}
 use Rattle.text.specs.Numerals.{letters, digits, decimal}
 use Rattle.text.specs.Lines.{each, field, phrase, line, versionLine, coreLine, coreLines, halfLine, lioLines, eioLine, bioLine, msiLine, lpcLine, sciLine}
 use Rattle.text.specs.Text.{mapParts, mapText, textOf}
@@ -47,7 +46,7 @@ use Rattle.promises.specs.Examples.{told, twelve, TwelveExamples, BoardA
 
 -- the scan, with all that it and the answers are computed by
 unfoldable computed : List ℕ → Scan
-unfolding if unless firstRefusal inEach first every fold numberAt spelled total byteSum numbersFrom numbersBelow version segmentCount totalLength rsdpAddress headerSize descriptor descriptorsEnd segmentAddress segmentLength segments lengths segmentPlace isPresent placeOf holds placeIn located rsdpStretch rsdpPlace presenceRules wrongSize wrongMark wrongVersion wrongCount wrongTotal emptySegment endsPastMemory endBefore startsEarly segmentBroken segmentRules containerRules names namedFrom firstNamed namedAfter secondNamed rsdPtr wrongSignature wrongRevision wrongLength wrongSums rsdpRules xsdtField structureLength brokenAt stepAt apic facp isNowhere earlier secondRule nameRules wrongMadtRevision wrongFlags bodyRules sciNumber withSci tableOfEntry madtOf fadtOf tablesFrom xsdtOf tablesOf surveyRules signature tableLength revision addressAt headerAt tableNamed cutShort wrongSum tableRules xsdtSignature notXsdt wrongXsdtRevision entryCount wrongBody xsdtRules entryField entries entryRules coreOf lioOf htOf eioOf msiOf bioOf lpcOf lioField eioField msiField bioField lpcField usedHalf saidLio saidLpc clash sooner nearer partner better firstClash lonelier firstLone hasBit lesser hasPin routeOf traceOf placed claims lioArrival through bridge pinArrival bioOwner owner arrivalOf arrival check alone both spotted eiosFit biosFit msisFit rangesKept noBridge lost orElse lowest verdictsFrom40 firstBroken isKept keepsRules slotTold isBridge isLpcPin pinTold landed eioTraced traced noMap noPlaces nothing withCore withLio withEio withMsi withBio withLpc pieceAt piecesFrom pieces sizeOf sizeAt isType coreFault rangeFault lioFault counted judged taking takeCore takeLio takeHt takeEio takeMsi takeBio takeLpc takeOne turnedAway afterTaking walk walked isEnabledCore entriesOf entriesIn processors countOf countIn count hasRoom written filled twins earlierTwin hasTwin repeats spot firstRepeat withoutMap answered madtFound readingOf listAfter madtBytes emptyMap turnedDown repeatRule processorRule mapRule rulesAfterWalk madtRules scanRules accepted scan
+unfolding if unless firstRefusal inEach first every fold numberAt spelled total byteSum numbersFrom numbersBelow version segmentCount totalLength rsdpAddress headerSize descriptor descriptorsEnd segmentAddress segmentLength segments lengths segmentPlace isPresent placeOf holds placeIn located rsdpStretch rsdpPlace presenceRules wrongSize wrongMark wrongVersion wrongCount wrongTotal emptySegment endsPastMemory endBefore startsEarly segmentBroken segmentRules containerRules names namedFrom firstNamed namedAfter secondNamed rsdPtr wrongSignature wrongRevision wrongLength wrongSums rsdpRules xsdtField structureLength brokenAt stepAt apic facp isNowhere earlier secondRule nameRules wrongMadtRevision wrongFlags bodyRules sciNumber withSci tableOfEntry madtOf fadtOf tablesFrom xsdtOf tablesOf surveyRules signature tableLength revision addressAt headerAt tableNamed cutShort wrongSum tableRules xsdtSignature notXsdt wrongXsdtRevision entryCount wrongBody xsdtRules entryField entries entryRules coreOf lioOf htOf eioOf msiOf bioOf lpcOf lioField eioField msiField bioField lpcField usedHalf saidLio saidLpc clash sooner nearer partner better firstClash lonelier firstLone hasBit lesser hasPin routeOf traceOf placed claims lioArrival through bridge pinArrival bioOwner owner arrivalOf arrival atLater spotted eiosFit biosFit msisFit rangesKept noBridge lost rulesTo43 rulesFrom51 mapRules firstBroken isSound keepsRules slotTold isBridge isLpcPin pinTold landed eioTraced traced pieceAt piecesFrom pieces structures those isType isKnown lengthOf wrongStructureLength wrongStructureVersion isHt reservedFlags brokenField outOfRange sharedBit oneTooMany structureRules ofType made standing mapOf placesOf enabledIn foundIn rulesInTurn walkRules turnedAway walked isEnabledCore entriesOf entriesIn processors countOf countIn count hasRoom written filled twins earlierTwin hasTwin repeats spot firstRepeat withoutMap answered madtFound readingOf listAfter madtBytes emptyMap turnedDown repeatRule processorRule madtRules lineRules rulesBefore51 allRules accepted scan
 computed capture = scan capture
 
 -- THE PROMISES

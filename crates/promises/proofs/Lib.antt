@@ -13,3 +13,4 @@ pub mod OneAnswer
 pub mod ReadForC
 pub mod EveryResult
 pub mod RulesInOrder
+pub mod MapOfMadt

@@ -1,9 +1,9 @@
 -- What is promised of captures. Each statement stands alone; proofs/ has a theorem for it.
-use Prim.Native.Nat.{ℕ, _≤_}
+use Prim.Native.Nat.{ℕ}
 use mathlib.Core.Bool.{true}
 use mathlib.Core.List.{List}
 use mathlib.Core.Path.{_≡_}
-use Rattle.words.specs.Refusals.{refused}
+use Rattle.words.specs.Refusals.{refused, firstRefusal}
 use Rattle.words.specs.declared.Refusal.{Refusal}
 use Rattle.words.specs.declared.Verdict.the-variants.{Sound, Refused}
 use Rattle.tables.specs.Survey.{survey}
@@ -17,16 +17,15 @@ use Rattle.lines.specs.declared.Map.{Map}
 use Rattle.lines.specs.declared.Places.{Places}
 use Rattle.lines.specs.declared.Route.the-variants.{Arrives, Refused as NoRoute}
 use Rattle.lines.specs.declared.Trace.the-variants.{Refused as NoTrace}
-use Rattle.lines.specs.declared.Verdict.the-variants.{Kept}
+use Rattle.madt.specs.Pieces.{pieces, structures}
 use Rattle.processors.specs.Listing.{count}
 use Rattle.processors.specs.Repeats.{firstRepeat}
 use Rattle.processors.specs.declared.Repeat.the-variants.{Nowhere}
-use Rattle.map_promises.specs.Structures.{Structure}
-use Rattle.map_promises.specs.Clashing.{ShareNode, ShareNumber, ShareVector, ShareCore, TwoNode, LoneBio, TwoNumber, TwoVector, TwoCore, Names, NamesLone}
+use Rattle.map_promises.specs.Clashing.{ShareNode, ShareNumber, ShareVector, ShareCore, TwoNode, LoneBio, TwoNumber, TwoVector, TwoCore, NamesLater, NamesLone, Exactly}
 use Rattle.map_promises.specs.Routing.{RouteIsSources, UnwiredExactly, NoOwnerExactly}
 use Rattle.map_promises.specs.Statements.{NoTwoAlike, TracingNames, NothingExactly, LpcLinesShare, ThereAndBack}
-use Rattle.map_promises.specs.Walks.{Normal}
-use Rattle.reading.specs.Scan.{madtBytes, walkOf, scan}
+use Rattle.map_promises.specs.Walks.{Normal, InTableOrder}
+use Rattle.reading.specs.Scan.{madtBytes, walkOf, rulesBefore51, scan}
 use Rattle.reading.specs.Reading.{readingOf}
 use Rattle.reading.specs.declared.Answer.the-variants.{Read, Refused as NotRead}
 
@@ -67,6 +66,18 @@ AcceptedIsTrustworthy capture = Accepted capture → Trustworthy (scan capture .
 abbrev pub ReadIsTrustworthy : List ℕ → List ℕ → Type 0
 ReadIsTrustworthy capture list = (count : ℕ) → readingOf capture list .answer ≡ Read count → Trustworthy (readingOf capture list .map)
 
+-- ---- "The map holds the used fields of LIO, EIO, BIO, MSI and LPC, in table order, and the SCI number"
+-- the map of an accepted capture is that of its MADT's structures, and its SCI number is the FADT's
+pub record MapOfMadt (capture : List ℕ) : Type 0 where
+  pub t : Tables
+  pub tables : survey capture ≡ Found t
+  pub order :
+      InTableOrder (t .madt .place) (structures (pieces (madtBytes capture (t .madt)) 44)) (scan capture .map) (walkOf capture t .found .places)
+  pub sci : scan capture .map .sci ≡ t .sci
+
+abbrev pub AcceptedIsOfMadt : List ℕ → Type 0
+AcceptedIsOfMadt capture = Accepted capture → MapOfMadt capture
+
 -- ---- demand 3, its last sentence
 -- "A capture that breaks no earlier rule": none from 1 to 40
 pub record NothingBefore41 (capture : List ℕ) (t : Tables) : Type 0 where
@@ -78,26 +89,19 @@ pub record NothingBefore41 (capture : List ℕ) (t : Tables) : Type 0 where
   pub r39 : firstRepeat (madtBytes capture (t .madt)) ≡ Nowhere
   pub r40core : count (madtBytes capture (t .madt)) ≡ 0 → ⊥
   -- the rest of 40, of the map that the walk found
-  pub r40 : rule40 (says (walkOf capture t .found .map)) (t .madt .place) ≡ Kept
+  pub r40 : rule40 (says (walkOf capture t .found .map)) (t .madt .place) ≡ Sound
 
 -- none from 1 to 43
 pub record NothingBefore51 (capture : List ℕ) (t : Tables) : Type 0 where
-  -- 1 to 30; the tables are t
-  pub tables : survey capture ≡ Found t
-  -- 31 to 38, structure by structure
-  pub structures : walkOf capture t .verdict ≡ Sound
-  -- no CORE repeats an ID, and one is enabled
-  pub r39 : firstRepeat (madtBytes capture (t .madt)) ≡ Nowhere
-  pub r40core : count (madtBytes capture (t .madt)) ≡ 0 → ⊥
-  -- the rest of 40, and 41 to 43, of the map that the walk found
-  pub r40 : rule40 (says (walkOf capture t .found .map)) (t .madt .place) ≡ Kept
-  pub r41 : rule41 (claims (says (walkOf capture t .found .map)) (walkOf capture t .found .places)) ≡ Kept
-  pub r42 : rule42 (claims (says (walkOf capture t .found .map)) (walkOf capture t .found .places)) ≡ Kept
-  pub r43 : rule43 (says (walkOf capture t .found .map)) (walkOf capture t .found .places .lpc) ≡ Kept
+  pub to40 : NothingBefore41 capture t
+  -- 41 to 43, of the map that the walk found
+  pub r41 : rule41 (claims (says (walkOf capture t .found .map)) (walkOf capture t .found .places)) ≡ Sound
+  pub r42 : rule42 (claims (says (walkOf capture t .found .map)) (walkOf capture t .found .places)) ≡ Sound
+  pub r43 : rule43 (says (walkOf capture t .found .map)) (walkOf capture t .found .places .lpc) ≡ Sound
 
--- the same by the answer alone: no number below 51 is given
+-- the same by the one list of all rules: none of those that stand before 51 refuses
 abbrev pub NotRefusedBefore51 : List ℕ → Type 0
-NotRefusedBefore51 capture = (r : Refusal) → scan capture .verdict ≡ Refused r → 51 ≤ r .number
+NotRefusedBefore51 capture = firstRefusal (rulesBefore51 capture) ≡ Sound
 
 -- it is the same: the rules are asked in their order
 abbrev pub RulesInOrder : List ℕ → Type 0
@@ -105,31 +109,23 @@ RulesInOrder capture =
     (NotRefusedBefore51 capture → (t : Tables) × NothingBefore51 capture t)
     × ((t : Tables) → NothingBefore51 capture t → NotRefusedBefore51 capture)
 
--- a number is told exactly when its rule is the first that is broken, and then at a place that is named so
-abbrev pub ExactlyAt : (ℕ → Type 0) → Type 0 → (ℕ → Type 0) → Type 0
-ExactlyAt told broken named = ((p : ℕ) → told p → broken × named p) × (broken → (p : ℕ) × told p)
-
--- "the first structure that clashes with an earlier" stands at p
-abbrev pub NamesLater : Said → Places → (Structure → Structure → Type 0) → ℕ → Type 0
-NamesLater said places Share p = (q : ℕ) × Names said places Share p q
-
 -- "refused for a clash exactly when": each number by itself, over the structures that the walk found; `told n p` is that n is told
 -- at place p
 pub record EachExactly (told : ℕ → ℕ → Type 0) (capture : List ℕ) (t : Tables) (said : Said) (places : Places) : Type 0 where
   -- "EIO repeats an earlier node"
-  pub r41 : NothingBefore41 capture t → ExactlyAt (told 41) (TwoNode said) (NamesLater said places (ShareNode said))
+  pub r41 : NothingBefore41 capture t → Exactly (told 41) (TwoNode said) (NamesLater said places (ShareNode said))
   -- "BIO without an EIO of its node"
-  pub r42 : NothingBefore41 capture t → ExactlyAt (told 42) ((TwoNode said → ⊥) × LoneBio said) (NamesLone said places)
+  pub r42 : NothingBefore41 capture t → Exactly (told 42) ((TwoNode said → ⊥) × LoneBio said) (NamesLone said places)
   -- "two sources share a global number"
-  pub r51 : NothingBefore51 capture t → ExactlyAt (told 51) (TwoNumber said) (NamesLater said places (ShareNumber said))
+  pub r51 : NothingBefore51 capture t → Exactly (told 51) (TwoNumber said) (NamesLater said places (ShareNumber said))
   -- "or an extended vector of one EIO"
   pub r52 :
       NothingBefore51 capture t
-      → ExactlyAt (told 52) ((TwoNumber said → ⊥) × TwoVector said) (NamesLater said places (ShareVector said))
+      → Exactly (told 52) ((TwoNumber said → ⊥) × TwoVector said) (NamesLater said places (ShareVector said))
   -- "or two controllers enter by one core vector"
   pub r53 :
       NothingBefore51 capture t
-      → ExactlyAt (told 53) ((TwoNumber said → ⊥) × (TwoVector said → ⊥) × TwoCore said) (NamesLater said places (ShareCore said))
+      → Exactly (told 53) ((TwoNumber said → ⊥) × (TwoVector said → ⊥) × TwoCore said) (NamesLater said places (ShareCore said))
 
 -- so of what the capture is refused with
 abbrev pub RefusedExactlyForSharing : List ℕ → Tables → Type 0

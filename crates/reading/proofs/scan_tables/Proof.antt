@@ -41,8 +41,10 @@ rules-after-walk-requires c κs =
     let w = c .before .before .before .before .before .walk-madt .ensures in
     let sound = ap (λ (x : Walked). x .verdict) (sym w) ∙ c .before .enum-told .given .1 in (
       omega arith,
-      (ap (λ (x : Walked). x .found .enabled) w ∙ enabled-count _ _ _ sound ∙ ap count (sym (c .madt-bytes .ensures)),
-      ap (λ (x : Walked). tooMany (x .found .map)) w ∙ walk-keeps-books _ _ _ sound .0 .r38),
+      (
+        ap (λ (x : Walked). x .found .enabled) w ∙ enabled-count _ _ _ sound ∙ ap count (sym (c .madt-bytes .ensures)),
+        ap (λ (x : Walked). tooMany (x .found .map)) w ∙ walk-keeps-books _ _ _ sound .0 .r38,
+      ),
     )
 
 judge-requires : tie.Need-judge-requires

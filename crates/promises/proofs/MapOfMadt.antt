@@ -1,0 +1,22 @@
+-- The map of an accepted capture is that of its MADT's structures, in table order.
+use mathlib.Core.List.{List}
+use Prim.Native.Nat.{ℕ}
+use mathlib.Core.Path.{_≡_, ap, _∙_}
+use Rattle.lines.specs.declared.Map.{Map}
+use Rattle.map_promises.proofs.WalkKeepsBooks.{walk-keeps-books}
+use Rattle.map_promises.proofs.WalkInTableOrder.{walk-in-table-order}
+use Rattle.reading.specs.Scan.{madtBytes}
+use Rattle.reading.proofs.Scanned.{scanned}
+use Rattle.promises.specs.Captures.{AcceptedIsOfMadt}
+
+-- THE PROMISE
+pub accepted-is-of-madt : (capture : List ℕ) → AcceptedIsOfMadt capture
+accepted-is-of-madt capture h =
+    let s = scanned capture h in
+    let t = s .t in
+    record {
+      t = t;
+      tables = s .tables;
+      order = rw (s .map) (walk-in-table-order (madtBytes capture (t .madt)) (t .madt .place) (t .sci) (s .walk));
+      sci = ap (λ (m : Map). m .sci) (s .map) ∙ walk-keeps-books (madtBytes capture (t .madt)) (t .madt .place) (t .sci) (s .walk) .1;
+    }
