@@ -1,18 +1,27 @@
 -- What 32 to 38 say of one structure: one law for each of them that is the first to be broken, and one for a structure that keeps
 -- them all.
-use mathlib.Core.Path.{_≡_, sym, ap, _∙_}
+use mathlib.Core.Path.{_≡_, refl, sym, ap, _∙_}
 use mathlib.Core.Bool.{Bool, true, false, not, _&&_, true≢false}
-use mathlib.Core.List.{List}
-use Prim.Native.Nat.{ℕ, _≤_, _<_}
+use mathlib.Core.List.{List, [], _∷_}
+use Prim.Native.Nat.{ℕ, suc, _≤_, _<_}
+use native.Mathlib.Nat.{eq-or-lt-of-le}
 use native.Mathlib.Omega.{arith}
+use mathlib.Core.Logic.{⊎-elim}
 use lib.Dec.{eqb, leb}
-use borrow.Author.Tests.{eq-eqb, ne-eqb, le-leb, leb-false}
+use borrow.Author.Tests.{eq-eqb, ne-eqb, le-leb, leb-true, leb-false}
 use Rattle.words.specs.Bytes.{byteAt}
-use Rattle.words.specs.Refusals.{refused, firstRefusal}
+use Rattle.words.specs.Choice.{if}
+use Rattle.words.specs.Refusals.{refused, rule, unless, firstRefusal}
 use Rattle.words.specs.declared.Verdict.the-variants.{Sound, Refused}
-use Rattle.words.proofs.Verdicts.{first-none, first-broken, first-kept, first-sound}
+use Rattle.words.proofs.Verdicts.{first-broken, first-kept, first-sound}
+use Rattle.words.proofs.Tests.{both-left, both-right}
+use Rattle.kinds.specs.Makers.{reservedFlags, coreOf, lioOf, eioOf, msiOf, bioOf, lpcOf}
+use Rattle.kinds.specs.Ranges.{lioField, eioField, msiField, bioField, lpcField, bitInBoth}
 use Rattle.madt.specs.Rules.{isType, byType, isKnown, lengthOf, wrongLength, wrongVersion, isHt, wrongFlags, brokenField, outOfRange, sharedBit, oneTooMany, structureRules}
-use Rattle.madt.proofs.Types.{type-yes, type-no, of-core, of-lio, of-eio, of-msi, of-bio, of-lpc, of-other}
+use Rattle.madt.proofs.Types.{type-yes, type-no, of-core, of-lio, of-ht, of-eio, of-msi, of-bio, of-lpc, of-other}
+
+above : {n m : ℕ} → n ≤ m → (m ≡ n → ⊥) → suc n ≤ m
+above l h = ⊎-elim (λ e. absurd (h (sym e))) (λ k. k) (eq-or-lt-of-le l)
 
 -- ---- the tests
 module _ (s : List ℕ) where
@@ -40,13 +49,60 @@ module _ (s : List ℕ) where
   unfolding isHt
   ht-no h = type-no 19 s h
 
-  pub range-wrong : (brokenField s ≡ 0 → ⊥) → outOfRange s ≡ true
-  unfolding outOfRange
-  range-wrong h = ap not (ne-eqb (brokenField s) 0 h)
+  -- a type that is passed over
+  module _ (h : isKnown s ≡ false) where
+    unknown : (n : ℕ) → 17 ≤ n → n ≤ 23 → byteAt s 0 ≡ n → ⊥
+    unfolding isKnown
+    unknown n low high e = true≢false (sym (rw (e, le-leb 17 n low, le-leb n 23 high)) ∙ h)
 
-  pub range-right : brokenField s ≡ 0 → outOfRange s ≡ false
-  unfolding outOfRange
-  range-right h = ap not (eq-eqb (brokenField s) 0 h)
+    no-type : (n : ℕ) → 17 ≤ n → n ≤ 23 → isType n s ≡ false
+    no-type n low high = type-no n s (unknown n low high)
+
+    other-type : {A : Type 0} (core lio ht eio msi bio lpc other : A) → byType s core lio ht eio msi bio lpc other ≡ other
+    other-type core lio ht eio msi bio lpc other =
+        of-other s core lio ht eio msi bio lpc other (unknown 17 (omega arith) (omega arith)) (unknown 18 (omega arith) (omega arith))
+        (unknown 19 (omega arith) (omega arith)) (unknown 20 (omega arith) (omega arith)) (unknown 21 (omega arith) (omega arith))
+        (unknown 22 (omega arith) (omega arith)) (unknown 23 (omega arith) (omega arith))
+
+  -- a known type is one of the seven
+  pub one-of-seven : isKnown s ≡ true → (byteAt s 0 ≡ 17 → ⊥) → (byteAt s 0 ≡ 18 → ⊥) → (byteAt s 0 ≡ 19 → ⊥) → (byteAt s 0 ≡ 20 → ⊥)
+      → (byteAt s 0 ≡ 21 → ⊥) → (byteAt s 0 ≡ 22 → ⊥) → (byteAt s 0 ≡ 23 → ⊥) → ⊥
+  unfolding isKnown
+  one-of-seven k t17 t18 t19 t20 t21 t22 t23 =
+      let low : 17 ≤ byteAt s 0 = leb-true 17 (byteAt s 0) (both-left (leb 17 (byteAt s 0)) (leb (byteAt s 0) 23) k) in
+      let high : byteAt s 0 ≤ 23 = leb-true (byteAt s 0) 23 (both-right (leb 17 (byteAt s 0)) (leb (byteAt s 0) 23) k) in
+      let l18 : 18 ≤ byteAt s 0 = above low t17 in
+      let l19 : 19 ≤ byteAt s 0 = above l18 t18 in
+      let l20 : 20 ≤ byteAt s 0 = above l19 t19 in
+      let l21 : 21 ≤ byteAt s 0 = above l20 t20 in
+      let l22 : 22 ≤ byteAt s 0 = above l21 t21 in
+      let l23 : 23 ≤ byteAt s 0 = above l22 t22 in
+      t23 (omega arith)
+
+  -- so a structure is of a known type exactly if its kind has a length
+  pub has-length : (lengthOf s ≡ 0 → ⊥) → isKnown s ≡ true
+  unfolding lengthOf
+  has-length h = go (isKnown s) refl
+    where
+      go : (b : Bool) → isKnown s ≡ b → isKnown s ≡ true
+      go true e = e
+      go false e = absurd (h (other-type e {A = ℕ} 15 23 21 13 19 17 15 0))
+
+  pub no-length : lengthOf s ≡ 0 → isKnown s ≡ false
+  unfolding lengthOf
+  no-length h = go (isKnown s) refl
+    where
+      go : (b : Bool) → isKnown s ≡ b → isKnown s ≡ false
+      go false e = e
+      go true e =
+          absurd (one-of-seven e
+          (λ t. let z : 15 ≡ 0 = sym (of-core s _ _ _ _ _ _ _ _ t) ∙ h in omega arith)
+          (λ t. let z : 23 ≡ 0 = sym (of-lio s _ _ _ _ _ _ _ _ t) ∙ h in omega arith)
+          (λ t. let z : 21 ≡ 0 = sym (of-ht s _ _ _ _ _ _ _ _ t) ∙ h in omega arith)
+          (λ t. let z : 13 ≡ 0 = sym (of-eio s _ _ _ _ _ _ _ _ t) ∙ h in omega arith)
+          (λ t. let z : 19 ≡ 0 = sym (of-msi s _ _ _ _ _ _ _ _ t) ∙ h in omega arith)
+          (λ t. let z : 17 ≡ 0 = sym (of-bio s _ _ _ _ _ _ _ _ t) ∙ h in omega arith)
+          (λ t. let z : 15 ≡ 0 = sym (of-lpc s _ _ _ _ _ _ _ _ t) ∙ h in omega arith))
 
 -- ---- the first of them that is broken
 module _ (place before : ℕ) (s : List ℕ) where
@@ -64,56 +120,65 @@ module _ (place before : ℕ) (s : List ℕ) where
       unfolding structureRules
       at-34 h = first-kept _ _ _ _ a (first-kept _ _ _ _ b (first-broken _ _ _ _ h))
 
-      module _ (c : isHt s ≡ false) where
-        pub at-35 : wrongFlags s ≡ true → firstRefusal (structureRules place before s) ≡ Refused (refused 35 place)
-        unfolding structureRules
-        at-35 h = first-kept _ _ _ _ a (first-kept _ _ _ _ b (first-kept _ _ _ _ c (first-broken _ _ _ _ h)))
+      -- what is left of them, by what the tests say
+      left : (flags range bit full : Bool) → isHt s ≡ false → wrongFlags s ≡ flags → outOfRange s ≡ range → sharedBit s ≡ bit → oneTooMany before s ≡ full
+          → firstRefusal (structureRules place before s)
+          ≡ firstRefusal (rule flags 35 place ∷ rule range 36 place ∷ rule bit 37 place ∷ rule full 38 place ∷ [])
+      unfolding structureRules
+      left flags range bit full ht d e f g = first-kept _ _ _ _ a (first-kept _ _ _ _ b (first-kept _ _ _ _ ht (rw (d, e, f, g))))
 
-        module _ (d : wrongFlags s ≡ false) where
-          pub at-36 : outOfRange s ≡ true → firstRefusal (structureRules place before s) ≡ Refused (refused 36 place)
-          unfolding structureRules
-          at-36 h = first-kept _ _ _ _ a (first-kept _ _ _ _ b (first-kept _ _ _ _ c (first-kept _ _ _ _ d (first-broken _ _ _ _ h))))
+      -- and so of each kind
+      module _ {full : Bool} (many : full ≡ oneTooMany before s) where
+        pub for-core : byteAt s 0 ≡ 17
+            → firstRefusal (structureRules place before s) ≡ firstRefusal (rule (reservedFlags (coreOf s)) 35 place ∷ rule full 38 place ∷ [])
+        unfolding firstRefusal unless if wrongFlags sharedBit outOfRange brokenField
+        for-core t =
+            left (reservedFlags (coreOf s)) false false full (ht-no s (λ h. omega arith)) (rw (type-yes 17 s t)) (rw (of-core s _ _ _ _ _ _ _ _ t)) (rw (type-no 18 s (λ h. omega arith))) (sym many)
 
-          module _ (e : outOfRange s ≡ false) where
-            pub at-37 : sharedBit s ≡ true → firstRefusal (structureRules place before s) ≡ Refused (refused 37 place)
-            unfolding structureRules
-            at-37 h =
-                first-kept _ _ _ _ a (first-kept _ _ _ _ b (first-kept _ _ _ _ c (first-kept _ _ _ _ d (first-kept _ _ _ _ e
-                (first-broken _ _ _ _ h)))))
+        pub for-lio : byteAt s 0 ≡ 18
+            → firstRefusal (structureRules place before s)
+            ≡ firstRefusal (rule (not (eqb (lioField (lioOf s)) 0)) 36 place ∷ rule (bitInBoth (lioOf s)) 37 place ∷ rule full 38 place ∷ [])
+        unfolding firstRefusal unless if wrongFlags sharedBit outOfRange brokenField
+        for-lio t =
+            left false (not (eqb (lioField (lioOf s)) 0)) (bitInBoth (lioOf s)) full (ht-no s (λ h. omega arith)) (rw (type-no 17 s (λ h. omega arith))) (rw (of-lio s _ _ _ _ _ _ _ _ t)) (rw (type-yes 18 s t)) (sym many)
 
-            module _ (f : sharedBit s ≡ false) where
-              pub at-38 : oneTooMany before s ≡ true → firstRefusal (structureRules place before s) ≡ Refused (refused 38 place)
-              unfolding structureRules
-              at-38 h =
-                  first-kept _ _ _ _ a (first-kept _ _ _ _ b (first-kept _ _ _ _ c (first-kept _ _ _ _ d (first-kept _ _ _ _ e
-                  (first-kept _ _ _ _ f (first-broken _ _ _ _ h))))))
+        -- a kind whose ranges are all that it has
+        for-ranged : {field : ℕ} → isType 17 s ≡ false → isType 18 s ≡ false → isType 19 s ≡ false → brokenField s ≡ field
+            → firstRefusal (structureRules place before s) ≡ firstRefusal (rule (not (eqb field 0)) 36 place ∷ rule full 38 place ∷ [])
+        unfolding firstRefusal unless if isHt wrongFlags sharedBit outOfRange
+        for-ranged {field} core lio ht e = left false (not (eqb field 0)) false full ht (rw core) (rw e) (rw lio) (sym many)
 
-              pub at-none : oneTooMany before s ≡ false → firstRefusal (structureRules place before s) ≡ Sound
-              unfolding structureRules
-              at-none h =
-                  first-kept _ _ _ _ a (first-kept _ _ _ _ b (first-kept _ _ _ _ c (first-kept _ _ _ _ d (first-kept _ _ _ _ e
-                  (first-kept _ _ _ _ f (first-kept _ _ _ _ h first-none))))))
+        pub for-eio : byteAt s 0 ≡ 20
+            → firstRefusal (structureRules place before s) ≡ firstRefusal (rule (not (eqb (eioField (eioOf s)) 0)) 36 place ∷ rule full 38 place ∷ [])
+        unfolding brokenField
+        for-eio t =
+            for-ranged (type-no 17 s (λ h. omega arith)) (type-no 18 s (λ h. omega arith)) (type-no 19 s (λ h. omega arith)) (of-eio s _ _ _ _ _ _ _ _ t)
+
+        pub for-msi : byteAt s 0 ≡ 21
+            → firstRefusal (structureRules place before s) ≡ firstRefusal (rule (not (eqb (msiField (msiOf s)) 0)) 36 place ∷ rule full 38 place ∷ [])
+        unfolding brokenField
+        for-msi t =
+            for-ranged (type-no 17 s (λ h. omega arith)) (type-no 18 s (λ h. omega arith)) (type-no 19 s (λ h. omega arith)) (of-msi s _ _ _ _ _ _ _ _ t)
+
+        pub for-bio : byteAt s 0 ≡ 22
+            → firstRefusal (structureRules place before s) ≡ firstRefusal (rule (not (eqb (bioField (bioOf s)) 0)) 36 place ∷ rule full 38 place ∷ [])
+        unfolding brokenField
+        for-bio t =
+            for-ranged (type-no 17 s (λ h. omega arith)) (type-no 18 s (λ h. omega arith)) (type-no 19 s (λ h. omega arith)) (of-bio s _ _ _ _ _ _ _ _ t)
+
+        pub for-lpc : byteAt s 0 ≡ 23
+            → firstRefusal (structureRules place before s) ≡ firstRefusal (rule (not (eqb (lpcField (lpcOf s)) 0)) 36 place ∷ rule full 38 place ∷ [])
+        unfolding brokenField
+        for-lpc t =
+            for-ranged (type-no 17 s (λ h. omega arith)) (type-no 18 s (λ h. omega arith)) (type-no 19 s (λ h. omega arith)) (of-lpc s _ _ _ _ _ _ _ _ t)
 
   -- no rule speaks of a type that is passed over
   module _ (h : isKnown s ≡ false) where
-    unknown : (n : ℕ) → 17 ≤ n → n ≤ 23 → byteAt s 0 ≡ n → ⊥
-    unfolding isKnown
-    unknown n low high e = true≢false (sym (rw (e, le-leb 17 n low, le-leb n 23 high)) ∙ h)
-
-    no-type : (n : ℕ) → 17 ≤ n → n ≤ 23 → isType n s ≡ false
-    no-type n low high = type-no n s (unknown n low high)
-
-    other-type : {A : Type 0} (core lio ht eio msi bio lpc other : A) → byType s core lio ht eio msi bio lpc other ≡ other
-    other-type core lio ht eio msi bio lpc other =
-        of-other s core lio ht eio msi bio lpc other (unknown 17 (omega arith) (omega arith)) (unknown 18 (omega arith) (omega arith))
-        (unknown 19 (omega arith) (omega arith)) (unknown 20 (omega arith) (omega arith)) (unknown 21 (omega arith) (omega arith))
-        (unknown 22 (omega arith) (omega arith)) (unknown 23 (omega arith) (omega arith))
-
     pub passed-over : firstRefusal (structureRules place before s) ≡ Sound
-    unfolding wrongLength wrongVersion isHt wrongFlags brokenField sharedBit oneTooMany
+    unfolding firstRefusal unless if wrongLength wrongVersion isHt wrongFlags outOfRange brokenField sharedBit oneTooMany
     passed-over =
-        at-none (rw h) (rw h) (no-type 19 (omega arith) (omega arith)) (rw (no-type 17 (omega arith) (omega arith)))
-        (range-right s (other-type 0 _ 0 _ _ _ _ 0)) (rw (no-type 18 (omega arith) (omega arith))) (other-type _ _ false _ _ _ _ false)
+        left (rw h) (rw h) false false false false (no-type s h 19 (omega arith) (omega arith)) (rw (no-type s h 17 (omega arith) (omega arith))) (rw (other-type s h {A = ℕ} 0 _ 0 _ _ _ _ 0))
+        (rw (no-type s h 18 (omega arith) (omega arith))) (other-type s h _ _ false _ _ _ _ false)
 
 -- ---- what it tells that none is broken
 pub record Kept (before : ℕ) (s : List ℕ) : Type 0 where

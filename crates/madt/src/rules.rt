@@ -11,11 +11,15 @@ use kinds::ranges;
 use lines::Map;
 use words::Verdict;
 ghost use mathlib.Core.Path.{_≡_};
-ghost use mathlib.Core.List.{List};
+ghost use mathlib.Core.Bool.{not};
+ghost use mathlib.Core.List.{List, [], _∷_};
+ghost use lib.Dec.{eqb};
 ghost use Rattle.words.specs.Bytes.{byteAt};
-ghost use Rattle.words.specs.Refusals.{firstRefusal};
+ghost use Rattle.words.specs.Refusals.{rule, firstRefusal};
+ghost use Rattle.kinds.specs.Makers.{reservedFlags};
+ghost use Rattle.kinds.specs.Ranges.{lioField, bitInBoth};
 ghost use Rattle.madt.specs.Pieces.{Whole};
-ghost use Rattle.madt.specs.Rules.{isKnown, lengthOf, wrongFlags, brokenField, sharedBit, oneTooMany, structureRules};
+ghost use Rattle.madt.specs.Rules.{lengthOf, structureRules};
 ghost use Rattle.madt.specs.Contents.{howMany, MadeBy};
 
 // Where every structure says its length and its version, and the version.
@@ -34,14 +38,6 @@ const MOST_BIOS: u8 = 4;
 
 const MOST_MSIS: u8 = 4;
 
-// Whether a structure is of a known type.
-fn is_known(structure: &[u8]) -> bool
-    ensures { λ r. ⌜ r ≡ isKnown (now (structure .entry)) ⌝ }
-{
-    let kind = words::byte_at(structure, steps::TYPE);
-    (Core::TYPE <= kind) & (kind <= Lpc::TYPE)
-}
-
 // The length that a structure of its kind has; 0 for a type that is passed over.
 fn length_of(structure: &[u8]) -> u8
     ensures { λ r. ⌜ r ≡ lengthOf (now (structure .entry)) ⌝ }
@@ -58,85 +54,88 @@ fn length_of(structure: &[u8]) -> u8
     }
 }
 
-// Refusal 35.
-fn wrong_flags(structure: &[u8]) -> bool
-    ensures { λ r. ⌜ r ≡ wrongFlags (now (structure .entry)) ⌝ }
+// Refusals 35 and 38 of a CORE, by whether there are as many as there may be.
+fn check_core(core: Core, full: bool, place: u32) -> Verdict
+    ensures { λ r. ⌜ r ≡ firstRefusal (rule (reservedFlags core) 35 place ∷ rule full 38 place ∷ []) ⌝ }
 {
-    if words::byte_at(structure, steps::TYPE) != Core::TYPE {
-        return false;
+    if core.reserved_flags() {
+        return Verdict::Refused(words::refuse(35, place));
     }
-    let core = Core::from_bytes(structure);
-    core.reserved_flags()
+    if full {
+        return Verdict::Refused(words::refuse(38, place));
+    }
+    Verdict::Sound
 }
 
-// Refusal 36, by the first field that is out of its range.
-fn broken_field(structure: &[u8]) -> u8
-    ensures { λ r. ⌜ r ≡ brokenField (now (structure .entry)) ⌝ }
+// Refusals 36 and 38 of a kind that has ranges, by the first field that is out of its own.
+fn check_field(field: u8, full: bool, place: u32) -> Verdict
+    ensures { λ r. ⌜ r ≡ firstRefusal (rule (not (eqb field 0)) 36 place ∷ rule full 38 place ∷ []) ⌝ }
 {
-    match words::byte_at(structure, steps::TYPE) {
-        Lio::TYPE => ranges::lio_field(Lio::from_bytes(structure)),
-        Eio::TYPE => ranges::eio_field(Eio::from_bytes(structure)),
-        Msi::TYPE => ranges::msi_field(Msi::from_bytes(structure)),
-        Bio::TYPE => ranges::bio_field(Bio::from_bytes(structure)),
-        Lpc::TYPE => ranges::lpc_field(Lpc::from_bytes(structure)),
-        Core::TYPE | Ht::TYPE => 0, // none of their fields has a range
-        0..=16 | 24..=255 => 0,
+    if field != 0 {
+        return Verdict::Refused(words::refuse(36, place));
     }
+    if full {
+        return Verdict::Refused(words::refuse(38, place));
+    }
+    Verdict::Sound
 }
 
-// Refusal 37.
-fn shared_bit(structure: &[u8]) -> bool
-    ensures { λ r. ⌜ r ≡ sharedBit (now (structure .entry)) ⌝ }
+// Refusals 36 to 38 of a LIO.
+fn check_lio(lio: Lio, full: bool, place: u32) -> Verdict
+    ensures { λ r. ⌜ r ≡ firstRefusal (rule (not (eqb (lioField lio) 0)) 36 place ∷ rule (bitInBoth lio) 37 place ∷ rule full 38 place ∷ []) ⌝ }
 {
-    if words::byte_at(structure, steps::TYPE) != Lio::TYPE {
-        return false;
+    if ranges::lio_field(lio) != 0 {
+        return Verdict::Refused(words::refuse(36, place));
     }
-    ranges::bit_in_both(Lio::from_bytes(structure))
-}
-
-// Refusal 38, of a structure behind those that made a map and so many CORE.
-fn one_too_many(structure: &[u8], cores: u16, map: Map) -> bool
-    ensures { λ r. ⌜ ((all : List Whole) → MadeBy all cores map → r ≡ oneTooMany (howMany (byteAt (now (structure .entry)) 0) all) (now (structure .entry))) ⌝ }
-{
-    match words::byte_at(structure, steps::TYPE) {
-        Core::TYPE => MOST_CORES <= cores,
-        Lio::TYPE => map.lio.present,
-        Eio::TYPE => MOST_EIOS <= map.eiocount,
-        Msi::TYPE => MOST_MSIS <= map.msicount,
-        Bio::TYPE => MOST_BIOS <= map.biocount,
-        Lpc::TYPE => map.lpc.present,
-        0..=16 | Ht::TYPE | 24..=255 => false,
+    if ranges::bit_in_both(lio) {
+        return Verdict::Refused(words::refuse(37, place));
     }
+    if full {
+        return Verdict::Refused(words::refuse(38, place));
+    }
+    Verdict::Sound
 }
 
 // Refusals 32 to 38 of a structure at a place, behind those that made a map and so many CORE. Types other than 17 to 23 are
 // passed over, their version unread.
 pub(crate) fn check(structure: &[u8], place: u32, cores: u16, map: Map) -> Verdict
-    ensures { λ r. ⌜ ((all : List Whole) → MadeBy all cores map → r ≡ firstRefusal (structureRules place (howMany (byteAt (now (structure .entry)) 0) all) (now (structure .entry)))) ⌝ }
+    ensures { λ r. let s = now (structure .entry) in
+        ⌜ ((all : List Whole) → MadeBy all cores map → r ≡ firstRefusal (structureRules place (howMany (byteAt s 0) all) s)) ⌝ }
 {
-    if !is_known(structure) {
+    let length = length_of(structure);
+    if length == 0 {
         return Verdict::Sound;
     }
-    if words::byte_at(structure, LENGTH) != length_of(structure) {
+    if words::byte_at(structure, LENGTH) != length {
         return Verdict::Refused(words::refuse(32, place));
     }
     if words::byte_at(structure, VERSION) != KNOWN_VERSION {
         return Verdict::Refused(words::refuse(33, place));
     }
-    if words::byte_at(structure, steps::TYPE) == Ht::TYPE {
-        return Verdict::Refused(words::refuse(34, place));
+    match words::byte_at(structure, steps::TYPE) {
+        Core::TYPE => check_core(Core::from_bytes(structure), MOST_CORES <= cores, place),
+        Lio::TYPE => check_lio(Lio::from_bytes(structure), map.lio.present, place),
+        Ht::TYPE => Verdict::Refused(words::refuse(34, place)),
+        Eio::TYPE => check_field(
+            ranges::eio_field(Eio::from_bytes(structure)),
+            MOST_EIOS <= map.eiocount,
+            place,
+        ),
+        Msi::TYPE => check_field(
+            ranges::msi_field(Msi::from_bytes(structure)),
+            MOST_MSIS <= map.msicount,
+            place,
+        ),
+        Bio::TYPE => check_field(
+            ranges::bio_field(Bio::from_bytes(structure)),
+            MOST_BIOS <= map.biocount,
+            place,
+        ),
+        Lpc::TYPE => check_field(
+            ranges::lpc_field(Lpc::from_bytes(structure)),
+            map.lpc.present,
+            place,
+        ),
+        0..=16 | 24..=255 => Verdict::Sound,
     }
-    if wrong_flags(structure) {
-        return Verdict::Refused(words::refuse(35, place));
-    }
-    if broken_field(structure) != 0 {
-        return Verdict::Refused(words::refuse(36, place));
-    }
-    if shared_bit(structure) {
-        return Verdict::Refused(words::refuse(37, place));
-    }
-    if one_too_many(structure, cores, map) {
-        return Verdict::Refused(words::refuse(38, place));
-    }
-    Verdict::Sound
 }
