@@ -1,5 +1,5 @@
 -- Document 01, "Where a line arrives", line by line, on what a map says.
-use Prim.Native.Nat.{ℕ, _+_, _-_}
+use Prim.Native.Nat.{ℕ, _-_}
 use mathlib.Core.List.{List, [], _∷_}
 use lib.Dec.{eqb, ltb}
 use Rattle.words.specs.Choice.{if}

@@ -1,6 +1,6 @@
 -- What it tells that the walk of a MADT refused nothing: what it found is what the structures make, each of them keeps 32 to 38,
 -- and no kind has too many.
-use mathlib.Core.Path.{_≡_, refl, sym, ap, _∙_}
+use mathlib.Core.Path.{_≡_, refl, sym, ap}
 use mathlib.Core.Bool.{Bool, true, false}
 use mathlib.Core.List.{List, [], _∷_, _++_, append-nil, append-assoc}
 use Prim.Native.Nat.{ℕ, zero, suc, _+_, _≤_, _<_}
@@ -19,7 +19,6 @@ use Rattle.madt.specs.Pieces.{Piece, whole, cut, Whole, pieces, structur
 use Rattle.madt.specs.Rules.{isType, structureRules}
 use Rattle.madt.specs.Contents.{ofType, howMany, made, enabledIn, foundIn}
 use Rattle.madt.specs.Walk.{rulesInTurn, walkRules, turnedAway, walked}
-use Rattle.madt.specs.declared.Found.{Found}
 use Rattle.madt.specs.declared.Walked.{Walked}
 use Rattle.madt.proofs.Contents.{count-more, count-same, made-many}
 use Rattle.madt.proofs.Checks.{Kept, all-kept, room-core, room-lio, room-eio, room-msi, room-bio, room-lpc}

@@ -2,38 +2,35 @@
 use mathlib.Core.Path.{_≡_, refl, sym, ap, _∙_}
 use mathlib.Core.Bool.{Bool, true, false}
 use mathlib.Core.List.{List, [], _∷_, _++_, map}
-use Prim.Native.Nat.{ℕ, _+_, _≤_, _<_}
+use Prim.Native.Nat.{ℕ, _+_, _<_}
 use native.Mathlib.Omega.{arith}
 use lib.Dec.{leb}
-use lib.ListN.{length, getD, set, length-append}
-use borrow.Author.Tests.{le-leb, lt-leb, leb-false}
+use lib.ListN.{length, set, length-append}
+use borrow.Author.Tests.{le-leb}
 use Rattle.words.specs.Bytes.{byteAt}
 use Rattle.words.specs.Choice.{if}
 use Rattle.words.specs.Lists.{those}
-use Rattle.words.proofs.Choices.{yes-if, no-if}
-use Rattle.words.proofs.Those.{those-more, those-same, those-fewer, map-more, length-map}
+use Rattle.words.proofs.Those.{those-more, those-same, map-more, length-map}
 use Rattle.kinds.specs.Makers.{coreOf, isEnabled, lioOf, eioOf, msiOf, bioOf, lpcOf}
 use Rattle.kinds.specs.Used.{noLio, noEio, noBio, noMsi, noLpc, saidLio}
-use Rattle.kinds.specs.declared.makers.Core.{Core}
 use Rattle.lines.specs.declared.Map.{Map}
 use Rattle.lines.specs.declared.Places.{Places}
 use Rattle.madt.specs.Pieces.{Whole}
 use Rattle.madt.specs.Rules.{isType, oneTooMany}
-use Rattle.madt.specs.Contents.{ofType, howMany, made, standing, theOne, inFour, mapOf, placesOf, MadeBy, enabledIn, foundIn}
-use Rattle.madt.specs.declared.Found.{Found}
-use Rattle.madt.proofs.Types.{type-yes, type-no, of-core, of-lio, of-eio, of-msi, of-bio, of-lpc}
+use Rattle.madt.specs.Contents.{ofType, howMany, made, standing, theOne, inFour, mapOf, placesOf, MadeBy, enabledIn}
+use Rattle.madt.proofs.Types.{of-core, of-lio, of-eio, of-msi, of-bio, of-lpc}
 
 -- ---- one element more of a kind
-one-more : {A : Type 0} (none : A) (xs : List A) (x : A) → length xs < 1 → theOne none (xs ++ (x ∷ [])) ≡ x
-one-more none [] x l = refl
-one-more none (a ∷ xs) x l = absurd (omega arith)
+one-longer : {A : Type 0} (none : A) (xs : List A) (x : A) → length xs < 1 → theOne none (xs ++ (x ∷ [])) ≡ x
+one-longer none [] x l = refl
+one-longer none (a ∷ xs) x l = absurd (omega arith)
 
-four-more : {A : Type 0} (none : A) (xs : List A) (x : A) → length xs < 4 → inFour none (xs ++ (x ∷ [])) ≡ set (inFour none xs) (length xs) x
-four-more none [] x l = refl
-four-more none (a ∷ []) x l = refl
-four-more none (a ∷ b ∷ []) x l = refl
-four-more none (a ∷ b ∷ c ∷ []) x l = refl
-four-more none (a ∷ b ∷ c ∷ d ∷ xs) x l = absurd (omega arith)
+four-longer : {A : Type 0} (none : A) (xs : List A) (x : A) → length xs < 4 → inFour none (xs ++ (x ∷ [])) ≡ set (inFour none xs) (length xs) x
+four-longer none [] x l = refl
+four-longer none (a ∷ []) x l = refl
+four-longer none (a ∷ b ∷ []) x l = refl
+four-longer none (a ∷ b ∷ c ∷ []) x l = refl
+four-longer none (a ∷ b ∷ c ∷ d ∷ xs) x l = absurd (omega arith)
 
 -- ---- one structure more, of the type with a number, or of another
 module _ (number : ℕ) (all : List Whole) (x : Whole) where
@@ -80,24 +77,69 @@ pub standing-many : (number base : ℕ) (all : List Whole) → length (standing 
 unfolding standing
 standing-many number base all = length-map _ (ofType number all)
 
-module _ (number base : ℕ) (all : List Whole) (x : Whole) (t : isType number (x .bytes) ≡ true) where
-  one-made : {A : Type 0} (none : A) (maker : List ℕ → A) → howMany number all < 1 → theOne none (made number maker (all ++ (x ∷ []))) ≡ maker (x .bytes)
-  one-made none maker l = rw (made-more number all x t maker) (one-more none (made number maker all) (maker (x .bytes)) (rw (made-many number maker all) l))
+-- ---- a kind as the map holds it, and its places beside it
+-- one at most
+pub record One {A : Type 0} (number : ℕ) (maker : List ℕ → A) (none : A) (base : ℕ) (all : List Whole) (value : A) (place : ℕ) : Type 0 where
+  pub held : value ≡ theOne none (made number maker all)
+  pub stands : place ≡ theOne 0 (standing number base all)
 
-  one-standing : howMany number all < 1 → theOne 0 (standing number base (all ++ (x ∷ []))) ≡ base + x .at
-  one-standing l = rw (standing-more number all x t base) (one-more 0 (standing number base all) _ (rw (standing-many number base all) l))
+-- four at most: their count, the array and the places
+pub record Four {A : Type 0} (number : ℕ) (maker : List ℕ → A) (none : A) (base : ℕ) (all : List Whole) (count : ℕ) (array : List A) (places : List ℕ) : Type 0 where
+  pub counted : count ≡ howMany number all
+  pub held : array ≡ inFour none (made number maker all)
+  pub stands : places ≡ inFour 0 (standing number base all)
 
-  four-made : {A : Type 0} (none : A) (maker : List ℕ → A) → howMany number all < 4
-      → inFour none (made number maker (all ++ (x ∷ []))) ≡ set (inFour none (made number maker all)) (howMany number all) (maker (x .bytes))
-  four-made none maker l =
-      rw (made-more number all x t maker, ← made-many number maker all)
-      (four-more none (made number maker all) (maker (x .bytes)) (rw (made-many number maker all) l))
+module _ {A : Type 0} {number : ℕ} {maker : List ℕ → A} {none : A} {base : ℕ} {all : List Whole} (x : Whole) where
+  module _ {value : A} {place : ℕ} (k : One number maker none base all value place) where
+    pub one-more : isType number (x .bytes) ≡ true → howMany number all < 1 → One number maker none base (all ++ (x ∷ [])) (maker (x .bytes)) (base + x .at)
+    one-more t free =
+        record {
+          held = rw (made-more number all x t maker) (sym (one-longer none (made number maker all) _ (omega (arith, made-many number maker all))));
+          stands = rw (standing-more number all x t base) (sym (one-longer 0 (standing number base all) _ (omega (arith, standing-many number base all))));
+        }
 
-  four-standing : howMany number all < 4
-      → inFour 0 (standing number base (all ++ (x ∷ []))) ≡ set (inFour 0 (standing number base all)) (howMany number all) (base + x .at)
-  four-standing l =
-      rw (standing-more number all x t base, ← standing-many number base all)
-      (four-more 0 (standing number base all) _ (rw (standing-many number base all) l))
+    pub one-same : isType number (x .bytes) ≡ false → One number maker none base (all ++ (x ∷ [])) value place
+    one-same t = record { held = rw (made-same number all x t maker) (k .held); stands = rw (standing-same number all x t base) (k .stands) }
+
+  module _ {count : ℕ} {array : List A} {places : List ℕ} (k : Four number maker none base all count array places) where
+    pub four-more : isType number (x .bytes) ≡ true → howMany number all < 4
+        → Four number maker none base (all ++ (x ∷ [])) (count + 1) (set array count (maker (x .bytes))) (set places count (base + x .at))
+    four-more t free =
+        record {
+          counted = rw (count-more number all x t, k .counted);
+          held = rw (made-more number all x t maker, k .counted, k .held, sym (made-many number maker all))
+              (sym (four-longer none (made number maker all) (maker (x .bytes)) (omega (arith, made-many number maker all))));
+          stands = rw (standing-more number all x t base, k .counted, k .stands, sym (standing-many number base all))
+              (sym (four-longer 0 (standing number base all) (base + x .at) (omega (arith, standing-many number base all))));
+        }
+
+    pub four-same : isType number (x .bytes) ≡ false → Four number maker none base (all ++ (x ∷ [])) count array places
+    four-same t =
+        record {
+          counted = rw (count-same number all x t) (k .counted);
+          held = rw (made-same number all x t maker) (k .held);
+          stands = rw (standing-same number all x t base) (k .stands);
+        }
+
+-- ---- a map and its places, kind by kind
+pub record Parts (base sci : ℕ) (all : List Whole) (map : Map) (places : Places) : Type 0 where
+  pub lio : One 18 (λ s. saidLio (lioOf s)) noLio base all (map .lio) (places .lio)
+  pub eios : Four 20 eioOf noEio base all (map .eiocount) (map .eios) (places .eios)
+  pub bios : Four 22 bioOf noBio base all (map .biocount) (map .bios) (places .bios)
+  pub msis : Four 21 msiOf noMsi base all (map .msicount) (map .msis) (places .msis)
+  pub lpc : One 23 lpcOf noLpc base all (map .lpc) (places .lpc)
+  pub number : map .sci ≡ sci
+
+module _ {base sci : ℕ} {all : List Whole} {map : Map} {places : Places} (k : Parts base sci all map places) where
+  -- together they are what the structures make
+  pub map-of : map ≡ mapOf sci all
+  unfolding mapOf
+  map-of =
+      rw (sym (k .lio .held), sym (k .eios .held), sym (k .eios .counted), sym (k .bios .held), sym (k .bios .counted), sym (k .msis .held), sym (k .msis .counted), sym (k .lpc .held), sym (k .number))
+
+  pub places-of : places ≡ placesOf base all
+  unfolding placesOf
+  places-of = rw (sym (k .lio .stands), sym (k .eios .stands), sym (k .bios .stands), sym (k .msis .stands), sym (k .lpc .stands))
 
 -- ---- 38: one too many of its kind, by what the map has
 -- a kind that is there once or not at all is there if there is one
@@ -137,159 +179,18 @@ module _ (s : List ℕ) (all : List Whole) {cores : ℕ} {m : Map} (by : MadeBy 
       rw (of-lpc s _ _ _ _ _ _ _ _ t, t)
       (ap (λ (x : Map). x .lpc .present) (by .1) ∙ there (λ x. x .present) noLpc lpcOf (ofType 23 all) refl (λ s. refl))
 
--- ---- what is found with one structure more
--- a map, places, a number of enabled CORE and of all are those of the structures with one more
-abbrev pub Next : ℕ → ℕ → List Whole → Whole → Map → Places → ℕ → ℕ → Type 0
-Next base sci all x map places enabled cores =
-    let more = all ++ (x ∷ []) in
-    (map ≡ mapOf sci more) × (places ≡ placesOf base more) × (enabled ≡ enabledIn more) × (cores ≡ howMany 17 more)
-
-module _ (base sci : ℕ) (all : List Whole) (x : Whole) where
-  abbrev m : Map
-  m = mapOf sci all
-
-  abbrev p : Places
-  p = placesOf base all
-
-  -- a structure that is of no kind of the map leaves it as it is
-  same-map : isType 18 (x .bytes) ≡ false → isType 20 (x .bytes) ≡ false → isType 21 (x .bytes) ≡ false → isType 22 (x .bytes) ≡ false
-      → isType 23 (x .bytes) ≡ false → (m ≡ mapOf sci (all ++ (x ∷ []))) × (p ≡ placesOf base (all ++ (x ∷ [])))
-  unfolding mapOf placesOf
-  same-map t18 t20 t21 t22 t23 = (
-    rw (made-same 18 all x t18 (λ s. saidLio (lioOf s)), made-same 20 all x t20 eioOf, count-same 20 all x t20, made-same 21 all x t21 msiOf, count-same 21 all x t21, made-same 22 all x t22 bioOf, count-same 22 all x t22, made-same 23 all x t23 lpcOf),
-    rw (standing-same 18 all x t18 base, standing-same 20 all x t20 base, standing-same 21 all x t21 base, standing-same 22 all x t22 base, standing-same 23 all x t23 base),
-  )
-
-  same-enabled : isType 17 (x .bytes) ≡ false → enabledIn all ≡ enabledIn (all ++ (x ∷ []))
+-- ---- the CORE
+module _ (all : List Whole) (x : Whole) where
+  pub enabled-same : isType 17 (x .bytes) ≡ false → enabledIn (all ++ (x ∷ [])) ≡ enabledIn all
   unfolding enabledIn
-  same-enabled t = rw (made-same 17 all x t coreOf)
+  enabled-same t = rw (made-same 17 all x t coreOf)
 
-  more-enabled : isType 17 (x .bytes) ≡ true → isEnabled (coreOf (x .bytes)) ≡ true → enabledIn all + 1 ≡ enabledIn (all ++ (x ∷ []))
+  pub enabled-more : isType 17 (x .bytes) ≡ true → isEnabled (coreOf (x .bytes)) ≡ true → enabledIn (all ++ (x ∷ [])) ≡ enabledIn all + 1
   unfolding enabledIn
-  more-enabled t h =
-      rw (
-        made-more 17 all x t coreOf,
-        those-more isEnabled (made 17 coreOf all) (coreOf (x .bytes)) h,
-        length-append (those isEnabled (made 17 coreOf all)) (coreOf (x .bytes) ∷ []),
-      )
+  enabled-more t h =
+      rw (made-more 17 all x t coreOf, those-more isEnabled (made 17 coreOf all) (coreOf (x .bytes)) h)
+      (length-append (those isEnabled (made 17 coreOf all)) (coreOf (x .bytes) ∷ []))
 
-  more-disabled : isType 17 (x .bytes) ≡ true → isEnabled (coreOf (x .bytes)) ≡ false → enabledIn all ≡ enabledIn (all ++ (x ∷ []))
+  pub disabled-more : isType 17 (x .bytes) ≡ true → isEnabled (coreOf (x .bytes)) ≡ false → enabledIn (all ++ (x ∷ [])) ≡ enabledIn all
   unfolding enabledIn
-  more-disabled t h = rw (made-more 17 all x t coreOf, those-same isEnabled (made 17 coreOf all) (coreOf (x .bytes)) h)
-
-  core-map : byteAt (x .bytes) 0 ≡ 17 → (m ≡ mapOf sci (all ++ (x ∷ []))) × (p ≡ placesOf base (all ++ (x ∷ [])))
-  core-map t =
-      same-map (type-no 18 (x .bytes) (λ e. omega arith)) (type-no 20 (x .bytes) (λ e. omega arith))
-      (type-no 21 (x .bytes) (λ e. omega arith)) (type-no 22 (x .bytes) (λ e. omega arith)) (type-no 23 (x .bytes) (λ e. omega arith))
-
-  -- a CORE is counted, and changes nothing else
-  pub next-enabled : byteAt (x .bytes) 0 ≡ 17 → isEnabled (coreOf (x .bytes)) ≡ true → Next base sci all x m p (enabledIn all + 1) (howMany 17 all + 1)
-  next-enabled t h =
-      let s = core-map t in
-      let core = type-yes 17 (x .bytes) t in
-      (s .0, s .1, more-enabled core h, sym (count-more 17 all x core))
-
-  pub next-disabled : byteAt (x .bytes) 0 ≡ 17 → isEnabled (coreOf (x .bytes)) ≡ false → Next base sci all x m p (enabledIn all) (howMany 17 all + 1)
-  next-disabled t h =
-      let s = core-map t in
-      let core = type-yes 17 (x .bytes) t in
-      (s .0, s .1, more-disabled core h, sym (count-more 17 all x core))
-
-  -- a HT, or a structure that is passed over, changes nothing
-  pub next-other : (byteAt (x .bytes) 0 ≡ 17 → ⊥) → (byteAt (x .bytes) 0 ≡ 18 → ⊥) → (byteAt (x .bytes) 0 ≡ 20 → ⊥)
-      → (byteAt (x .bytes) 0 ≡ 21 → ⊥) → (byteAt (x .bytes) 0 ≡ 22 → ⊥) → (byteAt (x .bytes) 0 ≡ 23 → ⊥)
-      → Next base sci all x m p (enabledIn all) (howMany 17 all)
-  next-other t17 t18 t20 t21 t22 t23 =
-      let s = same-map (type-no 18 (x .bytes) t18) (type-no 20 (x .bytes) t20) (type-no 21 (x .bytes) t21) (type-no 22 (x .bytes) t22) (type-no 23 (x .bytes) t23) in
-      let core = type-no 17 (x .bytes) t17 in
-      (s .0, s .1, same-enabled core, sym (count-same 17 all x core))
-
-  pub next-lio : byteAt (x .bytes) 0 ≡ 18 → howMany 18 all < 1
-      → Next base sci all x
-      (record { lio = saidLio (lioOf (x .bytes)); eiocount = m .eiocount; eios = m .eios; biocount = m .biocount; bios = m .bios; msicount = m .msicount; msis = m .msis; lpc = m .lpc; sci = m .sci })
-      (record { lio = base + x .at; eios = p .eios; bios = p .bios; msis = p .msis; lpc = p .lpc }) (enabledIn all) (howMany 17 all)
-  unfolding mapOf placesOf
-  next-lio t free =
-      let here = type-yes 18 (x .bytes) t in
-      let t20 = type-no 20 (x .bytes) (λ e. omega arith) in
-      let t21 = type-no 21 (x .bytes) (λ e. omega arith) in
-      let t22 = type-no 22 (x .bytes) (λ e. omega arith) in
-      let t23 = type-no 23 (x .bytes) (λ e. omega arith) in
-      let t17 = type-no 17 (x .bytes) (λ e. omega arith) in (
-        rw (one-made 18 base all x here noLio (λ s. saidLio (lioOf s)) free, made-same 20 all x t20 eioOf, count-same 20 all x t20, made-same 21 all x t21 msiOf, count-same 21 all x t21, made-same 22 all x t22 bioOf, count-same 22 all x t22, made-same 23 all x t23 lpcOf),
-        rw (one-standing 18 base all x here free, standing-same 20 all x t20 base, standing-same 21 all x t21 base, standing-same 22 all x t22 base, standing-same 23 all x t23 base),
-        same-enabled t17,
-        sym (count-same 17 all x t17),
-      )
-
-  pub next-eio : byteAt (x .bytes) 0 ≡ 20 → howMany 20 all < 4
-      → Next base sci all x
-      (record { lio = m .lio; eiocount = m .eiocount + 1; eios = set (m .eios) (m .eiocount) (eioOf (x .bytes)); biocount = m .biocount; bios = m .bios; msicount = m .msicount; msis = m .msis; lpc = m .lpc; sci = m .sci })
-      (record { lio = p .lio; eios = set (p .eios) (m .eiocount) (base + x .at); bios = p .bios; msis = p .msis; lpc = p .lpc }) (enabledIn all) (howMany 17 all)
-  unfolding mapOf placesOf
-  next-eio t free =
-      let here = type-yes 20 (x .bytes) t in
-      let t18 = type-no 18 (x .bytes) (λ e. omega arith) in
-      let t21 = type-no 21 (x .bytes) (λ e. omega arith) in
-      let t22 = type-no 22 (x .bytes) (λ e. omega arith) in
-      let t23 = type-no 23 (x .bytes) (λ e. omega arith) in
-      let t17 = type-no 17 (x .bytes) (λ e. omega arith) in (
-        rw (made-same 18 all x t18 (λ s. saidLio (lioOf s)), four-made 20 base all x here noEio eioOf free, count-more 20 all x here, made-same 21 all x t21 msiOf, count-same 21 all x t21, made-same 22 all x t22 bioOf, count-same 22 all x t22, made-same 23 all x t23 lpcOf),
-        rw (standing-same 18 all x t18 base, four-standing 20 base all x here free, standing-same 21 all x t21 base, standing-same 22 all x t22 base, standing-same 23 all x t23 base),
-        same-enabled t17,
-        sym (count-same 17 all x t17),
-      )
-
-  pub next-msi : byteAt (x .bytes) 0 ≡ 21 → howMany 21 all < 4
-      → Next base sci all x
-      (record { lio = m .lio; eiocount = m .eiocount; eios = m .eios; biocount = m .biocount; bios = m .bios; msicount = m .msicount + 1; msis = set (m .msis) (m .msicount) (msiOf (x .bytes)); lpc = m .lpc; sci = m .sci })
-      (record { lio = p .lio; eios = p .eios; bios = p .bios; msis = set (p .msis) (m .msicount) (base + x .at); lpc = p .lpc }) (enabledIn all) (howMany 17 all)
-  unfolding mapOf placesOf
-  next-msi t free =
-      let here = type-yes 21 (x .bytes) t in
-      let t18 = type-no 18 (x .bytes) (λ e. omega arith) in
-      let t20 = type-no 20 (x .bytes) (λ e. omega arith) in
-      let t22 = type-no 22 (x .bytes) (λ e. omega arith) in
-      let t23 = type-no 23 (x .bytes) (λ e. omega arith) in
-      let t17 = type-no 17 (x .bytes) (λ e. omega arith) in (
-        rw (made-same 18 all x t18 (λ s. saidLio (lioOf s)), made-same 20 all x t20 eioOf, count-same 20 all x t20, four-made 21 base all x here noMsi msiOf free, count-more 21 all x here, made-same 22 all x t22 bioOf, count-same 22 all x t22, made-same 23 all x t23 lpcOf),
-        rw (standing-same 18 all x t18 base, standing-same 20 all x t20 base, four-standing 21 base all x here free, standing-same 22 all x t22 base, standing-same 23 all x t23 base),
-        same-enabled t17,
-        sym (count-same 17 all x t17),
-      )
-
-  pub next-bio : byteAt (x .bytes) 0 ≡ 22 → howMany 22 all < 4
-      → Next base sci all x
-      (record { lio = m .lio; eiocount = m .eiocount; eios = m .eios; biocount = m .biocount + 1; bios = set (m .bios) (m .biocount) (bioOf (x .bytes)); msicount = m .msicount; msis = m .msis; lpc = m .lpc; sci = m .sci })
-      (record { lio = p .lio; eios = p .eios; bios = set (p .bios) (m .biocount) (base + x .at); msis = p .msis; lpc = p .lpc }) (enabledIn all) (howMany 17 all)
-  unfolding mapOf placesOf
-  next-bio t free =
-      let here = type-yes 22 (x .bytes) t in
-      let t18 = type-no 18 (x .bytes) (λ e. omega arith) in
-      let t20 = type-no 20 (x .bytes) (λ e. omega arith) in
-      let t21 = type-no 21 (x .bytes) (λ e. omega arith) in
-      let t23 = type-no 23 (x .bytes) (λ e. omega arith) in
-      let t17 = type-no 17 (x .bytes) (λ e. omega arith) in (
-        rw (made-same 18 all x t18 (λ s. saidLio (lioOf s)), made-same 20 all x t20 eioOf, count-same 20 all x t20, made-same 21 all x t21 msiOf, count-same 21 all x t21, four-made 22 base all x here noBio bioOf free, count-more 22 all x here, made-same 23 all x t23 lpcOf),
-        rw (standing-same 18 all x t18 base, standing-same 20 all x t20 base, standing-same 21 all x t21 base, four-standing 22 base all x here free, standing-same 23 all x t23 base),
-        same-enabled t17,
-        sym (count-same 17 all x t17),
-      )
-
-  pub next-lpc : byteAt (x .bytes) 0 ≡ 23 → howMany 23 all < 1
-      → Next base sci all x
-      (record { lio = m .lio; eiocount = m .eiocount; eios = m .eios; biocount = m .biocount; bios = m .bios; msicount = m .msicount; msis = m .msis; lpc = lpcOf (x .bytes); sci = m .sci })
-      (record { lio = p .lio; eios = p .eios; bios = p .bios; msis = p .msis; lpc = base + x .at }) (enabledIn all) (howMany 17 all)
-  unfolding mapOf placesOf
-  next-lpc t free =
-      let here = type-yes 23 (x .bytes) t in
-      let t18 = type-no 18 (x .bytes) (λ e. omega arith) in
-      let t20 = type-no 20 (x .bytes) (λ e. omega arith) in
-      let t21 = type-no 21 (x .bytes) (λ e. omega arith) in
-      let t22 = type-no 22 (x .bytes) (λ e. omega arith) in
-      let t17 = type-no 17 (x .bytes) (λ e. omega arith) in (
-        rw (made-same 18 all x t18 (λ s. saidLio (lioOf s)), made-same 20 all x t20 eioOf, count-same 20 all x t20, made-same 21 all x t21 msiOf, count-same 21 all x t21, made-same 22 all x t22 bioOf, count-same 22 all x t22, one-made 23 base all x here noLpc lpcOf free),
-        rw (standing-same 18 all x t18 base, standing-same 20 all x t20 base, standing-same 21 all x t21 base, standing-same 22 all x t22 base, one-standing 23 base all x here free),
-        same-enabled t17,
-        sym (count-same 17 all x t17),
-      )
+  disabled-more t h = rw (made-more 17 all x t coreOf, those-same isEnabled (made 17 coreOf all) (coreOf (x .bytes)) h)

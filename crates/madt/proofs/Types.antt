@@ -1,17 +1,13 @@
--- What the type of a structure chooses, and that no rule speaks of a type that is passed over.
-use mathlib.Core.Path.{_≡_, refl, sym, ap, _∙_}
-use mathlib.Core.Bool.{Bool, true, false, not, _&&_}
+-- What the type of a structure chooses.
+use mathlib.Core.Path.{_≡_, refl}
+use mathlib.Core.Bool.{true, false}
 use mathlib.Core.List.{List}
-use Prim.Native.Nat.{ℕ, _<_, _≤_}
+use Prim.Native.Nat.{ℕ}
 use native.Mathlib.Omega.{arith}
-use lib.Dec.{eqb, leb}
-use borrow.Author.Tests.{eq-eqb, ne-eqb, le-leb}
+use borrow.Author.Tests.{eq-eqb, ne-eqb}
 use Rattle.words.specs.Bytes.{byteAt}
-use Rattle.words.specs.Refusals.{firstRefusal}
-use Rattle.words.specs.declared.Verdict.the-variants.{Sound}
 use Rattle.words.proofs.Choices.{yes-if, no-if}
-use Rattle.words.proofs.Verdicts.{first-kept}
-use Rattle.madt.specs.Rules.{isType, byType, isKnown, wrongLength, wrongVersion, isHt, wrongFlags, brokenField, outOfRange, sharedBit, oneTooMany, structureRules}
+use Rattle.madt.specs.Rules.{isType, byType}
 
 -- ---- what the type of a structure chooses
 pub type-yes : (number : ℕ) (s : List ℕ) → byteAt s 0 ≡ number → isType number s ≡ true

@@ -20,7 +20,7 @@ use Rattle.madt.specs.Contents.{ofType, howMany, made, standing, mapOf, 
 use Rattle.madt.specs.Walk.{rulesInTurn, walkRules, turnedAway, walked}
 use Rattle.madt.specs.declared.Walked.{Walked}
 use Rattle.madt.proofs.Pieces.{sizeAt, pieces-end, pieces-cut, pieces-next}
-use Rattle.madt.proofs.Contents.{Next}
+use Rattle.madt.proofs.Contents.{Parts, map-of, places-of}
 
 -- what comes of some pieces after the structures before them
 unfoldable pub walkFrom : ℕ → ℕ → List Whole → List Piece → Walked
@@ -55,54 +55,62 @@ from-cut base sci before at = unless-refused turnedAway _ _ (first-broken true 3
 abbrev pub Few : Map → ℕ → ℕ → Type 0
 Few map enabled cores = (enabled ≤ cores) × (cores ≤ 256) × (map .eiocount ≤ 4) × (map .msicount ≤ 4) × (map .biocount ≤ 4)
 
--- ---- what the loop has found before the structure at an offset
-pub record Walking (table : List ℕ) (base sci : ℕ) (map : Map) (places : Places) (enabled cores at : ℕ) : Type 0 where
-  pub all : List Whole
-  pub map-is : map ≡ mapOf sci all
-  pub places-is : places ≡ placesOf base all
+-- what some structures make, as the loop has it
+pub record Found (base sci : ℕ) (all : List Whole) (map : Map) (places : Places) (enabled cores : ℕ) : Type 0 where
+  pub parts : Parts base sci all map places
   pub enabled-is : enabled ≡ enabledIn all
   pub cores-is : cores ≡ howMany 17 all
   pub few : Few map enabled cores
+
+-- ---- what the loop has found before the structure at an offset
+pub record Walking (table : List ℕ) (base sci : ℕ) (map : Map) (places : Places) (enabled cores at : ℕ) : Type 0 where
+  pub all : List Whole
+  pub found : Found base sci all map places enabled cores
   pub rest : walkFrom base sci all (pieces table at) ≡ walked table base sci
 
 pub walk-starts : (table : List ℕ) (base sci : ℕ) {map : Map} {places : Places} → map ≡ mapOf sci [] → places ≡ placesOf 0 []
     → Walking table base sci map places 0 0 44
 unfolding walkFrom walked walkRules mapOf placesOf standing enabledIn made ofType those
 walk-starts table base sci m p =
-    record {
+    rw (m, p)
+    (record {
       all = [];
-      map-is = m;
-      places-is = p;
-      enabled-is = refl;
-      cores-is = refl;
-      few = rw m (omega arith, omega arith, omega arith, omega arith, omega arith);
+      found = record {
+        parts = record {
+          lio = record { held = refl; stands = refl };
+          eios = record { counted = refl; held = refl; stands = refl };
+          bios = record { counted = refl; held = refl; stands = refl };
+          msis = record { counted = refl; held = refl; stands = refl };
+          lpc = record { held = refl; stands = refl };
+          number = refl;
+        };
+        enabled-is = refl;
+        cores-is = refl;
+        few = (omega arith, omega arith, omega arith, omega arith, omega arith);
+      };
       rest = refl;
-    }
+    })
 
 module _ {table : List ℕ} {base sci : ℕ} {map : Map} {places : Places} {enabled cores at : ℕ} (w : Walking table base sci map places enabled cores at) where
   -- the structures that made the map
   pub made-by : MadeBy (w .all) cores map
-  unfolding mapOf
-  made-by = (w .cores-is, w .map-is ∙ ap (λ (n : ℕ). mapOf n (w .all)) (sym (ap (λ (m : Map). m .sci) (w .map-is))))
+  made-by = (w .found .cores-is, map-of (w .found .parts) ∙ ap (λ (n : ℕ). mapOf n (w .all)) (sym (w .found .parts .number)))
 
   -- it has a place for one more of a kind that is not full
   pub eio-room : {number : ℕ} → number ≡ 20 → howMany number (w .all) < 4 → map .eiocount < 4
-  unfolding mapOf
-  eio-room t free = rw (w .map-is, sym t) free
+  eio-room t free = rw (w .found .parts .eios .counted, sym t) free
 
   pub msi-room : {number : ℕ} → number ≡ 21 → howMany number (w .all) < 4 → map .msicount < 4
-  unfolding mapOf
-  msi-room t free = rw (w .map-is, sym t) free
+  msi-room t free = rw (w .found .parts .msis .counted, sym t) free
 
   pub bio-room : {number : ℕ} → number ≡ 22 → howMany number (w .all) < 4 → map .biocount < 4
-  unfolding mapOf
-  bio-room t free = rw (w .map-is, sym t) free
+  bio-room t free = rw (w .found .parts .bios .counted, sym t) free
 
   -- the table's end
   pub walk-ends : length table ≤ at → record { verdict = Sound; found = record { map = map; places = places; enabled = enabled } } ≡ walked table base sci
   unfolding foundIn
   walk-ends h =
-      rw (w .map-is, w .places-is, w .enabled-is) (sym (rw (pieces-end table at h) (from-end base sci (w .all))) ∙ w .rest)
+      rw (map-of (w .found .parts), places-of (w .found .parts), w .found .enabled-is) (sym (rw (pieces-end table at h) (from-end base sci (w .all))) ∙ w .rest)
 
   -- a structure that is cut
   pub walk-cuts : at < length table → sizeAt table at ≡ 0 → turnedAway (refused 31 (base + at)) ≡ walked table base sci
@@ -121,16 +129,12 @@ module _ {table : List ℕ} {base sci : ℕ} {map : Map} {places : Places} {enab
 
     -- one that breaks none
     pub walk-goes-on : said ≡ Sound → {map′ : Map} {places′ : Places} {enabled′ cores′ to : ℕ}
-        → Next base sci (w .all) here map′ places′ enabled′ cores′ → Few map′ enabled′ cores′ → to ≡ at + sizeAt table at
+        → Found base sci (w .all ++ (here ∷ [])) map′ places′ enabled′ cores′ → to ≡ at + sizeAt table at
         → Walking table base sci map′ places′ enabled′ cores′ to
-    walk-goes-on h n few e =
+    walk-goes-on h f e =
         record {
           all = w .all ++ (here ∷ []);
-          map-is = n .0;
-          places-is = n .1;
-          enabled-is = n .2;
-          cores-is = n .3;
-          few = few;
+          found = f;
           rest = rw e (sym (rw (pieces-next table at more) (from-next base sci (w .all) at (here .bytes) _ h)) ∙ w .rest);
         }
 

@@ -1,5 +1,5 @@
 -- The map of a MADT that is not refused holds what each of its structures makes, in table order.
-use Prim.Native.Nat.{ℕ, zero, suc, _+_, _<_, _≤_}
+use Prim.Native.Nat.{ℕ, _+_, _≤_}
 use native.Mathlib.Omega.{arith}
 use mathlib.Core.Path.{_≡_, refl, sym, _∙_, ap}
 use mathlib.Core.List.{List, [], _∷_, _++_, map}
@@ -7,15 +7,12 @@ use mathlib.Core.Bool.{Bool, true, false}
 use lib.ListN.{length, getD, length-append}
 use Rattle.words.specs.Choice.{if}
 use Rattle.words.specs.Lists.{those}
-use Rattle.words.specs.declared.Verdict.the-variants.{Sound}
 use Rattle.words.proofs.Choices.{yes-if}
-use Rattle.words.proofs.Those.{length-map}
 use Rattle.kinds.specs.Makers.{lioOf, eioOf, msiOf, bioOf, lpcOf}
 use Rattle.kinds.specs.Used.{noLio, noEio, noBio, noMsi, noLpc, saidLio}
-use Rattle.madt.specs.Pieces.{Whole, pieces, structures}
+use Rattle.madt.specs.Pieces.{Whole}
 use Rattle.madt.specs.Rules.{isType}
 use Rattle.madt.specs.Contents.{ofType, howMany, made, standing, inFour, mapOf, placesOf, foundIn}
-use Rattle.madt.specs.Walk.{walked}
 use Rattle.madt.proofs.Contents.{made-many, standing-many}
 use Rattle.madt.proofs.Accepted.{rules-sound, found-is, few-lios, few-eios, few-msis, few-bios, few-lpcs}
 use Rattle.map_promises.specs.Walks.{InTableOrder, WalkInTableOrder}

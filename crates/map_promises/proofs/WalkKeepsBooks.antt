@@ -1,15 +1,15 @@
 -- The walk of a MADT that refuses nothing keeps its books: every structure of the map has its own place, the map keeps 36 to
 -- 38, and "its unused places, an unused half's byte among them, hold 0".
-use Prim.Native.Nat.{ℕ, zero, suc, _+_, _<_, _≤_}
+use Prim.Native.Nat.{ℕ, _+_, _<_, _≤_}
 use native.Mathlib.Nat.{eq-or-lt-of-le}
 use native.Mathlib.Omega.{arith}
 use mathlib.Core.Path.{_≡_, refl, sym, _∙_, ap, subst}
 use mathlib.Core.Logic.{_⊎_, inl, inr, ⊎-elim}
-use mathlib.Core.List.{List, [], _∷_}
-use mathlib.Core.Bool.{Bool, true, false, not, _&&_, true≢false}
-use borrow.Author.Tests.{eqb-true, eqb-false, eq-eqb, le-ltb, not-false}
+use mathlib.Core.List.{List}
+use mathlib.Core.Bool.{true, false, _&&_, true≢false}
+use borrow.Author.Tests.{eqb-true, le-ltb, not-false}
 use lib.Dec.{eqb}
-use lib.ListN.{length, getD, take, length-take}
+use lib.ListN.{length, getD}
 use Rattle.words.specs.Bytes.{byteAt}
 use Rattle.words.specs.Choice.{if}
 use Rattle.words.specs.Lists.{every}
@@ -22,7 +22,7 @@ use Rattle.kinds.specs.Ranges.{halfFits, bitInBoth, lioField, eioField, bioFiel
 use Rattle.kinds.specs.Used.{noLio, noEio, noBio, noMsi, noLpc, usedHalf, saidLio, saidLpc}
 use Rattle.kinds.specs.declared.Lio.{Lio}
 use Rattle.kinds.specs.declared.Lpc.{Lpc}
-use Rattle.lines.specs.Says.{Said, says}
+use Rattle.lines.specs.Says.{says}
 use Rattle.lines.specs.Rules.{eiosFit, biosFit, msisFit, rangesKept, tooMany}
 use Rattle.lines.specs.declared.Map.{Map}
 use Rattle.lines.specs.declared.Places.{Places}
@@ -30,7 +30,6 @@ use Rattle.madt.specs.Pieces.{Whole, pieces, structures}
 use Rattle.madt.specs.Rules.{isType, brokenField, outOfRange, sharedBit}
 use Rattle.madt.specs.Contents.{ofType, howMany, made, standing, inFour, mapOf, placesOf, foundIn}
 use Rattle.madt.specs.Walk.{walkRules, walked}
-use Rattle.madt.specs.declared.Found.{Found}
 use Rattle.madt.proofs.Types.{type-yes, of-lio, of-eio, of-msi, of-bio, of-lpc}
 use Rattle.madt.proofs.Contents.{made-many, standing-many}
 use Rattle.madt.proofs.Checks.{Kept}

@@ -1,12 +1,10 @@
 -- "At most 256 CORE": a MADT that goes through 31 to 38 has no more, enabled or not, so no more processors are listed.
-use mathlib.Core.Path.{_≡_, ap, sym, _∙_}
+use mathlib.Core.Path.{_≡_, sym}
 use mathlib.Core.List.{List}
 use Prim.Native.Nat.{ℕ, _≤_}
-use native.Mathlib.Omega.{arith}
 use Rattle.words.specs.declared.Verdict.the-variants.{Sound}
 use Rattle.madt.specs.Contents.{foundIn}
 use Rattle.madt.specs.Walk.{walked}
-use Rattle.madt.specs.declared.Found.{Found}
 use Rattle.madt.proofs.Accepted.{rules-sound, found-is, few-enabled}
 use Rattle.processors.specs.Listing.{count}
 use Rattle.processors.proofs.Agreement.{enabled-count}

@@ -1,7 +1,7 @@
 -- The map of an accepted capture is that of its MADT's structures, in table order.
 use mathlib.Core.List.{List}
 use Prim.Native.Nat.{ℕ}
-use mathlib.Core.Path.{_≡_, ap, _∙_}
+use mathlib.Core.Path.{ap, _∙_}
 use Rattle.lines.specs.declared.Map.{Map}
 use Rattle.map_promises.proofs.WalkKeepsBooks.{walk-keeps-books}
 use Rattle.map_promises.proofs.WalkInTableOrder.{walk-in-table-order}

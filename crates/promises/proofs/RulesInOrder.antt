@@ -2,10 +2,10 @@
 -- them is kept.
 use Prim.Native.Nat.{ℕ}
 use mathlib.Core.Path.{_≡_, refl, sym, _∙_, ap}
-use mathlib.Core.List.{List, _∷_, _++_}
+use mathlib.Core.List.{List, _∷_}
 use borrow.Author.Tests.{eqb-false}
 use lib.Dec.{eqb}
-use Rattle.words.specs.Refusals.{refused, firstRefusal}
+use Rattle.words.specs.Refusals.{firstRefusal}
 use Rattle.words.specs.declared.Verdict.{Verdict}
 use Rattle.words.specs.declared.Verdict.the-variants.{Sound, Refused}
 use Rattle.words.proofs.Verdicts.{not-sound, rule-kept, unless-sound, first-alone, first-joined, joined-kept, each-sound}
@@ -23,7 +23,7 @@ use Rattle.processors.specs.declared.Repeat.{Repeat}
 use Rattle.processors.specs.declared.Repeat.the-variants.{At, Nowhere}
 use Rattle.reading.specs.Scan.{madtBytes, walkOf, repeatRule, processorRule, madtRules, rulesBefore51}
 use Rattle.reading.proofs.Laws.{repeat-none}
-use Rattle.promises.specs.Captures.{NothingBefore41, NothingBefore51, NotRefusedBefore51, RulesInOrder}
+use Rattle.promises.specs.Captures.{NothingBefore51, NotRefusedBefore51, RulesInOrder}
 use Rattle.promises.proofs.RefusedExactlyForSharing.{enabled}
 
 -- 39

@@ -2,19 +2,23 @@
 use denote.Ref.{now}
 use mathlib.Core.Logic.{⊎-elim}
 use native.Mathlib.Omega.{arith}
-use mathlib.Core.Path.{_≡_, refl, sym, _∙_}
+use mathlib.Core.List.{[], _∷_, _++_}
+use mathlib.Core.Path.{_≡_, sym, _∙_}
 use Prim.Native.Nat.{_+_, _-_, _<_}
 use lib.ListN.{length}
 use Rattle.words.specs.Bytes.{byteAt, partAt}
 use Rattle.words.specs.Refusals.{firstRefusal}
 use Rattle.words.specs.declared.Verdict.the-variants.{Sound}
+use mathlib.Core.Bool.{true, false}
+use Rattle.kinds.specs.Makers.{coreOf, isEnabled}
 use Rattle.madt.specs.Pieces.{Whole}
 use Rattle.madt.specs.Rules.{structureRules}
 use Rattle.madt.specs.Contents.{howMany}
 use Rattle.madt.proofs.Pieces.{sizeAt}
-use Rattle.madt.proofs.Contents.{Next, next-enabled, next-disabled, next-lio, next-eio, next-msi, next-bio, next-lpc, next-other}
+use Rattle.madt.proofs.Types.{type-yes, type-no}
+use Rattle.madt.proofs.Contents.{count-more, count-same, one-more, one-same, four-more, four-same, enabled-same, enabled-more, disabled-more}
 use Rattle.madt.proofs.Checks.{all-kept, room-core, room-lio, room-eio, room-msi, room-bio, room-lpc}
-use Rattle.madt.proofs.Walking.{Few, Walking, walk-starts, made-by, eio-room, msi-room, bio-room, walk-ends, walk-cuts, walk-refuses, walk-goes-on}
+use Rattle.madt.proofs.Walking.{Found, Walking, walk-starts, made-by, eio-room, msi-room, bio-room, walk-ends, walk-cuts, walk-refuses, walk-goes-on}
 use borrow.Author.Needs.{needs}
 use Rattle.madt.proofs.walk.walk_table.Statement.{statement}
 use Rattle.madt.proofs.walk.walk_table.Tie as tie
@@ -94,7 +98,7 @@ add-cores c =
     let kept = all-kept _ _ _ sound in
     let type : byteAt s 0 ≡ c .before .byte-at .result = rw (sym same) (sym (c .before .byte-at .ensures)) in
     let room = room-core kept (type ∙ c .match2 .keys1) in
-    let many = l .inv .few .1 in omega arith
+    let many = l .inv .found .few .1 in omega arith
 
 from-bytes-requires : tie.Need-from-bytes-requires Inv-loop μ-loop
 from-bytes-requires c κs = search needs
@@ -113,7 +117,7 @@ add-enabled c =
     rw (sym same) (sym (c .before .before .before .before .before .before .before .check .ensures (l .inv .all) (made-by (l .inv))) ∙ c .before .before .before .before .before .enum-told .given .1) in
     let kept = all-kept _ _ _ sound in
     let type : byteAt s 0 ≡ c .before .before .before .before .byte-at .result = rw (sym same) (sym (c .before .before .before .before .byte-at .ensures)) in
-    let room = l .inv .few in omega arith
+    let room = l .inv .found .few in omega arith
 
 from-bytes-requires-2 : tie.Need-from-bytes-requires-2 Inv-loop μ-loop
 from-bytes-requires-2 c κs = search needs
@@ -241,46 +245,88 @@ loop-again c =
     let type : byteAt s 0 ≡ c .before .byte-at .result = rw (sym same) (sym (c .before .byte-at .ensures)) in
     let w = l .inv in
     let x : Whole = record { at = l .at; bytes = s } in
-    let few = w .few in
-    let next : Next base sci (w .all) x (c .match2 .map) (c .match2 .places) (c .match2 .enabled) (c .match2 .cores) × Few (c .match2 .map) (c .match2 .enabled) (c .match2 .cores) =
-    ⊎-elim (λ v. let t = type ∙ v .0 .keys1 in let free = room-core kept t in let many : l .cores < 256 = rw (w .cores-is, sym t) free in (
-      rw (v .4, v .5, v .6, v .7, w .map-is, w .places-is, w .enabled-is, w .cores-is) (next-enabled base sci (w .all) x t (rw (sym same, sym (v .1 .ensures)) (sym (v .2 .ensures) ∙ v .3 .taken))),
-      rw (v .4, v .6, v .7) (omega arith, omega arith, few .2, few .3, few .4),
-    ))
-    (⊎-elim (λ v. let t = type ∙ v .0 .keys1 in let free = room-core kept t in let many : l .cores < 256 = rw (w .cores-is, sym t) free in (
-      rw (v .4, v .5, v .6, v .7, w .map-is, w .places-is, w .enabled-is, w .cores-is) (next-disabled base sci (w .all) x t (rw (sym same, sym (v .1 .ensures)) (sym (v .2 .ensures) ∙ v .3 .left))),
-      rw (v .4, v .6, v .7) (omega arith, omega arith, few .2, few .3, few .4),
-    ))
-    (⊎-elim (λ v. let t = type ∙ v .0 .keys2 in (
-      rw (v .3, v .4, v .5, v .6, v .2 .ensures, v .1 .ensures, same, w .map-is, w .places-is, w .enabled-is, w .cores-is) (next-lio base sci (w .all) x t (rw (sym t) (room-lio kept t))),
-      rw (v .3, v .5, v .6) few,
-    ))
-    (⊎-elim (λ v. let t = type ∙ v .0 .keys3 in let room = eio-room w t (room-eio kept t) in (
-      rw (v .2, v .3, v .4, v .5, v .1 .ensures, same, w .map-is, w .places-is, w .enabled-is, w .cores-is) (next-eio base sci (w .all) x t (rw (sym t) (room-eio kept t))),
-      rw (v .2, v .4, v .5) (few .0, few .1, omega arith, few .3, few .4),
-    ))
-    (⊎-elim (λ v. let t = type ∙ v .0 .keys4 in let room = msi-room w t (room-msi kept t) in (
-      rw (v .2, v .3, v .4, v .5, v .1 .ensures, same, w .map-is, w .places-is, w .enabled-is, w .cores-is) (next-msi base sci (w .all) x t (rw (sym t) (room-msi kept t))),
-      rw (v .2, v .4, v .5) (few .0, few .1, few .2, omega arith, few .4),
-    ))
-    (⊎-elim (λ v. let t = type ∙ v .0 .keys5 in let room = bio-room w t (room-bio kept t) in (
-      rw (v .2, v .3, v .4, v .5, v .1 .ensures, same, w .map-is, w .places-is, w .enabled-is, w .cores-is) (next-bio base sci (w .all) x t (rw (sym t) (room-bio kept t))),
-      rw (v .2, v .4, v .5) (few .0, few .1, few .2, few .3, omega arith),
-    ))
-    (⊎-elim (λ v. let t = type ∙ v .0 .keys6 in (
-      rw (v .2, v .3, v .4, v .5, v .1 .ensures, same, w .map-is, w .places-is, w .enabled-is, w .cores-is) (next-lpc base sci (w .all) x t (rw (sym t) (room-lpc kept t))),
-      rw (v .2, v .4, v .5) few,
-    ))
-    (⊎-elim (λ v. let t = type ∙ v .0 .keys7 in (
-      rw (v .1, v .2, v .3, v .4, w .map-is, w .places-is, w .enabled-is, w .cores-is) (next-other base sci (w .all) x (λ h. omega arith) (λ h. omega arith) (λ h. omega arith) (λ h. omega arith) (λ h. omega arith) (λ h. omega arith)),
-      rw (v .1, v .3, v .4) few,
-    ))
-    (λ v. (
-      rw (v .1, v .2, v .3, v .4, w .map-is, w .places-is, w .enabled-is, w .cores-is) (next-other base sci (w .all) x (λ h. v .0 .rest .0 .0 .0 .0 .0 .0 .1 (sym type ∙ h)) (λ h. v .0 .rest .0 .0 .0 .0 .0 .1 (sym type ∙ h)) (λ h. v .0 .rest .0 .0 .0 .0 .1 (sym type ∙ h)) (λ h. v .0 .rest .0 .0 .0 .1 (sym type ∙ h)) (λ h. v .0 .rest .0 .0 .1 (sym type ∙ h)) (λ h. v .0 .rest .0 .1 (sym type ∙ h))),
-      rw (v .1, v .3, v .4) few,
-    )))))))))
+    let f = w .found in
+    let p = f .parts in
+    let few = f .few in
+    let next : Found base sci (w .all ++ (x ∷ [])) (c .match2 .map) (c .match2 .places) (c .match2 .enabled) (c .match2 .cores) =
+    ⊎-elim (λ v. let t = type ∙ v .0 .keys1 in let core = type-yes 17 s t in
+    let live : isEnabled (coreOf s) ≡ true = rw (sym same, sym (v .1 .ensures)) (sym (v .2 .ensures) ∙ v .3 .taken) in
+    let free : l .cores < 256 = rw (f .cores-is, sym t) (room-core kept t) in
+    rw (v .4, v .5, v .6, v .7)
+    (record {
+      parts = record { lio = one-same x (p .lio) (type-no 18 s (λ h. omega arith)); eios = four-same x (p .eios) (type-no 20 s (λ h. omega arith)); bios = four-same x (p .bios) (type-no 22 s (λ h. omega arith)); msis = four-same x (p .msis) (type-no 21 s (λ h. omega arith)); lpc = one-same x (p .lpc) (type-no 23 s (λ h. omega arith)); number = p .number };
+      enabled-is = rw (enabled-more (w .all) x core live, f .enabled-is);
+      cores-is = rw (count-more 17 (w .all) x core, f .cores-is);
+      few = (omega arith, omega arith, few .2, few .3, few .4);
+    }))
+    (⊎-elim (λ v. let t = type ∙ v .0 .keys1 in let core = type-yes 17 s t in
+    let live : isEnabled (coreOf s) ≡ false = rw (sym same, sym (v .1 .ensures)) (sym (v .2 .ensures) ∙ v .3 .left) in
+    let free : l .cores < 256 = rw (f .cores-is, sym t) (room-core kept t) in
+    rw (v .4, v .5, v .6, v .7)
+    (record {
+      parts = record { lio = one-same x (p .lio) (type-no 18 s (λ h. omega arith)); eios = four-same x (p .eios) (type-no 20 s (λ h. omega arith)); bios = four-same x (p .bios) (type-no 22 s (λ h. omega arith)); msis = four-same x (p .msis) (type-no 21 s (λ h. omega arith)); lpc = one-same x (p .lpc) (type-no 23 s (λ h. omega arith)); number = p .number };
+      enabled-is = rw (disabled-more (w .all) x core live, f .enabled-is);
+      cores-is = rw (count-more 17 (w .all) x core, f .cores-is);
+      few = (omega arith, omega arith, few .2, few .3, few .4);
+    }))
+    (⊎-elim (λ v. let t = type ∙ v .0 .keys2 in
+    rw (v .3, v .4, v .5, v .6, v .2 .ensures, v .1 .ensures, same)
+    (record {
+      parts = record { lio = one-more x (p .lio) (type-yes 18 s t) (rw (sym t) (room-lio kept t)); eios = four-same x (p .eios) (type-no 20 s (λ h. omega arith)); bios = four-same x (p .bios) (type-no 22 s (λ h. omega arith)); msis = four-same x (p .msis) (type-no 21 s (λ h. omega arith)); lpc = one-same x (p .lpc) (type-no 23 s (λ h. omega arith)); number = p .number };
+      enabled-is = rw (enabled-same (w .all) x (type-no 17 s (λ h. omega arith)), f .enabled-is);
+      cores-is = rw (count-same 17 (w .all) x (type-no 17 s (λ h. omega arith)), f .cores-is);
+      few = few;
+    }))
+    (⊎-elim (λ v. let t = type ∙ v .0 .keys3 in let room = eio-room w t (room-eio kept t) in
+    rw (v .2, v .3, v .4, v .5, v .1 .ensures, same)
+    (record {
+      parts = record { lio = one-same x (p .lio) (type-no 18 s (λ h. omega arith)); eios = four-more x (p .eios) (type-yes 20 s t) (rw (sym t) (room-eio kept t)); bios = four-same x (p .bios) (type-no 22 s (λ h. omega arith)); msis = four-same x (p .msis) (type-no 21 s (λ h. omega arith)); lpc = one-same x (p .lpc) (type-no 23 s (λ h. omega arith)); number = p .number };
+      enabled-is = rw (enabled-same (w .all) x (type-no 17 s (λ h. omega arith)), f .enabled-is);
+      cores-is = rw (count-same 17 (w .all) x (type-no 17 s (λ h. omega arith)), f .cores-is);
+      few = (few .0, few .1, omega arith, few .3, few .4);
+    }))
+    (⊎-elim (λ v. let t = type ∙ v .0 .keys4 in let room = msi-room w t (room-msi kept t) in
+    rw (v .2, v .3, v .4, v .5, v .1 .ensures, same)
+    (record {
+      parts = record { lio = one-same x (p .lio) (type-no 18 s (λ h. omega arith)); eios = four-same x (p .eios) (type-no 20 s (λ h. omega arith)); bios = four-same x (p .bios) (type-no 22 s (λ h. omega arith)); msis = four-more x (p .msis) (type-yes 21 s t) (rw (sym t) (room-msi kept t)); lpc = one-same x (p .lpc) (type-no 23 s (λ h. omega arith)); number = p .number };
+      enabled-is = rw (enabled-same (w .all) x (type-no 17 s (λ h. omega arith)), f .enabled-is);
+      cores-is = rw (count-same 17 (w .all) x (type-no 17 s (λ h. omega arith)), f .cores-is);
+      few = (few .0, few .1, few .2, omega arith, few .4);
+    }))
+    (⊎-elim (λ v. let t = type ∙ v .0 .keys5 in let room = bio-room w t (room-bio kept t) in
+    rw (v .2, v .3, v .4, v .5, v .1 .ensures, same)
+    (record {
+      parts = record { lio = one-same x (p .lio) (type-no 18 s (λ h. omega arith)); eios = four-same x (p .eios) (type-no 20 s (λ h. omega arith)); bios = four-more x (p .bios) (type-yes 22 s t) (rw (sym t) (room-bio kept t)); msis = four-same x (p .msis) (type-no 21 s (λ h. omega arith)); lpc = one-same x (p .lpc) (type-no 23 s (λ h. omega arith)); number = p .number };
+      enabled-is = rw (enabled-same (w .all) x (type-no 17 s (λ h. omega arith)), f .enabled-is);
+      cores-is = rw (count-same 17 (w .all) x (type-no 17 s (λ h. omega arith)), f .cores-is);
+      few = (few .0, few .1, few .2, few .3, omega arith);
+    }))
+    (⊎-elim (λ v. let t = type ∙ v .0 .keys6 in
+    rw (v .2, v .3, v .4, v .5, v .1 .ensures, same)
+    (record {
+      parts = record { lio = one-same x (p .lio) (type-no 18 s (λ h. omega arith)); eios = four-same x (p .eios) (type-no 20 s (λ h. omega arith)); bios = four-same x (p .bios) (type-no 22 s (λ h. omega arith)); msis = four-same x (p .msis) (type-no 21 s (λ h. omega arith)); lpc = one-more x (p .lpc) (type-yes 23 s t) (rw (sym t) (room-lpc kept t)); number = p .number };
+      enabled-is = rw (enabled-same (w .all) x (type-no 17 s (λ h. omega arith)), f .enabled-is);
+      cores-is = rw (count-same 17 (w .all) x (type-no 17 s (λ h. omega arith)), f .cores-is);
+      few = few;
+    }))
+    (⊎-elim (λ v. let t = type ∙ v .0 .keys7 in
+    rw (v .1, v .2, v .3, v .4)
+    (record {
+      parts = record { lio = one-same x (p .lio) (type-no 18 s (λ h. omega arith)); eios = four-same x (p .eios) (type-no 20 s (λ h. omega arith)); bios = four-same x (p .bios) (type-no 22 s (λ h. omega arith)); msis = four-same x (p .msis) (type-no 21 s (λ h. omega arith)); lpc = one-same x (p .lpc) (type-no 23 s (λ h. omega arith)); number = p .number };
+      enabled-is = rw (enabled-same (w .all) x (type-no 17 s (λ h. omega arith)), f .enabled-is);
+      cores-is = rw (count-same 17 (w .all) x (type-no 17 s (λ h. omega arith)), f .cores-is);
+      few = few;
+    }))
+    (λ v.
+    rw (v .1, v .2, v .3, v .4)
+    (record {
+      parts = record { lio = one-same x (p .lio) (type-no 18 s (λ h. v .0 .rest .0 .0 .0 .0 .0 .1 (sym type ∙ h))); eios = four-same x (p .eios) (type-no 20 s (λ h. v .0 .rest .0 .0 .0 .0 .1 (sym type ∙ h))); bios = four-same x (p .bios) (type-no 22 s (λ h. v .0 .rest .0 .0 .1 (sym type ∙ h))); msis = four-same x (p .msis) (type-no 21 s (λ h. v .0 .rest .0 .0 .0 .1 (sym type ∙ h))); lpc = one-same x (p .lpc) (type-no 23 s (λ h. v .0 .rest .0 .1 (sym type ∙ h))); number = p .number };
+      enabled-is = rw (enabled-same (w .all) x (type-no 17 s (λ h. v .0 .rest .0 .0 .0 .0 .0 .0 .1 (sym type ∙ h))), f .enabled-is);
+      cores-is = rw (count-same 17 (w .all) x (type-no 17 s (λ h. v .0 .rest .0 .0 .0 .0 .0 .0 .1 (sym type ∙ h))), f .cores-is);
+      few = few;
+    })))))))))
     (c .match2 .came) in
-    walk-goes-on w (λ h. c .before .before .before .before .before .before .if1 .left (size ∙ h)) sound (next .0) (next .1) (rw size)
+    walk-goes-on w (λ h. c .before .before .before .before .before .before .if1 .left (size ∙ h)) sound next (rw size)
 
 returns-3 : tie.Need-returns-3 Inv-loop μ-loop
 returns-3 c = walk-ends (c .before .loop .inv) (c .loop-test .left)
