@@ -32,7 +32,7 @@ use Rattle.text.specs.Text.{outcome}
 use Rattle.text.specs.declared.Written.{Written}
 use Rattle.text.specs.declared.Written.the-variants.{Whole, NoRoom}
 use Rattle.promises.specs.RefusalTable.{isRefusalNumber, OfTheTable}
-use Rattle.promises.specs.EveryResult.{RefusalTo, ScanRefuses, ReadRefuses, CReadRefuses, CRouteRefuses, CTraceRefuses, NoRoomLeaves, MapRouteRefuses, MapTraceRefuses}
+use Rattle.promises.specs.EveryResult.{OfTheList, RefusalBut, ScanRefuses, ReadRefuses, CReadRefuses, CRouteRefuses, CTraceRefuses, NoRoomLeaves, MapRouteRefuses, MapTraceRefuses}
 use Rattle.promises.proofs.EveryRefusal.{of-scan, to-54, reading-refusals, refused-leaves-list, route-refusals, trace-refusals, map-refusals}
 use Rattle.promises.proofs.ReadForC.{c-reading}
 use Rattle.promises.proofs.Told.{tell-none}
@@ -56,9 +56,13 @@ above-0 : (n : ℕ) → isRefusalNumber n ≡ true → 0 < n
 above-0 zero h = absurd (true≢false (sym h))
 above-0 (suc n) h = omega arith
 
-coded : (last : ℕ) (capture : List ℕ) (result : ℕ) (r : Refusal) → result ≡ refusalCode r → OfTheTable capture r → r .number ≤ last
-    → RefusalTo last capture result
-coded last capture result r e o below = (omega (arith, e, above-0 (r .number) (o .number)), (r, e, o, below))
+coded : (Never : Refusal → Type 0) (capture : List ℕ) (result : ℕ) (r : Refusal) → result ≡ refusalCode r → OfTheTable capture r → (Never r → ⊥)
+    → RefusalBut Never capture result
+coded Never capture result r e o never = (omega (arith, e, above-0 (r .number) (o .number)), (r, e, o, never))
+
+-- 60 is no refusal of the scan
+not-60 : (capture : List ℕ) (r : Refusal) → scan capture .verdict ≡ verdicts.Refused r → OfTheList r → ⊥
+not-60 capture r e l = omega (arith, to-54 capture r e)
 
 -- ---- an answer's is not
 route-below : (t : Route) → RouteFits t → ((r : Refusal) → t ≡ routes.Refused r → ⊥) → routeCode t < 2 ^ 48
@@ -98,7 +102,7 @@ shorter text room h = leb-false (length text) (length room) h
 pub scan-refuses : ScanRefuses
 scan-refuses κs a q x p r h =
     let e = sym (ap (λ (s : Scan). s .verdict) p) ∙ h in
-    (of-scan _ r e, to-54 _ r e, ap (λ (s : Scan). s .map) p ∙ of-scan-no-map _ r e)
+    (of-scan _ r e, not-60 _ r e, ap (λ (s : Scan). s .map) p ∙ of-scan-no-map _ r e)
 
 pub read-refuses : ReadRefuses
 read-refuses κs a q x p r h =
@@ -108,15 +112,15 @@ read-refuses κs a q x p r h =
 pub c-read-refuses : CReadRefuses
 c-read-refuses κs a q x p =
     ⊎-elim
-    (λ w. inl (coded 60 _ q (w .refusal) (p .0 ∙ w .result) (w .ofthetable) (omega (arith, to-54 _ (w .refusal) (w .broken))), p .1 ∙ w .kept))
+    (λ w. inl (coded (λ r. ⊥) _ q (w .refusal) (p .0 ∙ w .result) (w .ofthetable) (λ n. n), p .1 ∙ w .kept))
     (⊎-elim
-    (λ w. inl (coded 60 _ q (refused 60 0) (p .0 ∙ w .result) (tell-none _ 60 refl refl) (omega arith), p .1 ∙ w .kept))
+    (λ w. inl (coded (λ r. ⊥) _ q (refused 60 0) (p .0 ∙ w .result) (tell-none _ 60 refl refl) (λ n. n), p .1 ∙ w .kept))
     (λ w. inr (omega (arith, p .0 ∙ w .result, w .most))))
     (c-reading _ _)
 
 pub c-route-refuses : CRouteRefuses
 c-route-refuses κs a q x p =
-    ⊎-elim (λ w. inl (coded 54 _ q (w .0) (p ∙ w .2) (w .3) (to-54 _ (w .0) (w .1))))
+    ⊎-elim (λ w. inl (coded OfTheList _ q (w .0) (p ∙ w .2) (w .3) (not-60 _ (w .0) (w .1))))
     (λ w.
     let small = route-below _ (answers-fit _ (accepted-keeps-rules _ (w .0)) .0 _) (w .2) in
     inr (omega (arith, p ∙ w .1, small), (_, p ∙ w .1, w .2)))
@@ -124,7 +128,7 @@ c-route-refuses κs a q x p =
 
 pub c-trace-refuses : CTraceRefuses
 c-trace-refuses κs a q x p =
-    ⊎-elim (λ w. inl (coded 54 _ q (w .0) (p ∙ w .2) (w .3) (to-54 _ (w .0) (w .1))))
+    ⊎-elim (λ w. inl (coded OfTheList _ q (w .0) (p ∙ w .2) (w .3) (not-60 _ (w .0) (w .1))))
     (λ w.
     let small = trace-below _ (answers-fit _ (accepted-keeps-rules _ (w .0)) .1 _ _) (w .2) in
     inr (omega (arith, p ∙ w .1, small), (_, p ∙ w .1, w .2)))

@@ -47,11 +47,14 @@ Always {n} ps r Allowed Claimed =
     → Allowed κs a result x → Claimed κs a result x
 
 -- ---- over a capture. Where no list is lent, 60 is not given
+abbrev pub OfTheList : Refusal → Type 0
+OfTheList r = r .number ≡ 60
+
 abbrev pub ScanRefuses : Type 0
 ScanRefuses =
     Always scan-capture.ps scan-capture.r scan-capture-reads.Post
     (λ κs a result x. (r : Refusal) → result .verdict ≡ verdicts.Refused r
-    → OfTheTable (now (a .0)) r × (r .number ≤ 54) × (result .map ≡ emptyMap))
+    → OfTheTable (now (a .0)) r × (OfTheList r → ⊥) × (result .map ≡ emptyMap))
 
 abbrev pub ReadRefuses : Type 0
 ReadRefuses =
@@ -59,28 +62,28 @@ ReadRefuses =
     (λ κs a result x. (r : Refusal) → result .answer ≡ answers.Refused r
     → OfTheTable (now (a .0)) r × (result .map ≡ emptyMap) × (now (x .1 .0) ≡ now (a .1 .0)))
 
--- a refusal as a number, up to one of the table: 2^48 or more
-abbrev pub RefusalTo : ℕ → List ℕ → ℕ → Type 0
-RefusalTo last capture result =
-    (2 ^ 48 ≤ result) × ((r : Refusal) × (result ≡ refusalCode r) × OfTheTable capture r × (r .number ≤ last))
+-- a refusal of the table as a number, 2^48 or more; it is none of some
+abbrev pub RefusalBut : (Refusal → Type 0) → List ℕ → ℕ → Type 0
+RefusalBut Never capture result =
+    (2 ^ 48 ≤ result) × ((r : Refusal) × (result ≡ refusalCode r) × OfTheTable capture r × (Never r → ⊥))
 
 -- "its 64-bit result is the count, or refusal number × 2^48 + place"; there are at most 256 processors
 abbrev pub CReadRefuses : Type 0
 CReadRefuses =
     Always c-read.ps c-read.r c-read-reads.Post
-    (λ κs a result x. (RefusalTo 60 (now (a .0)) result × (now (x .1 .0) ≡ now (a .1 .0))) ⊎ (result ≤ 256))
+    (λ κs a result x. (RefusalBut (λ r. ⊥) (now (a .0)) result × (now (x .1 .0) ≡ now (a .1 .0))) ⊎ (result ≤ 256))
 
 -- a refusal, or below 2^48 the code of an answer that is none
 abbrev pub CRouteRefuses : Type 0
 CRouteRefuses =
     Always c-route.ps c-route.r c-route-reads.Post
-    (λ κs a result x. RefusalTo 54 (now (a .0)) result
+    (λ κs a result x. RefusalBut OfTheList (now (a .0)) result
     ⊎ ((result < 2 ^ 48) × ((t : Route) × (result ≡ routeCode t) × ((r : Refusal) → t ≡ routes.Refused r → ⊥))))
 
 abbrev pub CTraceRefuses : Type 0
 CTraceRefuses =
     Always c-trace.ps c-trace.r c-trace-reads.Post
-    (λ κs a result x. RefusalTo 54 (now (a .0)) result
+    (λ κs a result x. RefusalBut OfTheList (now (a .0)) result
     ⊎ ((result < 2 ^ 48) × ((t : Trace) × (result ≡ traceCode t) × ((r : Refusal) → t ≡ traces.Refused r → ⊥))))
 
 -- a room that is too short for the text stays as it was, and one of 16,384 bytes never is too short
