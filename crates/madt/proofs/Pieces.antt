@@ -16,7 +16,8 @@ use Rattle.tables.specs.Structures.{structureLength, brokenAt, stepAt}
 use Rattle.tables.specs.declared.Step.{Step}
 use Rattle.tables.specs.declared.Step.the-variants.{End, Structure, Broken}
 use Rattle.tables.proofs.Steps.{step-end}
-use Rattle.madt.specs.Pieces.{Piece, whole, cut, pieceAt, piecesFrom, pieces, sizeOf}
+use Rattle.madt.specs.Pieces.{Piece, whole, cut, pieceAt, piecesFrom, pieces}
+use Rattle.madt.specs.Sizes.{sizeOf}
 
 abbrev pub sizeAt : List ℕ → ℕ → ℕ
 sizeAt table at = sizeOf (stepAt table at)

@@ -1,4 +1,5 @@
 pub mod Pieces
+pub mod Sizes
 pub mod Rules
 pub mod Contents
 pub mod Walk

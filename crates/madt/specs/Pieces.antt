@@ -37,9 +37,3 @@ unfoldable pub structures : List Piece → List Whole
 structures [] = []
 structures (cut at ∷ pieces) = []
 structures (whole at s ∷ pieces) = record { at = at; bytes = s } ∷ structures pieces
-
--- the length of the structure that a step finds; 0 where it finds none
-unfoldable pub sizeOf : Step → ℕ
-sizeOf End = 0
-sizeOf Broken = 0
-sizeOf (Structure size) = size

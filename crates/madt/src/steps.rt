@@ -4,7 +4,7 @@ ghost use mathlib.Core.Path.{_≡_};
 ghost use Prim.Native.Nat.{_-_, _≤_};
 ghost use lib.ListN.{length};
 ghost use Rattle.tables.specs.Structures.{stepAt};
-ghost use Rattle.madt.specs.Pieces.{sizeOf};
+ghost use Rattle.madt.specs.Sizes.{sizeOf};
 
 // Where a structure says its type.
 pub const TYPE: usize = 0;
