@@ -3,6 +3,10 @@
  *
  * A result of 2^48 or more is a refusal: refusal number × 2^48 + place in the capture. Any other result is an answer.
  * The functions keep nothing between calls, allocate nothing and end for any bytes.
+ *
+ * The caller answers for what no proof can see. Each pointer is valid for its length, the capture's to be read, the list's
+ * to be read and written, and is not null, also where the length is 0. List and capture do not overlap, and nothing else
+ * changes them during a call. A call takes under 4 KiB of stack (docs/SPEED.md).
  */
 #ifndef YASMIRAND_H
 #define YASMIRAND_H
