@@ -94,6 +94,7 @@ check("5: total 538 + 2^24", changed(A, 6, le(538 + (1 << 24), 4)), refused(5, 0
 check("5: lengths that sum right only modulo 2^32",
       capture([(BASE, b""), (1 << 40, bytes(508))], lengths=[0xFFFFFFFF, 509]), refused(5, 0))
 check("5 before 6: a length made 0", changed(A, 26, le(0, 4)), refused(5, 0))
+check("5 before 6: total wrong, segment empty", changed(zeros((BASE, 0)), 6, le(29, 4)), refused(5, 0))
 check("5 before 6: total wrong, segments overlap", changed(zeros((BASE, 8), (BASE, 8)), 6, le(1, 4)), refused(5, 0))
 
 # Refusal 6: the segments in turn, named by their descriptor.
@@ -457,6 +458,8 @@ route("64 is nobody's where the base is 65,472", LAST_BASE, 64, "kind 2 0 0")
 trace("a slot on node 5", plus(eio(4, 5)), 4, 64, "kind 4 5 64")
 trace("the same slot on node 0", plus(eio(4, 5)), 3, 64, "kind 4 0 64")
 trace("below the slots of node 5", plus(eio(4, 5)), 4, 63, "kind 0 0 0")
+route("the second of two EIO, with one bridge", made(C, L, eio(4, 5), eio(3, 0), bio(0, 64)), 72, "kind 0 3 8")
+trace("a slot of the second MSI, with one bridge", made(C, L, eio(3, 0), msi(64, 10), msi(80, 10), bio(0, 64)), 3, 85, "kind 4 0 85")
 route("refused as the reading is", put(MSI, msi(63, 193)), 72, refused(52, 262))
 trace("refused as the reading is", b"", 3, 19, refused(1, 0))
 for name, answer in [
