@@ -41,15 +41,15 @@
 DECLARE_BUILD(gcc_o3)
 DECLARE_BUILD(clang_o2)
 
-static const struct reader builds[] = {
-    {"gcc -O2", reference_read, reference_route, reference_trace},
-    {"gcc -O3", gcc_o3_read, gcc_o3_route, gcc_o3_trace},
-    {"clang -O2", clang_o2_read, clang_o2_route, clang_o2_trace},
+enum { GCC_O2, GCC_O3, CLANG_O2, BUILDS };
+
+static const struct reader builds[BUILDS] = {
+    [GCC_O2] = {"gcc -O2", reference_read, reference_route, reference_trace},
+    [GCC_O3] = {"gcc -O3", gcc_o3_read, gcc_o3_route, gcc_o3_trace},
+    [CLANG_O2] = {"clang -O2", clang_o2_read, clang_o2_route, clang_o2_trace},
 };
 
-enum { BUILDS = sizeof builds / sizeof builds[0] };
-
-/* What Yasmirand needs, and each build: seconds, instructions or bytes. */
+/* What Yasmirand needs, and each build: microseconds, instructions or bytes. */
 struct measured {
     double yasmirand, build[BUILDS];
 };
@@ -67,6 +67,7 @@ static void print_head(const char *what)
     puts("");
 }
 
+/* One row, with the capture's length unless it is 0; counts the ratios above 1. */
 static void print_row(const char *what, size_t capture, int digits, struct measured row, struct above *above)
 {
     if (capture == 0)
@@ -380,6 +381,23 @@ static void load_board_a(const char *boards, struct capture *a)
     a->length = load_file(path, a->bytes, CAPTURE_ROOM);
 }
 
+/* Whether a row is no refusal, and all give it the same answer: else its times would say nothing. */
+static bool all_answer(const struct row *row)
+{
+    uint64_t answer = ask(&yasmirand, row->question, row->capture);
+
+    if (refusal_number(answer) != 0) {
+        printf("bench: %s: %s\n", row->what, tell_read(answer).words);
+        return false;
+    }
+    for (size_t i = 0; i < BUILDS; i++)
+        if (ask(&builds[i], row->question, row->capture) != answer) {
+            printf("bench: %s: reference.c by %s answers something else\n", row->what, builds[i].name);
+            return false;
+        }
+    return true;
+}
+
 int main(int argc, char **argv)
 {
     static struct capture a, large_tables, many_processors, one_table_often;
@@ -405,10 +423,8 @@ int main(int argc, char **argv)
     make_many_processors(&random, &many_processors);
     make_one_table_named_often(&random, &one_table_often);
     for (size_t i = 0; i < count; i++)
-        if (refusal_number(ask(&yasmirand, rows[i].question, rows[i].capture)) != 0) {
-            printf("bench: %s: %s\n", rows[i].what, tell_read(ask(&yasmirand, READ, rows[i].capture)).words);
+        if (!all_answer(&rows[i]))
             return 2;
-        }
 
     if (emulated)
         puts("Emulated: neither the times nor their ratios are those of an x86-64 machine; the instructions are.");
@@ -421,5 +437,5 @@ int main(int argc, char **argv)
         printf("bench: beside reference.c by %s, of %zu rows %zu are slower and %zu execute more instructions\n", builds[i].name,
                count, slower.rows[i], longer.rows[i]);
     printf("bench: %s\n", under_limit ? "every stack is under 4 KiB" : "a stack is not under 4 KiB");
-    return (emulated ? longer : slower).rows[0] == 0 && under_limit ? 0 : 1;
+    return (emulated ? longer : slower).rows[GCC_O2] == 0 && under_limit ? 0 : 1;
 }
