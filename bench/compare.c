@@ -1,12 +1,15 @@
 /*
  * Compares Yasmirand with reference.c: both are asked the same questions about the same captures.
  *
- *     compare BOARDS DIFFERENCES [SEED [COUNT]]
+ *     compare BOARDS DIFFERENCES PRINTED [SEED [COUNT]]
  *
- * First the cases of document 01 and the captures of the folder BOARDS. Then COUNT generated captures: boards that keep
- * all rules, boards broken on purpose in one or two ways, and noise. Of each, the result of `read`, every byte of the list
- * lent to it, and the answers of `route` and `trace` to a sample of questions are compared. A capture that the two sides
- * tell differently is written to the folder DIFFERENCES.
+ * First the cases of documents 01 and 02 and the captures of the folder BOARDS. Then COUNT generated captures: boards that
+ * keep all rules, boards broken on purpose in one or two ways, and noise. Of each, the result of `read`, every byte of the
+ * list lent to it, and the answers of `route` and `trace` to a sample of questions are compared. A capture that the two
+ * sides tell differently is written to the folder DIFFERENCES.
+ *
+ * The second place of a refusal is in no result: Yasmirand only prints it. So some refused captures are written to the
+ * folder PRINTED, each with the line that reference.c expects, and bench/run compares what ./map prints.
  *
  * Captures and lists end where the memory ends that may be touched, so that a byte too far stops the program.
  */
@@ -24,6 +27,7 @@
 #include "board.h"
 #include "damage.h"
 #include "examples.h"
+#include "files.h"
 #include "random.h"
 #include "readers.h"
 #include "valid.h"
@@ -31,7 +35,9 @@
 enum {
     DEFAULT_SEED = 1,
     DEFAULT_COUNT = 24000,
-    LEAST_HITS = 20,       /* of every refusal */
+    LEAST_HITS = 20,       /* of every refusal ... */
+    LEAST_CLASHES = 60,    /* ... and of 51, 52 and 53 */
+    PRINTED_OF_OTHERS = 3, /* captures of a refusal for ./map to print; of a clash it is as many as there must be */
     DIFFERENCES_TOLD = 5,  /* then it ends */
     LIST_ROOM = 8 * CORES_MAX + 64,
     MARGIN = 64,           /* bytes before the list that must stay */
@@ -51,6 +57,8 @@ enum {
 };
 
 enum { UNKNOWN = -1, ACCEPTED = 0 };
+
+enum { NUMBERS = 1 << 16 }; /* room for any refusal number that a result can hold */
 
 struct test {
     uint64_t number;
@@ -182,14 +190,8 @@ static void tell_difference(const struct test *test, const char *question, const
     printf("compare: case %" PRIu64 " (%s%s%s), %s:\n    Yasmirand: %s\n    reference.c: %s\n", test->number, test->what[0],
            test->what[1][0] == '\0' ? "" : ", ", test->what[1], question, yasmirand_says, reference_says);
     snprintf(path, sizeof path, "%s/case-%" PRIu64 ".cap", differences_folder, test->number);
-
-    FILE *file = fopen(path, "wb");
-
-    if (file != NULL) {
-        fwrite(test->capture.bytes, 1, test->capture.length, file);
-        fclose(file);
-        printf("    capture: %s\n", path);
-    }
+    save_file(path, test->capture.bytes, test->capture.length);
+    printf("    capture: %s\n", path);
     fflush(stdout);
     if (++differences == DIFFERENCES_TOLD) {
         printf("compare: %u differences, and no further look\n", differences);
@@ -272,6 +274,47 @@ static void compare_trace(const struct test *test, const uint8_t *capture, uint3
 
     snprintf(question, sizeof question, "trace (%" PRIu32 ", %" PRIu32 ")", vector, number);
     compare_results(test, question, by_yasmirand, by_reference, tell_trace);
+}
+
+/* ---- Second places ---- */
+
+static const char *printed_folder;
+static unsigned printed[NUMBERS]; /* captures written there, by refusal number */
+
+static bool is_clash(unsigned refusal)
+{
+    return refusal >= 51 && refusal <= 53;
+}
+
+/*
+ * reference.c tells a refusal in full as well. Number and place are those that `read` gave with a list long enough; the
+ * second place is before the place if it is a clash, and 0 if not.
+ */
+static struct reference_refusal check_judgement(const struct test *test, const uint8_t *capture, uint64_t result)
+{
+    asked = &reference;
+
+    struct reference_refusal judged = reference_judge(capture, test->capture.length);
+    uint64_t expected = refusal_number(result) == 0 ? 0 : result;
+    bool partner_before = judged.second != 0 && judged.second < judged.place;
+    bool second_good = is_clash((unsigned)judged.number) ? partner_before : judged.second == 0;
+
+    if (refused(judged.number, judged.place) != expected || !second_good)
+        tell_difference(test, "the refusal in full", tell_read(result).words, tell_refusal(judged).words);
+    return judged;
+}
+
+/* Writes a refused capture for ./map to print, unless there are enough of its number. */
+static void keep_for_map(const struct test *test, struct reference_refusal refusal)
+{
+    unsigned wanted = is_clash((unsigned)refusal.number) ? LEAST_CLASHES : PRINTED_OF_OTHERS;
+    char name[64];
+
+    if (printed[refusal.number] == wanted)
+        return;
+    printed[refusal.number]++;
+    snprintf(name, sizeof name, "case-%" PRIu64, test->number);
+    save_for_map(printed_folder, name, test->capture.bytes, test->capture.length, tell_refusal(refusal).words);
 }
 
 /* ---- What is asked ---- */
@@ -400,7 +443,10 @@ static void compare_case(struct random *random, struct test *test, unsigned *hit
 
     uint64_t result = compare_read(random, test, capture, 8 * CORES_MAX); /* long enough for any board */
     bool accepted = refusal_number(result) == 0;
+    struct reference_refusal judged = check_judgement(test, capture, result);
 
+    if (judged.number != 0)
+        keep_for_map(test, judged);
     compare_with_intent(test, result);
     result = compare_read(random, test, capture, random_list_length(random, accepted ? 8 * (size_t)result : 16));
     hits[refusal_number(result)]++;
@@ -416,9 +462,10 @@ static void compare_case(struct random *random, struct test *test, unsigned *hit
 
 /* ---- All of it ---- */
 
-static const unsigned refusals[] = {1,  2,  3,  4,  5,  6,  10, 11, 12, 13, 14, 20, 21, 22, 23, 24, 25, 26, 27, 28,
-                                    29, 30, 31, 32, 33, 34, 35, 36, 37, 38, 39, 40, 41, 42, 43, 51, 52, 53, 54, 60};
-enum { REFUSALS = sizeof refusals / sizeof refusals[0], NUMBERS = 1 << 16 };
+/* In the order of the rules: 71 to 77 stand in the place of 36. */
+static const unsigned refusals[] = {1,  2,  3,  4,  5,  6,  10, 11, 12, 13, 14, 20, 21, 22, 23, 24, 25, 26, 27, 28, 29, 30, 31,
+                                    32, 33, 34, 35, 71, 72, 73, 74, 75, 76, 77, 37, 38, 39, 40, 41, 42, 43, 51, 52, 53, 54, 60};
+enum { REFUSALS = sizeof refusals / sizeof refusals[0] };
 
 /* Prints how often each refusal was given; gives whether each was given often enough, and no other. */
 static bool hits_suffice(const unsigned *hits)
@@ -432,15 +479,18 @@ static bool hits_suffice(const unsigned *hits)
         printf("%s%4u: %4u", i > 0 && i % 10 == 0 ? "\n       " : "", refusals[i], hits[refusals[i]]);
     }
     printf("\n");
-    for (size_t i = 0; i < REFUSALS; i++)
-        if (hits[refusals[i]] < LEAST_HITS) {
-            printf("compare: refusal %u was given %u times only, and not %u\n", refusals[i], hits[refusals[i]], LEAST_HITS);
+    for (size_t i = 0; i < REFUSALS; i++) {
+        unsigned least = is_clash(refusals[i]) ? LEAST_CLASHES : LEAST_HITS;
+
+        if (hits[refusals[i]] < least) {
+            printf("compare: refusal %u was given %u times only, and not %u\n", refusals[i], hits[refusals[i]], least);
             suffice = false;
         }
+    }
     for (size_t i = 0; i < NUMBERS; i++)
         all += hits[i];
     if (all != known) {
-        printf("compare: a refusal number that document 01 does not know was given\n");
+        printf("compare: a refusal number that the documents do not know was given\n");
         suffice = false;
     }
     return suffice;
@@ -461,17 +511,19 @@ int main(int argc, char **argv)
     static struct test test;
     static unsigned hits[NUMBERS];
 
-    if (argc < 3) {
-        fprintf(stderr, "usage: compare BOARDS DIFFERENCES [SEED [COUNT]]\n");
+    if (argc < 4) {
+        fprintf(stderr, "usage: compare BOARDS DIFFERENCES PRINTED [SEED [COUNT]]\n");
         return 2;
     }
     differences_folder = argv[2];
+    printed_folder = argv[3];
 
-    uint64_t seed = argc > 3 ? strtoull(argv[3], NULL, 10) : DEFAULT_SEED;
-    uint64_t count = argc > 4 ? strtoull(argv[4], NULL, 10) : DEFAULT_COUNT;
+    uint64_t seed = argc > 4 ? strtoull(argv[4], NULL, 10) : DEFAULT_SEED;
+    uint64_t count = argc > 5 ? strtoull(argv[5], NULL, 10) : DEFAULT_COUNT;
 
     check_examples(&reference, argv[1]);
     check_examples(&yasmirand, argv[1]);
+    save_examples_for_map(argv[1], printed_folder);
     printf("%" PRIu64 " generated captures, seed %" PRIu64 "\n", count, seed);
     fflush(stdout);
     capture_end = end_of_memory(CAPTURE_ROOM);

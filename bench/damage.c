@@ -9,6 +9,17 @@
 
 /* ---- Chosen ways ---- */
 
+/* Request W-202 of document 02 puts refusals 71 to 77 in the place of 36, so a number does not say where its rule stands. */
+enum { SPLIT = 36, SPLIT_FIRST = 71, SPLIT_LAST = 77 };
+
+/* Where a refusal's rule stands in the order: neighbours there are neighbours here. */
+static unsigned standing(unsigned refusal)
+{
+    if (refusal >= SPLIT_FIRST)
+        return SPLIT + (refusal - SPLIT_FIRST);
+    return refusal > SPLIT ? refusal + (SPLIT_LAST - SPLIT_FIRST) : refusal;
+}
+
 static const struct way *way_at(size_t number)
 {
     return number < capture_way_count ? &capture_ways[number] : &madt_ways[number - capture_way_count];
@@ -29,7 +40,7 @@ const struct way *pick_way(struct random *random)
     size_t count = 0;
 
     do
-        refusal = (unsigned)between(random, 1, madt_ways[madt_way_count - 1].refusal);
+        refusal = (unsigned)between(random, 1, SPLIT_LAST);
     while (way_to(refusal, 0) == NULL); /* some numbers are free */
     while (way_to(refusal, count) != NULL)
         count++;
@@ -42,7 +53,7 @@ const struct way *pick_way_near(struct random *random, unsigned refusal)
 
     do
         way = pick_way(random);
-    while (way->refusal + 3 < refusal || way->refusal > refusal + 3);
+    while (standing(way->refusal) + 3 < standing(refusal) || standing(way->refusal) > standing(refusal) + 3);
     return way;
 }
 

@@ -1,5 +1,6 @@
 /*
- * Board A and its neighbours, the five errors that look right, and the captures of boards/: see examples.h.
+ * Board A and its neighbours, the five errors that look right, the refusals of request W-202, and the captures of boards/:
+ * see examples.h.
  */
 #define _DEFAULT_SOURCE /* opendir */
 
@@ -32,7 +33,7 @@ static void expect(struct tally *tally, const struct reader *reader, uint64_t re
     va_start(words, format);
     vprintf(format, words);
     va_end(words);
-    printf(": %s, but document 01 says %s\n", tell(result).words, tell(answer).words);
+    printf(": %s, but the documents say %s\n", tell(result).words, tell(answer).words);
 }
 
 /* ---- Board A and its neighbours ---- */
@@ -48,6 +49,7 @@ enum {
     A_EIO = 230,
     A_MSI = 243,
     A_BIO = 262,
+    A_LPC = 279,
     A_FADT = 294,
 };
 
@@ -70,16 +72,58 @@ static void load_board_a(const char *boards, struct capture *a)
     memset(a->sum_error, 0, sizeof a->sum_error);
 }
 
-/* Puts `length` bytes in the place of the MADT's bytes from `place` to the FADT, and mends what this moves. */
-static void replace_end_of_madt(struct capture *a, size_t place, const uint8_t *bytes, size_t length)
+/* A structure as the documents write it: its kind, and its fields in the order of "MADT structures". Bases and sizes are free. */
+struct written {
+    enum kind kind; /* 0: none */
+    uint32_t field[4];
+};
+
+static struct structure make_written(const struct written *written)
 {
+    const uint32_t *field = written->field;
+    struct random random = {0};
+
+    switch (written->kind) {
+    case CORE:
+        return make_core(&random, field[0], field[1], field[2]);
+    case LIO:
+        return make_lio(&random, (uint8_t[]){(uint8_t)field[0], (uint8_t)field[1]}, field + 2);
+    case HT:
+        return random_structure(&random, HT);
+    case EIO:
+        return make_eio(&random, (uint8_t)field[0], (uint8_t)field[1], field[2]);
+    case MSI:
+        return make_msi(&random, field[0], field[1]);
+    case BIO:
+        return make_bio(&random, (uint16_t)field[0], (uint16_t)field[1]);
+    case LPC:
+        return make_lpc(&random, (uint16_t)field[0]);
+    default:
+        return (struct structure){.length = 0};
+    }
+}
+
+enum { WRITTEN_MAX = 6 };
+
+/* Puts structures in the place of those that board A has from a place on, and mends what this moves. */
+static void replace_structures(struct capture *a, size_t place, const struct written written[WRITTEN_MAX])
+{
+    uint8_t bytes[WRITTEN_MAX * sizeof(struct structure)];
+    uint8_t *fadt_address = a->bytes + A_XSDT + TABLE_HEADER + 8;
+    size_t length = 0;
+
+    for (size_t i = 0; i < WRITTEN_MAX; i++) {
+        struct structure structure = make_written(&written[i]);
+
+        memcpy(bytes + length, structure.bytes, structure.length);
+        length += structure.length;
+    }
+
     size_t fadt = place + length;
     long grown = (long)fadt - (long)a->place[FADT];
-    uint8_t *fadt_address = a->bytes + A_XSDT + TABLE_HEADER + 8;
 
     memmove(a->bytes + fadt, a->bytes + a->place[FADT], a->table_length[FADT]);
-    if (length > 0)
-        memcpy(a->bytes + place, bytes, length);
+    memcpy(a->bytes + place, bytes, length);
     a->length += (size_t)grown;
     a->place[FADT] = fadt;
     a->table_length[MADT] += (size_t)grown;
@@ -89,72 +133,15 @@ static void replace_end_of_madt(struct capture *a, size_t place, const uint8_t *
     put_u64(fadt_address, get_u64(fadt_address) + (uint64_t)grown);
 }
 
-static void set_msi(struct capture *a, uint32_t start, uint32_t count)
-{
-    put_u32(a->bytes + A_MSI + MSI_START, start);
-    put_u32(a->bytes + A_MSI + MSI_COUNT, count);
-}
-
-static void set_sci(struct capture *a, uint16_t sci)
-{
-    put_u16(a->bytes + a->place[FADT] + 46, sci);
-}
-
-static void msi_63_193(struct capture *a)
-{
-    set_msi(a, 63, 193);
-}
-
-static void msi_65_192(struct capture *a)
-{
-    set_msi(a, 65, 192);
-}
-
-static void msi_that_wraps(struct capture *a)
-{
-    set_msi(a, UINT32_MAX, 2);
-}
-
-static void eio_cascade_2(struct capture *a)
-{
-    a->bytes[A_EIO + EIO_CASCADE] = 2;
-}
-
-static void bio_base_63(struct capture *a)
-{
-    put_u16(a->bytes + A_BIO + BIO_BASE, 63);
-}
-
 static void no_bio_no_lpc(struct capture *a)
 {
-    replace_end_of_madt(a, A_BIO, NULL, 0);
-    set_msi(a, 0, 256);
-    set_sci(a, 26);
-}
-
-static void no_bio_no_lpc_sci_75(struct capture *a)
-{
-    no_bio_no_lpc(a);
-    set_sci(a, 75);
-}
-
-static void second_bridge(struct capture *a, uint16_t base)
-{
-    struct random random = {0};
-    struct structure eio = make_eio(&random, 4, 5, 1), bio = make_bio(&random, 5, base);
-
-    memcpy(eio.bytes + eio.length, bio.bytes, bio.length);
-    replace_end_of_madt(a, A_FADT, eio.bytes, eio.length + bio.length);
-}
-
-static void second_bridge_at_127(struct capture *a)
-{
-    second_bridge(a, 127);
+    replace_structures(a, A_MSI, (struct written[WRITTEN_MAX]){{MSI, {0, 256}}});
+    put_u16(a->bytes + a->place[FADT] + 46, 26);
 }
 
 static void second_bridge_at_128(struct capture *a)
 {
-    second_bridge(a, 128);
+    replace_structures(a, A_FADT, (struct written[WRITTEN_MAX]){{EIO, {4, 5, 1}}, {BIO, {5, 128}}});
 }
 
 static void both_halves(struct capture *a)
@@ -205,7 +192,7 @@ static void ask_example(struct tally *tally, const struct reader *reader, const 
 static void ask_neighbours(struct tally *tally, const struct reader *reader, const char *boards)
 {
     const struct example examples[] = {
-        /* The twelve. */
+        /* The twelve; three of them are refusals and stand below. */
         {"board A", NULL, ROUTE, 72, 0, arrives(3, 8)},
         {"board A", NULL, ROUTE, 26, 0, arrives(2, 10)},
         {"board A", NULL, ROUTE, 3, 0, arrives(3, 19)},
@@ -215,20 +202,13 @@ static void ask_neighbours(struct tally *tally, const struct reader *reader, con
         {"board A", NULL, TRACE, 3, 19, lpc_cascade(83)},
         {"board A", NULL, TRACE, 3, 64, msi_slot(64, 0)},
         {"board A", NULL, TRACE, 2, 24, nothing()},
-        {"MSI start 63, count 193", msi_63_193, READ, 0, 0, refused(52, A_BIO)},
-        {"MSI start 65, count 192", msi_65_192, READ, 0, 0, refused(36, A_MSI)},
-        {"EIO cascade 2", eio_cascade_2, READ, 0, 0, refused(53, A_EIO)},
         /* Run by a program. */
         {"board A", NULL, ROUTE, 127, 0, arrives(3, 63)},
-        {"BIO base 63", bio_base_63, READ, 0, 0, refused(36, A_BIO)},
         {"no BIO, no LPC, MSI 0 to 255, SCI 26", no_bio_no_lpc, READ, 0, 0, 2},
-        {"no BIO, no LPC, MSI 0 to 255, SCI 75", no_bio_no_lpc_sci_75, READ, 0, 0, refused(54, A_BIO)},
-        {"a second bridge at 127", second_bridge_at_127, READ, 0, 0, refused(51, A_FADT + 13)},
         {"a second bridge at 128", second_bridge_at_128, READ, 0, 0, 2},
         {"a second bridge at 128", second_bridge_at_128, ROUTE, 130, 0, arrives(4, 2)},
         /* Errors that look right. */
         {"no BIO, no LPC, MSI 0 to 255", no_bio_no_lpc, TRACE, 3, 0, msi_slot(0, 0)},
-        {"MSI start 4,294,967,295, count 2", msi_that_wraps, READ, 0, 0, refused(36, A_MSI)},
         {"both LIO halves", both_halves, ROUTE, 16, 0, arrives(2, 0)},
         {"both LIO halves", both_halves, ROUTE, 20, 0, arrives(5, 4)},
         {"the RSDP's first 20 bytes sum wrong", first_20_bytes_sum_wrong, READ, 0, 0, refused(14, A_RSDP)},
@@ -396,14 +376,29 @@ static void expect_map(const struct talk *talk, const struct printed *map)
     expect_route(talk, map->sci.number, arrives(map->sci.vector, map->sci.arrival));
 }
 
-static void expect_refusal(const struct talk *talk, uint64_t refusal)
+static struct text tell_place(uint64_t place)
+{
+    struct text text;
+
+    snprintf(text.words, sizeof text.words, "place %" PRIu64, place);
+    return text;
+}
+
+static void expect_refusal(const struct talk *talk, struct reference_refusal refusal)
 {
     uint8_t list[8 * CORES_MAX];
+    uint64_t result = refused(refusal.number, refusal.place);
 
-    expect(talk->tally, talk->reader, talk->reader->read(talk->capture, talk->length, list, sizeof list), refusal, tell_read,
+    expect(talk->tally, talk->reader, talk->reader->read(talk->capture, talk->length, list, sizeof list), result, tell_read,
            "%s", talk->name);
-    expect_route(talk, 72, refusal);
-    expect_trace(talk, 3, 19, refusal);
+    expect_route(talk, 72, result);
+    expect_trace(talk, 3, 19, result);
+    if (talk->reader == &reference) { /* Yasmirand's entries for C give no second place: ./map prints it */
+        struct reference_refusal judged = reference_judge(talk->capture, talk->length);
+
+        expect(talk->tally, talk->reader, refused(judged.number, judged.place), result, tell_read, "%s, judged", talk->name);
+        expect(talk->tally, talk->reader, judged.second, refusal.second, tell_place, "%s, second place", talk->name);
+    }
 }
 
 /* Holds a reader to what must be printed for a capture. */
@@ -412,10 +407,13 @@ static void expect_printed(const struct talk *talk, char *printed)
     struct printed map = {0};
 
     if (take_word(&printed, "refused ")) {
-        uint32_t number = take_number(&printed);
+        struct reference_refusal refusal = {.number = take_number(&printed)};
 
-        take_word(&printed, " at ");
-        expect_refusal(talk, refused(number, take_number(&printed)));
+        if (take_word(&printed, " at "))
+            refusal.place = take_number(&printed);
+        if (take_word(&printed, " with "))
+            refusal.second = take_number(&printed);
+        expect_refusal(talk, refusal);
         return;
     }
     for (char *line = strtok(printed, "\n"); line != NULL; line = strtok(NULL, "\n"))
@@ -431,6 +429,112 @@ static void ask_board_a(struct tally *tally, const struct reader *reader, const 
     load_board_a(boards, &a);
     expect_printed(&(struct talk){tally, reader, "board A", a.bytes, a.length}, printed);
 }
+
+/* ---- Refusals near board A ---- */
+
+struct refused_example {
+    const char *what;
+    size_t place; /* from here on, board A has ... */
+    struct written written[WRITTEN_MAX]; /* ... these structures in place of its own */
+    const char *printed;
+};
+
+static const struct refused_example refused_examples[] = {
+    /* Of the twelve. */
+    {"MSI start 63, count 193", A_MSI, {{MSI, {63, 193}}, {BIO, {0, 64}}, {LPC, {19}}}, "refused 52 at 262 with 243"},
+    {"MSI start 65, count 192", A_MSI, {{MSI, {65, 192}}, {BIO, {0, 64}}, {LPC, {19}}}, "refused 75 at 243"},
+    {"EIO cascade 2", A_EIO, {{EIO, {2, 0, 1}}, {MSI, {64, 192}}, {BIO, {0, 64}}, {LPC, {19}}}, "refused 53 at 230 with 207"},
+    /* Run by a program. */
+    {"BIO base 63", A_BIO, {{BIO, {0, 63}}, {LPC, {19}}}, "refused 76 at 262"},
+    {"no BIO, no LPC, MSI 0 to 255, SCI 75", A_MSI, {{MSI, {0, 256}}}, "refused 54 at 262"},
+    {"a second bridge at 127", A_FADT, {{EIO, {4, 5, 1}}, {BIO, {5, 127}}}, "refused 51 at 307 with 262"},
+    /* An error that looks right. */
+    {"MSI start 4,294,967,295, count 2", A_MSI, {{MSI, {UINT32_MAX, 2}}, {BIO, {0, 64}}, {LPC, {19}}}, "refused 75 at 243"},
+    /* W-202 splits 36. The lowest number of a structure is told, before 37 and 38. */
+    {"LIO low cascade 1", A_LIO, {{LIO, {1, 9, 0xFF, 0xFF00}}}, "refused 71 at 207"},
+    {"LIO high cascade 10", A_LIO, {{LIO, {2, 10, 0xFF, 0xFF00}}}, "refused 71 at 207"},
+    {"LIO cascade 10, shared bit", A_LIO, {{LIO, {10, 2, 3, 6}}}, "refused 71 at 207"},
+    {"LIO shared bit", A_LIO, {{LIO, {9, 2, 3, 6}}}, "refused 37 at 207"},
+    {"a second LIO, cascade 10", A_FADT, {{LIO, {10, 0, 1, 0}}}, "refused 71 at 294"},
+    {"EIO cascade 1, node 64, map 0", A_EIO, {{EIO, {1, 64, 0}}}, "refused 71 at 230"},
+    {"EIO node 64, map 0", A_EIO, {{EIO, {3, 64, 0}}}, "refused 72 at 230"},
+    {"EIO map 0", A_EIO, {{EIO, {3, 0, 0}}}, "refused 73 at 230"},
+    {"MSI start 300, count 0", A_MSI, {{MSI, {300, 0}}}, "refused 74 at 243"},
+    {"MSI start 256, count 0", A_MSI, {{MSI, {256, 0}}}, "refused 74 at 243"},
+    {"a fifth MSI, count 0", A_MSI, {{MSI, {64, 1}}, {MSI, {65, 1}}, {MSI, {66, 1}}, {MSI, {67, 1}}, {MSI, {68, 0}}},
+     "refused 74 at 319"},
+    {"BIO hardware ID 64, base 63", A_BIO, {{BIO, {64, 63}}}, "refused 72 at 262"},
+    {"BIO hardware ID 256", A_BIO, {{BIO, {256, 64}}}, "refused 72 at 262"},
+    {"BIO base 65,473", A_BIO, {{BIO, {0, 65473}}}, "refused 76 at 262"},
+    {"LPC cascade 64", A_LPC, {{LPC, {64}}}, "refused 77 at 279"},
+    {"LPC cascade 275", A_LPC, {{LPC, {275}}}, "refused 77 at 279"},
+    /* W-202 says which two: each of 51 to 53 has partners of its own, and the earliest in the table is told. */
+    {"MSI 0 to 7, MSI 8 to 15, BIO", A_MSI, {{MSI, {0, 8}}, {MSI, {8, 8}}, {BIO, {0, 64}}}, "refused 52 at 281 with 243"},
+    {"BIO, MSI 66 to 67, MSI 60 to 67", A_MSI, {{BIO, {0, 64}}, {MSI, {66, 2}}, {MSI, {60, 8}}}, "refused 52 at 279 with 243"},
+    {"MSI 66 to 67, BIO, MSI 60 to 67", A_MSI, {{MSI, {66, 2}}, {BIO, {0, 64}}, {MSI, {60, 8}}}, "refused 52 at 279 with 243"},
+    {"BIO, MSI 64 to 127, MSI 100 to 107, MSI 0 to 7", A_MSI,
+     {{BIO, {0, 64}}, {MSI, {64, 64}}, {MSI, {100, 8}}, {MSI, {0, 8}}}, "refused 52 at 279 with 260"},
+    {"MSI 0 to 255, BIO on the second of two EIO", A_EIO,
+     {{EIO, {3, 0, 1}}, {EIO, {4, 5, 1}}, {MSI, {0, 256}}, {BIO, {5, 64}}}, "refused 52 at 275 with 256"},
+    {"a second BIO of the node", A_FADT, {{BIO, {0, 128}}}, "refused 52 at 294 with 262"},
+    {"the same MSI again", A_FADT, {{MSI, {64, 192}}}, "refused 52 at 294 with 243"},
+    {"the same BIO again", A_FADT, {{BIO, {0, 64}}}, "refused 51 at 294 with 262"},
+    {"bridges at 128, 64 and 100", A_EIO,
+     {{EIO, {3, 0, 1}}, {EIO, {4, 5, 1}}, {EIO, {5, 9, 1}}, {BIO, {0, 128}}, {BIO, {5, 64}}, {BIO, {9, 100}}},
+     "refused 51 at 303 with 269"},
+    {"MSI 0 to 7, bridges at 64 and 127", A_EIO,
+     {{EIO, {3, 0, 1}}, {MSI, {0, 8}}, {EIO, {4, 5, 1}}, {BIO, {0, 64}}, {BIO, {5, 127}}}, "refused 51 at 292 with 275"},
+    {"MSI 0 to 7, bridges at 64 and 128", A_EIO,
+     {{EIO, {3, 0, 1}}, {MSI, {0, 8}}, {EIO, {4, 5, 1}}, {BIO, {0, 64}}, {BIO, {5, 128}}}, "refused 52 at 275 with 243"},
+    {"EIO cascade 2, bridges at 64 and 127", A_EIO,
+     {{EIO, {2, 0, 1}}, {EIO, {4, 5, 1}}, {BIO, {0, 64}}, {BIO, {5, 127}}}, "refused 51 at 273 with 256"},
+    {"EIO cascades 3, 4, 4, 3", A_EIO, {{EIO, {3, 0, 1}}, {EIO, {4, 1, 1}}, {EIO, {4, 2, 1}}, {EIO, {3, 3, 1}}},
+     "refused 53 at 256 with 243"},
+    {"EIO cascade 5, EIO cascade 2, LIO cascades 2 and 5", A_LIO,
+     {{EIO, {5, 0, 1}}, {EIO, {2, 1, 1}}, {LIO, {2, 5, 0xFF, 0xFF00}}}, "refused 53 at 233 with 207"},
+    {"unused LIO half with byte 3, two EIO of cascade 3", A_LIO,
+     {{LIO, {2, 3, 0xFF, 0}}, {EIO, {3, 0, 1}}, {EIO, {3, 5, 1}}}, "refused 53 at 243 with 230"},
+    /* All others have no second place, though these have a partner too. */
+    {"an HT beside the EIO", A_FADT, {{HT, {0}}}, "refused 34 at 294"},
+    {"a second LPC", A_FADT, {{LPC, {20}}}, "refused 38 at 294"},
+    {"a second EIO of the node", A_FADT, {{EIO, {4, 0, 1}}}, "refused 41 at 294"},
+    {"a fourth CORE with the first one's UID", A_FADT, {{CORE, {0, 3, 1}}}, "refused 39 at 294"},
+};
+
+enum { REFUSED_EXAMPLES = sizeof refused_examples / sizeof refused_examples[0] };
+
+static void make_refused(const char *boards, const struct refused_example *example, struct capture *capture)
+{
+    load_board_a(boards, capture);
+    replace_structures(capture, example->place, example->written);
+    make_sums_good(capture);
+}
+
+static void ask_refused(struct tally *tally, const struct reader *reader, const char *boards)
+{
+    static struct capture capture;
+    char printed[64];
+
+    for (size_t i = 0; i < REFUSED_EXAMPLES; i++) {
+        make_refused(boards, &refused_examples[i], &capture);
+        snprintf(printed, sizeof printed, "%s", refused_examples[i].printed);
+        expect_printed(&(struct talk){tally, reader, refused_examples[i].what, capture.bytes, capture.length}, printed);
+    }
+}
+
+void save_examples_for_map(const char *boards, const char *folder)
+{
+    static struct capture capture;
+    char name[64];
+
+    for (size_t i = 0; i < REFUSED_EXAMPLES; i++) {
+        make_refused(boards, &refused_examples[i], &capture);
+        snprintf(name, sizeof name, "example-%zu", i + 1);
+        save_for_map(folder, name, capture.bytes, capture.length, refused_examples[i].printed);
+    }
+}
+
+/* ---- All of it ---- */
 
 /* Each NAME.cap of boards/real with its NAME.txt. */
 static void ask_real_captures(struct tally *tally, const struct reader *reader, const char *boards)
@@ -469,6 +573,7 @@ struct tally ask_examples(const struct reader *reader, const char *boards)
 
     ask_board_a(&tally, reader, boards);
     ask_neighbours(&tally, reader, boards);
+    ask_refused(&tally, reader, boards);
     ask_real_captures(&tally, reader, boards);
     return tally;
 }

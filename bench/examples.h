@@ -1,5 +1,6 @@
 /*
- * The cases that document 01 writes down, and the captures of boards/ with their printed maps: asked of one reader.
+ * The cases that document 01 writes down, cases of request W-202 of document 02, and the captures of boards/ with their
+ * printed maps: asked of one reader.
  */
 #ifndef EXAMPLES_H
 #define EXAMPLES_H
@@ -13,5 +14,8 @@ struct tally {
 
 /* Asks everything and says what is wrong. `boards` is the path of the folder boards/. */
 struct tally ask_examples(const struct reader *reader, const char *boards);
+
+/* Saves the refused cases among them for ./map to print, in a folder (files.h). Only there do Yasmirand's second places show. */
+void save_examples_for_map(const char *boards, const char *folder);
 
 #endif

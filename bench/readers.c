@@ -6,7 +6,6 @@
 #include <inttypes.h>
 #include <stdio.h>
 
-#include "reference.h"
 #include "yasmirand.h"
 
 const struct reader yasmirand = {"Yasmirand", yasmirand_read, yasmirand_route, yasmirand_trace};
@@ -72,27 +71,34 @@ unsigned refusal_number(uint64_t result)
     return (unsigned)(result >> REFUSAL_SHIFT);
 }
 
-/* "refused 36 at 243", or nothing if the result is an answer. */
-static struct text tell_refusal(uint64_t result)
+struct text tell_refusal(struct reference_refusal refusal)
 {
-    struct text text = {""};
+    struct text text;
+    int length = snprintf(text.words, sizeof text.words, "refused %" PRIu64 " at %" PRIu64, refusal.number, refusal.place);
 
-    if (refusal_number(result) != 0)
-        snprintf(text.words, sizeof text.words, "refused %u at %" PRIu64, refusal_number(result),
-                 result & ((UINT64_C(1) << REFUSAL_SHIFT) - 1));
+    if (refusal.second != 0)
+        snprintf(text.words + length, sizeof text.words - (size_t)length, " with %" PRIu64, refusal.second);
     return text;
+}
+
+/* A result that is a refusal: it carries no second place. */
+static struct text tell_refused(uint64_t result)
+{
+    uint64_t place = result & ((UINT64_C(1) << REFUSAL_SHIFT) - 1);
+
+    return tell_refusal((struct reference_refusal){refusal_number(result), place, 0});
 }
 
 /* One answer of three parts, told by a pattern for its kind; an answer of no known kind is told as a number. */
 static struct text tell_answer(uint64_t result, const char *const *kinds, size_t count)
 {
-    struct text text = tell_refusal(result);
+    struct text text;
     uint64_t kind = result >> KIND_SHIFT;
     unsigned byte = (unsigned)(result >> BYTE_SHIFT & 255);
     uint32_t value = (uint32_t)result;
 
     if (refusal_number(result) != 0)
-        return text;
+        return tell_refused(result);
     if (kind < count)
         snprintf(text.words, sizeof text.words, "%s (%u, %" PRIu32 ")", kinds[kind], byte, value);
     else
@@ -102,10 +108,11 @@ static struct text tell_answer(uint64_t result, const char *const *kinds, size_t
 
 struct text tell_read(uint64_t result)
 {
-    struct text text = tell_refusal(result);
+    struct text text;
 
-    if (refusal_number(result) == 0)
-        snprintf(text.words, sizeof text.words, "read %" PRIu64, result);
+    if (refusal_number(result) != 0)
+        return tell_refused(result);
+    snprintf(text.words, sizeof text.words, "read %" PRIu64, result);
     return text;
 }
 

@@ -7,6 +7,8 @@
 #include <stddef.h>
 #include <stdint.h>
 
+#include "reference.h"
+
 /* One implementation of the three C entries of include/yasmirand.h. */
 struct reader {
     const char *name;
@@ -39,5 +41,8 @@ struct text {
 struct text tell_read(uint64_t result);
 struct text tell_route(uint64_t result);
 struct text tell_trace(uint64_t result);
+
+/* A refusal as ./map prints it: "refused 52 at 262 with 243", or "refused 75 at 243" where the second place is 0. */
+struct text tell_refusal(struct reference_refusal refusal);
 
 #endif

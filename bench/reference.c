@@ -1,19 +1,21 @@
 /*
- * The reference: document 01 written down in plain C, from the document alone, without a look at the proved
- * reader, so that an error would have to be made twice to go unseen.
+ * The reference: document 01 and request W-202 of document 02 written down in plain C, from the documents alone, without
+ * a look at the proved reader, so that an error would have to be made twice to go unseen.
  *
  * Titles in quotation marks are sections of document 01; the numbers given to refuse() are those of its table
- * "Refusals in order".
+ * "Refusals in order", where W-202 puts 71 to 77 in the place of 36: after 35 and before 37.
  */
 #include "reference.h"
 
 #include <stdbool.h>
 #include <string.h>
 
+enum { REFUSAL_SHIFT = 48 };
+
 /* A check gives 0 when the rule holds, else the refusal as it is returned: number × 2^48 + place. */
 static uint64_t refuse(uint64_t number, uint64_t place)
 {
-    return number << 48 | place;
+    return number << REFUSAL_SHIFT | place;
 }
 
 /* Numbers are little-endian ("What the bench reads"). */
@@ -331,6 +333,11 @@ struct lpc {
     uint16_t cascade;
 };
 
+/* The structure that 51, 52 or 53 names, and the earliest one that it clashes with: places. */
+struct clash {
+    uint64_t named, partner;
+};
+
 /* What the MADT and the FADT say. LIO and LPC occur at most once; their counts are 0 or 1. */
 struct board {
     uint64_t madt, fadt; /* places */
@@ -342,6 +349,7 @@ struct board {
     struct msi msi[MSIS_MAX];
     struct bio bio[BIOS_MAX];
     struct core core[CORES_MAX];
+    struct clash clash; /* what the board is refused for, if by 51 to 53 */
 };
 
 static bool cascade_in_range(uint8_t cascade)
@@ -368,7 +376,7 @@ static uint64_t take_lio(struct board *board, const uint8_t *bytes, uint64_t pla
 
     for (int i = 0; i < 2; i++)
         if (lio.half[i].mask != 0 && !cascade_in_range(lio.half[i].cascade))
-            return refuse(36, place);
+            return refuse(71, place);
     if ((lio.half[0].mask & lio.half[1].mask) != 0)
         return refuse(37, place);
     if (board->lios == 1)
@@ -383,8 +391,12 @@ static uint64_t take_eio(struct board *board, const uint8_t *bytes, uint64_t pla
     struct eio eio = {place, bytes[3], bytes[4]};
     uint64_t node_map = u64(bytes + 5);
 
-    if (!cascade_in_range(eio.cascade) || eio.node >= NODES || node_map == 0)
-        return refuse(36, place);
+    if (!cascade_in_range(eio.cascade))
+        return refuse(71, place);
+    if (eio.node >= NODES)
+        return refuse(72, place);
+    if (node_map == 0)
+        return refuse(73, place);
     if (board->eios == EIOS_MAX)
         return refuse(38, place);
     board->eio[board->eios++] = eio;
@@ -395,8 +407,10 @@ static uint64_t take_msi(struct board *board, const uint8_t *bytes, uint64_t pla
 {
     struct msi msi = {place, u32(bytes + 11), u32(bytes + 15)};
 
-    if (msi.count < 1 || (uint64_t)msi.start + msi.count > EXTENDED_VECTORS)
-        return refuse(36, place);
+    if (msi.count < 1)
+        return refuse(74, place);
+    if ((uint64_t)msi.start + msi.count > EXTENDED_VECTORS)
+        return refuse(75, place);
     if (board->msis == MSIS_MAX)
         return refuse(38, place);
     board->msi[board->msis++] = msi;
@@ -407,8 +421,10 @@ static uint64_t take_bio(struct board *board, const uint8_t *bytes, uint64_t pla
 {
     struct bio bio = {place, u16(bytes + 13), u16(bytes + 15)};
 
-    if (bio.node >= NODES || bio.base < BASE_MIN || bio.base > BASE_MAX)
-        return refuse(36, place);
+    if (bio.node >= NODES)
+        return refuse(72, place);
+    if (bio.base < BASE_MIN || bio.base > BASE_MAX)
+        return refuse(76, place);
     if (board->bios == BIOS_MAX)
         return refuse(38, place);
     board->bio[board->bios++] = bio;
@@ -420,7 +436,7 @@ static uint64_t take_lpc(struct board *board, const uint8_t *bytes, uint64_t pla
     struct lpc lpc = {place, u16(bytes + 13)};
 
     if (lpc.cascade >= PINS)
-        return refuse(36, place);
+        return refuse(77, place);
     if (board->lpcs == 1)
         return refuse(38, place);
     board->lpcs = 1;
@@ -428,7 +444,7 @@ static uint64_t take_lpc(struct board *board, const uint8_t *bytes, uint64_t pla
     return 0;
 }
 
-/* One structure through 32 to 38; types other than 17 to 23 are passed over. */
+/* One structure through 32 to 35, 71 to 77, 37 and 38; types other than 17 to 23 are passed over. */
 static uint64_t take_structure(struct board *board, const uint8_t *bytes, uint64_t place)
 {
     static const uint8_t length_of[] = {
@@ -461,7 +477,7 @@ static uint64_t take_structure(struct board *board, const uint8_t *bytes, uint64
     }
 }
 
-/* The structures in turn, each through 31 to 38. */
+/* The structures in turn, each through 31 to 38 with 71 to 77 among them. */
 static uint64_t walk_madt(const struct capture *capture, const struct table *madt, struct board *board)
 {
     uint64_t end = madt->place + madt->length;
@@ -599,18 +615,26 @@ static uint64_t trace(const struct board *board, uint32_t vector, uint32_t numbe
 
 /* ---- "Refusals in order", 39 to 54: rules about the board as a whole ---- */
 
-static const uint64_t NO_PLACE = UINT64_MAX;
+static const struct clash NO_CLASH = {UINT64_MAX, 0};
 
 /*
- * Two structures clash: the later of them is named, unless one before it already is. After all pairs this leaves the
- * first structure in table order that clashes with an earlier one.
+ * Two structures clash by a rule: the later of them is named, unless one before it already is; the other is its partner,
+ * unless it has an earlier one. After all pairs of the rule this leaves the first structure in table order that clashes
+ * with an earlier one, and the earliest that it clashes with.
  */
-static void name_later(uint64_t *named, uint64_t place, uint64_t other)
+static void name_later(struct clash *clash, uint64_t place, uint64_t other)
 {
     uint64_t later = place > other ? place : other;
+    uint64_t earlier = place > other ? other : place;
 
-    if (later < *named)
-        *named = later;
+    if (later < clash->named || (later == clash->named && earlier < clash->partner))
+        *clash = (struct clash){later, earlier};
+}
+
+/* The refusal for the pairs that a rule has found; 0 if it found none. */
+static uint64_t refuse_clash(uint64_t number, const struct clash *clash)
+{
+    return clash->named == NO_CLASH.named ? 0 : refuse(number, clash->named);
 }
 
 static uint64_t check_ids(const struct board *board)
@@ -640,16 +664,16 @@ static uint64_t check_parts(const struct board *board)
 }
 
 /* Global numbers of different sources can meet between BIOs only: LIO has 16 to 47, bases are 64 and up. */
-static uint64_t check_global_numbers(const struct board *board)
+static uint64_t check_global_numbers(struct board *board)
 {
     for (size_t i = 0; i < board->bios; i++)
         for (size_t j = 0; j < i; j++) {
             int distance = board->bio[i].base - board->bio[j].base;
 
             if (distance > -PINS && distance < PINS)
-                return refuse(51, board->bio[i].place);
+                name_later(&board->clash, board->bio[i].place, board->bio[j].place);
         }
-    return 0;
+    return refuse_clash(51, &board->clash);
 }
 
 static bool slots_meet(const struct msi *a, const struct msi *b)
@@ -658,43 +682,39 @@ static bool slots_meet(const struct msi *a, const struct msi *b)
 }
 
 /* A BIO's pins are the vectors 0 to 63 of its EIO; a slot is on every EIO, so it meets every BIO with a pin of its number. */
-static uint64_t check_extended_vectors(const struct board *board)
+static uint64_t check_extended_vectors(struct board *board)
 {
-    uint64_t named = NO_PLACE;
-
     for (size_t i = 0; i < board->bios; i++) {
         for (size_t j = 0; j < i; j++)
             if (board->bio[i].node == board->bio[j].node)
-                name_later(&named, board->bio[i].place, board->bio[j].place);
+                name_later(&board->clash, board->bio[i].place, board->bio[j].place);
         for (size_t j = 0; j < board->msis; j++)
             if (board->msi[j].start < PINS)
-                name_later(&named, board->bio[i].place, board->msi[j].place);
+                name_later(&board->clash, board->bio[i].place, board->msi[j].place);
     }
     for (size_t i = 0; i < board->msis; i++)
         for (size_t j = 0; j < i; j++)
             if (slots_meet(&board->msi[i], &board->msi[j]))
-                name_later(&named, board->msi[i].place, board->msi[j].place);
-    return named == NO_PLACE ? 0 : refuse(52, named);
+                name_later(&board->clash, board->msi[i].place, board->msi[j].place);
+    return refuse_clash(52, &board->clash);
 }
 
 /* Both halves of the LIO may use one vector; an unused half enters nowhere. */
-static uint64_t check_core_vectors(const struct board *board)
+static uint64_t check_core_vectors(struct board *board)
 {
-    uint64_t named = NO_PLACE;
-
     for (size_t i = 0; i < board->eios; i++) {
         for (size_t j = 0; j < i; j++)
             if (board->eio[i].cascade == board->eio[j].cascade)
-                name_later(&named, board->eio[i].place, board->eio[j].place);
+                name_later(&board->clash, board->eio[i].place, board->eio[j].place);
         for (int half = 0; half < 2; half++)
             if (board->lio.half[half].mask != 0 && board->lio.half[half].cascade == board->eio[i].cascade)
-                name_later(&named, board->eio[i].place, board->lio.place);
+                name_later(&board->clash, board->eio[i].place, board->lio.place);
     }
-    return named == NO_PLACE ? 0 : refuse(53, named);
+    return refuse_clash(53, &board->clash);
 }
 
 /* Rules 39 to 54. */
-static uint64_t check_board(const struct board *board)
+static uint64_t check_board(struct board *board)
 {
     uint64_t refusal;
 
@@ -713,13 +733,14 @@ static uint64_t check_board(const struct board *board)
     return 0;
 }
 
-/* Rules 1 to 54. */
+/* Rules 1 to 54. The clash is set whatever the result is. */
 static uint64_t read_board(const uint8_t *bytes, size_t length, struct board *board)
 {
     struct capture capture;
     struct tables tables;
     uint64_t refusal;
 
+    board->clash = NO_CLASH;
     if ((refusal = open_capture(&capture, bytes, length)) != 0)
         return refusal;
     if ((refusal = find_tables(&capture, &tables)) != 0)
@@ -735,7 +756,7 @@ static uint64_t read_board(const uint8_t *bytes, size_t length, struct board *bo
     return check_board(board);
 }
 
-/* ---- The three calls ---- */
+/* ---- The calls ---- */
 
 uint64_t reference_read(const uint8_t *capture, size_t capture_len, uint8_t *list, size_t list_len)
 {
@@ -770,4 +791,13 @@ uint64_t reference_trace(const uint8_t *capture, size_t capture_len, uint32_t ve
     uint64_t refusal = read_board(capture, capture_len, &board);
 
     return refusal != 0 ? refusal : trace(&board, vector, number);
+}
+
+struct reference_refusal reference_judge(const uint8_t *capture, size_t capture_len)
+{
+    struct board board;
+    uint64_t refusal = read_board(capture, capture_len, &board);
+    uint64_t place = refusal & ((UINT64_C(1) << REFUSAL_SHIFT) - 1);
+
+    return (struct reference_refusal){refusal >> REFUSAL_SHIFT, place, board.clash.partner};
 }

@@ -1,8 +1,10 @@
 /*
- * The reference: a second implementation of document 01, in plain C, to compare Yasmirand with.
+ * The reference: a second implementation of document 01 and of request W-202 of document 02, in plain C, to compare
+ * Yasmirand with.
  *
- * The three functions take and give what the entries of include/yasmirand.h do: a result of 2^48 or more is refusal
- * number × 2^48 + place, any other is an answer.
+ * The first three functions take and give what the entries of include/yasmirand.h do: a result of 2^48 or more is refusal
+ * number × 2^48 + place, any other is an answer. The second place of a refusal has no room there; reference_judge() gives
+ * it.
  */
 #ifndef REFERENCE_H
 #define REFERENCE_H
@@ -18,5 +20,13 @@ uint64_t reference_route(const uint8_t *capture, size_t capture_len, uint32_t nu
 
 /* What arrives at a core vector with a number. */
 uint64_t reference_trace(const uint8_t *capture, size_t capture_len, uint32_t vector, uint32_t number);
+
+/* All that a refusal says. The second place is that of the structure which the refused one clashes with: 51 to 53 have one. */
+struct reference_refusal {
+    uint64_t number, place, second;
+};
+
+/* The refusal of a capture by the rules up to 54, or zeros if it keeps them. No list is lent, so 60 is never given. */
+struct reference_refusal reference_judge(const uint8_t *capture, size_t capture_len);
 
 #endif

@@ -1,6 +1,6 @@
 /*
- * Ways to break rules 31 to 54 of a board: the MADT's structures one by one, then all together. What ways_capture.c says
- * of its ways goes for these.
+ * Ways to break rules 31 to 54 of a board, with 71 to 77 in the place of 36: the MADT's structures one by one, then all
+ * together. What ways_capture.c says of its ways goes for these.
  */
 #include "ways.h"
 
@@ -229,6 +229,8 @@ static void reserved_flags(struct random *random, struct board *board)
     put_u32(core + CORE_FLAGS, get_u32(core + CORE_FLAGS) | UINT32_C(1) << between(random, 1, 31));
 }
 
+/* 71 to 77. Of several fields out of their range the lowest number is told, so some ways break more than the field they name. */
+
 static void lio_cascade(struct random *random, struct board *board)
 {
     uint8_t *lio = some(random, board, LIO);
@@ -246,11 +248,72 @@ static void eio_cascade(struct random *random, struct board *board)
     eio[EIO_CASCADE] = cascade_out_of_range(random);
 }
 
+static uint8_t node_out_of_range(struct random *random)
+{
+    return (uint8_t)between(random, NODES, one_in(random, 2) ? NODES : 255);
+}
+
+static void eio_cascade_node_and_map(struct random *random, struct board *board)
+{
+    uint8_t *eio = some(random, board, EIO);
+
+    eio[EIO_CASCADE] = cascade_out_of_range(random);
+    eio[EIO_NODE] = node_out_of_range(random);
+    put_u64(eio + EIO_NODE_MAP, 0);
+}
+
+static void eio_cascade_and_map(struct random *random, struct board *board)
+{
+    uint8_t *eio = some(random, board, EIO);
+
+    eio[EIO_CASCADE] = cascade_out_of_range(random);
+    put_u64(eio + EIO_NODE_MAP, 0);
+}
+
 static void eio_node(struct random *random, struct board *board)
 {
     uint8_t *eio = some(random, board, EIO);
 
-    eio[EIO_NODE] = (uint8_t)between(random, NODES, one_in(random, 2) ? NODES : 255);
+    eio[EIO_NODE] = node_out_of_range(random);
+}
+
+static void eio_node_and_map(struct random *random, struct board *board)
+{
+    uint8_t *eio = some(random, board, EIO);
+
+    eio[EIO_NODE] = node_out_of_range(random);
+    put_u64(eio + EIO_NODE_MAP, 0);
+}
+
+static void bio_hardware_id(struct random *random, struct board *board)
+{
+    uint8_t *bio = some(random, board, BIO);
+
+    put_u16(bio + BIO_HARDWARE_ID, (uint16_t)between(random, NODES, one_in(random, 2) ? NODES : UINT16_MAX));
+}
+
+/* With a low byte that would be right. */
+static void bio_hardware_id_high_byte(struct random *random, struct board *board)
+{
+    uint8_t *bio = some(random, board, BIO);
+
+    bio[BIO_HARDWARE_ID + 1] = (uint8_t)between(random, 1, 255);
+}
+
+static uint16_t base_out_of_range(struct random *random)
+{
+    uint64_t low = one_in(random, 2) ? BASE_MIN - 1 : below(random, BASE_MIN);
+    uint64_t high = one_in(random, 2) ? BASE_MAX + 1 : between(random, BASE_MAX + 1, UINT16_MAX);
+
+    return (uint16_t)(one_in(random, 2) ? low : high);
+}
+
+static void bio_hardware_id_and_base(struct random *random, struct board *board)
+{
+    uint8_t *bio = some(random, board, BIO);
+
+    put_u16(bio + BIO_HARDWARE_ID, (uint16_t)between(random, NODES, UINT16_MAX));
+    put_u16(bio + BIO_BASE, base_out_of_range(random));
 }
 
 static void eio_node_map(struct random *random, struct board *board)
@@ -261,6 +324,15 @@ static void eio_node_map(struct random *random, struct board *board)
 static void msi_no_slots(struct random *random, struct board *board)
 {
     put_u32(some(random, board, MSI) + MSI_COUNT, 0);
+}
+
+/* The end is past 256 as well. */
+static void msi_no_slots_past_256(struct random *random, struct board *board)
+{
+    uint8_t *msi = some(random, board, MSI);
+
+    put_u32(msi + MSI_START, (uint32_t)between(random, SLOTS + 1, one_in(random, 2) ? SLOTS + 64 : UINT32_MAX));
+    put_u32(msi + MSI_COUNT, 0);
 }
 
 static void msi_past_256(struct random *random, struct board *board)
@@ -283,28 +355,9 @@ static void msi_wraps(struct random *random, struct board *board)
     put_u32(msi + MSI_COUNT, (uint32_t)below(random, SLOTS + 1) - start);
 }
 
-static void bio_hardware_id(struct random *random, struct board *board)
-{
-    uint8_t *bio = some(random, board, BIO);
-
-    put_u16(bio + BIO_HARDWARE_ID, (uint16_t)between(random, NODES, one_in(random, 2) ? NODES : UINT16_MAX));
-}
-
-/* With a low byte that would be right. */
-static void bio_hardware_id_high_byte(struct random *random, struct board *board)
-{
-    uint8_t *bio = some(random, board, BIO);
-
-    bio[BIO_HARDWARE_ID + 1] = (uint8_t)between(random, 1, 255);
-}
-
 static void bio_base(struct random *random, struct board *board)
 {
-    uint8_t *bio = some(random, board, BIO);
-    uint64_t low = one_in(random, 2) ? BASE_MIN - 1 : below(random, BASE_MIN);
-    uint64_t high = one_in(random, 2) ? BASE_MAX + 1 : between(random, BASE_MAX + 1, UINT16_MAX);
-
-    put_u16(bio + BIO_BASE, (uint16_t)(one_in(random, 2) ? low : high));
+    put_u16(some(random, board, BIO) + BIO_BASE, base_out_of_range(random));
 }
 
 static void lpc_cascade(struct random *random, struct board *board)
@@ -332,13 +385,20 @@ static void masks_share_a_bit(struct random *random, struct board *board)
     }
 }
 
+/* 71 comes before 37. */
+static void lio_cascade_and_shared_bit(struct random *random, struct board *board)
+{
+    masks_share_a_bit(random, board);
+    lio_cascade(random, board);
+}
+
 static void have(struct random *random, struct board *board, enum kind kind, size_t count)
 {
     while (count_kind(board, kind) < count)
         insert_fresh(random, board, kind);
 }
 
-/* One too many, which is also broken in itself: 35 to 37 come before 38. */
+/* One too many, which is also broken in itself: 35, 71 to 77 and 37 come before 38. */
 
 static void surplus_core_with_flags(struct random *random, struct board *board)
 {
@@ -346,26 +406,59 @@ static void surplus_core_with_flags(struct random *random, struct board *board)
     append_structure(board, make_core(random, 0, 0, UINT32_C(1) << between(random, 1, 31)));
 }
 
-static void surplus_out_of_range(struct random *random, struct board *board)
+static void surplus_cascade(struct random *random, struct board *board)
 {
-    switch (below(random, 4)) {
-    case 0:
+    static const uint32_t masks[2] = {1, 0};
+    uint8_t cascades[2] = {cascade_out_of_range(random), 0};
+
+    if (one_in(random, 2)) {
+        have(random, board, LIO, 1);
+        append_structure(board, make_lio(random, cascades, masks));
+    } else {
         have(random, board, EIO, EIOS_MAX);
-        append_structure(board, make_eio(random, CASCADE_MIN, 0, 0));
-        break;
-    case 1:
-        have(random, board, MSI, MSIS_MAX);
-        append_structure(board, make_msi(random, 0, 0));
-        break;
-    case 2:
-        have(random, board, BIO, BIOS_MAX);
-        append_structure(board, make_bio(random, 0, BASE_MIN - 1));
-        break;
-    default:
-        have(random, board, LPC, 1);
-        append_structure(board, make_lpc(random, PINS));
-        break;
+        append_structure(board, make_eio(random, cascades[0], 0, 1));
     }
+}
+
+static void surplus_node(struct random *random, struct board *board)
+{
+    if (one_in(random, 2)) {
+        have(random, board, EIO, EIOS_MAX);
+        append_structure(board, make_eio(random, CASCADE_MIN, NODES, 1));
+    } else {
+        have(random, board, BIO, BIOS_MAX);
+        append_structure(board, make_bio(random, NODES, BASE_MIN));
+    }
+}
+
+static void surplus_node_map(struct random *random, struct board *board)
+{
+    have(random, board, EIO, EIOS_MAX);
+    append_structure(board, make_eio(random, CASCADE_MIN, 0, 0));
+}
+
+static void surplus_no_slots(struct random *random, struct board *board)
+{
+    have(random, board, MSI, MSIS_MAX);
+    append_structure(board, make_msi(random, 0, 0));
+}
+
+static void surplus_end(struct random *random, struct board *board)
+{
+    have(random, board, MSI, MSIS_MAX);
+    append_structure(board, make_msi(random, SLOTS, 1));
+}
+
+static void surplus_base(struct random *random, struct board *board)
+{
+    have(random, board, BIO, BIOS_MAX);
+    append_structure(board, make_bio(random, 0, BASE_MIN - 1));
+}
+
+static void surplus_lpc_cascade(struct random *random, struct board *board)
+{
+    have(random, board, LPC, 1);
+    append_structure(board, make_lpc(random, PINS));
 }
 
 static void surplus_lio_with_shared_bit(struct random *random, struct board *board)
@@ -473,6 +566,19 @@ static void bases_too_close(struct random *random, struct board *board)
     put_u16(bios.second + BIO_BASE, (uint16_t)base);
 }
 
+/* The first two bridges are free of each other, and the third meets both. */
+static void base_between_two(struct random *random, struct board *board)
+{
+    uint32_t gap = (uint32_t)below(random, PINS - 1);
+    uint32_t low = (uint32_t)between(random, BASE_MIN, BASE_MAX - 2 * PINS), high = low + PINS + gap;
+    bool low_first = one_in(random, 2);
+
+    have(random, board, BIO, 3);
+    put_u16(nth(board, BIO, 0) + BIO_BASE, (uint16_t)(low_first ? low : high));
+    put_u16(nth(board, BIO, 1) + BIO_BASE, (uint16_t)(low_first ? high : low));
+    put_u16(nth(board, BIO, 2) + BIO_BASE, (uint16_t)between(random, low + gap + 1, low + PINS - 1));
+}
+
 static void two_bios_of_a_node(struct random *random, struct board *board)
 {
     struct pair bios = some_two(random, board, BIO, BIOS_MAX);
@@ -505,6 +611,48 @@ static void slots_on_pins(struct random *random, struct board *board)
     set_slots(random, msi, one_in(random, 2) ? PINS - 1 : (uint32_t)below(random, PINS));
 }
 
+/* A bridge meets other structures by 52 than by 51. */
+static void bases_too_close_and_slots_on_pins(struct random *random, struct board *board)
+{
+    bases_too_close(random, board);
+    slots_on_pins(random, board);
+}
+
+/* Each MSI has slots of its own, and all of them are pins of the bridge, which stands behind them. */
+static void bio_behind_several_msis(struct random *random, struct board *board)
+{
+    uint32_t share = PINS / MSIS_MAX, first = 0;
+
+    have(random, board, MSI, between(random, 2, MSIS_MAX));
+    remove_kind(board, BIO);
+    append_structure(board, fresh_bio(random, board));
+    for (size_t i = 0; i < board->structures; i++)
+        if (board->structure[i].bytes[0] == MSI) {
+            put_u32(board->structure[i].bytes + MSI_START, first);
+            put_u32(board->structure[i].bytes + MSI_COUNT, (uint32_t)between(random, 1, share));
+            first += share;
+        }
+}
+
+/* Bridges on any of the nodes and some slots anywhere: one pair is sure to meet, others may. */
+static void crowded_vectors(struct random *random, struct board *board)
+{
+    have(random, board, EIO, 1);
+    have(random, board, BIO, between(random, 1, BIOS_MAX));
+    have(random, board, MSI, between(random, 1, MSIS_MAX));
+    for (size_t i = 0; i < board->structures; i++) {
+        uint8_t *bytes = board->structure[i].bytes;
+
+        if (bytes[0] == BIO)
+            put_u16(bytes + BIO_HARDWARE_ID, some(random, board, EIO)[EIO_NODE]);
+        if (bytes[0] == MSI) {
+            put_u32(bytes + MSI_START, (uint32_t)between(random, PINS / 2, SLOTS - PINS));
+            put_u32(bytes + MSI_COUNT, (uint32_t)between(random, 1, PINS));
+        }
+    }
+    slots_on_slots(random, board);
+}
+
 static void eio_on_the_lio(struct random *random, struct board *board)
 {
     size_t half = below(random, 2);
@@ -528,6 +676,35 @@ static void eio_on_an_eio(struct random *random, struct board *board)
     struct pair eios = some_two(random, board, EIO, EIOS_MAX);
 
     eios.second[EIO_CASCADE] = eios.first[EIO_CASCADE];
+}
+
+/* Of three EIOs on two lines, two must meet; the LIO may be on those lines too. */
+static void crowded_lines(struct random *random, struct board *board)
+{
+    uint64_t first = between(random, CASCADE_MIN, CASCADE_MAX - 1);
+    bool lio_too = one_in(random, 2);
+
+    have(random, board, EIO, between(random, 3, EIOS_MAX));
+    for (size_t i = 0; i < board->structures; i++) {
+        uint8_t *bytes = board->structure[i].bytes;
+
+        if (bytes[0] == EIO)
+            bytes[EIO_CASCADE] = (uint8_t)(first + below(random, 2));
+        for (size_t half = 0; half < 2; half++)
+            if (bytes[0] == LIO && lio_too)
+                bytes[LIO_CASCADES + half] = (uint8_t)(first + below(random, 2));
+    }
+}
+
+/* Each half of the LIO is on the line of another EIO, and it stands behind them. */
+static void lio_behind_two_eios(struct random *random, struct board *board)
+{
+    static const uint32_t masks[2] = {UINT32_C(0x0000FFFF), UINT32_C(0xFFFF0000)};
+    struct pair eios = some_two(random, board, EIO, EIOS_MAX);
+    uint8_t cascades[2] = {eios.first[EIO_CASCADE], eios.second[EIO_CASCADE]};
+
+    remove_kind(board, LIO);
+    append_structure(board, make_lio(random, cascades, masks));
 }
 
 /* Between the LIO's numbers and the lowest base. */
@@ -574,19 +751,31 @@ const struct way madt_ways[] = {
     {34, "HT", .in_board = ht},
     {35, "reserved CORE flags", .in_board = reserved_flags},
     {35, "reserved flags of the 257th CORE", .in_board = surplus_core_with_flags},
-    {36, "LIO cascade", .in_board = lio_cascade},
-    {36, "EIO cascade", .in_board = eio_cascade},
-    {36, "EIO node", .in_board = eio_node},
-    {36, "EIO node map", .in_board = eio_node_map},
-    {36, "MSI count 0", .in_board = msi_no_slots},
-    {36, "MSI end", .in_board = msi_past_256},
-    {36, "MSI end with wrap", .in_board = msi_wraps},
-    {36, "BIO hardware ID", .in_board = bio_hardware_id},
-    {36, "BIO hardware ID, high byte", .in_board = bio_hardware_id_high_byte},
-    {36, "BIO base", .in_board = bio_base},
-    {36, "LPC cascade", .in_board = lpc_cascade},
-    {36, "LPC cascade, high byte", .in_board = lpc_cascade_high_byte},
-    {36, "one too many that is out of range", .in_board = surplus_out_of_range},
+    {71, "LIO cascade", .in_board = lio_cascade},
+    {71, "LIO cascade, and masks that share a bit", .in_board = lio_cascade_and_shared_bit},
+    {71, "EIO cascade", .in_board = eio_cascade},
+    {71, "EIO cascade, node and node map", .in_board = eio_cascade_node_and_map},
+    {71, "EIO cascade and node map", .in_board = eio_cascade_and_map},
+    {71, "cascade of one too many", .in_board = surplus_cascade},
+    {72, "EIO node", .in_board = eio_node},
+    {72, "EIO node and node map", .in_board = eio_node_and_map},
+    {72, "BIO hardware ID", .in_board = bio_hardware_id},
+    {72, "BIO hardware ID, high byte", .in_board = bio_hardware_id_high_byte},
+    {72, "BIO hardware ID and base", .in_board = bio_hardware_id_and_base},
+    {72, "node of one too many", .in_board = surplus_node},
+    {73, "EIO node map", .in_board = eio_node_map},
+    {73, "node map of the fifth EIO", .in_board = surplus_node_map},
+    {74, "MSI count 0", .in_board = msi_no_slots},
+    {74, "MSI count 0, start past 256", .in_board = msi_no_slots_past_256},
+    {74, "count 0 of the fifth MSI", .in_board = surplus_no_slots},
+    {75, "MSI end", .in_board = msi_past_256},
+    {75, "MSI end with wrap", .in_board = msi_wraps},
+    {75, "end of the fifth MSI", .in_board = surplus_end},
+    {76, "BIO base", .in_board = bio_base},
+    {76, "base of the fifth BIO", .in_board = surplus_base},
+    {77, "LPC cascade", .in_board = lpc_cascade},
+    {77, "LPC cascade, high byte", .in_board = lpc_cascade_high_byte},
+    {77, "cascade of the second LPC", .in_board = surplus_lpc_cascade},
     {37, "LIO masks share a bit", .in_board = masks_share_a_bit},
     {37, "second LIO whose masks share a bit", .in_board = surplus_lio_with_shared_bit},
     {38, "257 CORE", .in_board = too_many_cores},
@@ -603,11 +792,17 @@ const struct way madt_ways[] = {
     {42, "BIO without its EIO", .in_board = bio_without_eio},
     {43, "LPC without a BIO", .in_board = lpc_without_bio},
     {51, "bases too close", .in_board = bases_too_close},
+    {51, "base between two", .in_board = base_between_two},
+    {51, "bases too close, and slots on pins", .in_board = bases_too_close_and_slots_on_pins},
     {52, "two BIO of a node", .in_board = two_bios_of_a_node},
     {52, "slots on slots", .in_board = slots_on_slots},
     {52, "slots on pins", .in_board = slots_on_pins},
+    {52, "BIO behind several MSI", .in_board = bio_behind_several_msis},
+    {52, "crowded vectors", .in_board = crowded_vectors},
     {53, "EIO on the LIO's vector", .in_board = eio_on_the_lio},
     {53, "EIO on an EIO's vector", .in_board = eio_on_an_eio},
+    {53, "crowded lines", .in_board = crowded_lines},
+    {53, "LIO behind two EIO", .in_board = lio_behind_two_eios},
     {54, "SCI between LIO and BIO", .in_board = sci_between},
     {54, "SCI behind the bridges", .in_board = sci_behind_the_bridges},
     {54, "SCI unwired", .in_board = sci_unwired},

@@ -131,7 +131,11 @@ sci 75 3 11
     "refused-2-at-0": (b"tbc" + A[3:], "refused 2 at 0\n"),
     "refused-3-at-0": (A[:3] + le(257, 2) + A[5:], "refused 3 at 0\n"),
     "refused-6-at-18": (capture([((1 << 64) - 4, bytes(8))]), "refused 6 at 18\n"),
-    "refused-53-at-230": (board([core(0, 0), core(1, 1), core(2, 2, 0), LIO, eio(2, 0), MSI, BIO, LPC]), "refused 53 at 230\n"),
+    "refused-53-at-230": (board([core(0, 0), core(1, 1), core(2, 2, 0), LIO, eio(2, 0), MSI, BIO, LPC]), "refused 53 at 230 with 207\n"),
+    # document 02's example
+    "refused-52-at-262": (board([core(0, 0), core(1, 1), core(2, 2, 0), LIO, EIO, msi(63, 193), BIO, LPC]), "refused 52 at 262 with 243\n"),
+    # one place alone: of 41, though it has a partner
+    "refused-41-at-294": (board(STRUCTURES_OF_A + [eio(4, 0)]), "refused 41 at 294\n"),
     "refused-29-at-1162": (refused_behind(1000), "refused 29 at 1162\n"),
     "refused-29-at-20162": (refused_behind(20000), "refused 29 at 20162\n"),
 }

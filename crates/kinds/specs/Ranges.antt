@@ -43,33 +43,32 @@ inputFits cascade = leb cascade 63
 abbrev pub halfFits : Half → Bool
 halfFits half = eqb (half .mask) 0 || cascadeFits (half .cascade)
 
--- ---- the first broken field of a structure, as a number; 0: every field is in its range
--- 1: cascade of a used half
-unfoldable pub lioField : Lio → ℕ
-lioField lio = if (halfFits (lio .low) && halfFits (lio .high)) 0 1
+abbrev pub halvesFit : Lio → Bool
+halvesFit lio = halfFits (lio .low) && halfFits (lio .high)
 
--- 1: cascade; 2: node; 3: node map
+-- ---- the first field of a structure that is out of its range, by the number that refuses it: "71 cascade of EIO or LIO, 72 node
+-- or hardware ID, 73 node map, 74 MSI count, 75 MSI end, 76 GSI base, 77 LPC cascade"; 0 where every field is in its range
+unfoldable pub lioField : Lio → ℕ
+lioField lio = if (halvesFit lio) 0 71
+
 unfoldable pub eioField : Eio → ℕ
 eioField eio =
-    if (not (cascadeFits (eio .cascade))) 1
-    (if (not (nodeFits (eio .node))) 2
-    (if (nodesFit (eio .nodes)) 0 3))
+    if (not (cascadeFits (eio .cascade))) 71
+    (if (not (nodeFits (eio .node))) 72
+    (if (nodesFit (eio .nodes)) 0 73))
 
--- 4: count; 5: end
 unfoldable pub msiField : Msi → ℕ
 msiField msi =
-    if (not (countFits (msi .count))) 4
-    (if (endFits (msi .start) (msi .count)) 0 5)
+    if (not (countFits (msi .count))) 74
+    (if (endFits (msi .start) (msi .count)) 0 75)
 
--- 2: hardware ID; 6: GSI base
 unfoldable pub bioField : Bio → ℕ
 bioField bio =
-    if (not (nodeFits (bio .node))) 2
-    (if (baseFits (bio .base)) 0 6)
+    if (not (nodeFits (bio .node))) 72
+    (if (baseFits (bio .base)) 0 76)
 
--- 7: cascade
 unfoldable pub lpcField : Lpc → ℕ
-lpcField lpc = if (inputFits (lpc .cascade)) 0 7
+lpcField lpc = if (inputFits (lpc .cascade)) 0 77
 
 -- ---- 37: a bit in both LIO masks
 abbrev pub bitInBoth : Lio → Bool

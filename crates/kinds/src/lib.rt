@@ -3,7 +3,7 @@
 ghost use mathlib.Core.Path.{_≡_};
 ghost use Rattle.kinds.specs.Used.{usedHalf, saidLio, saidLpc};
 
-pub mod ranges; // 36 and 37: the range of each field, and the first that is broken
+pub mod ranges; // 71 to 77 and 37: the range of each field, and the first that is broken
 pub mod makers; // type, length and maker of each of the seven kinds
 
 // One half of the LIO: the core vector that it enters by, and a bit for each input that it leads there. With mask 0 it is

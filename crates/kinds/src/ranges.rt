@@ -1,6 +1,5 @@
-// Document 01, "Ranges (H)": a test for each field, and for each kind of structure the first field out of its range, as a
-// number: 1 cascade of EIO or LIO, 2 node or hardware ID, 3 node map, 4 MSI count, 5 MSI end, 6 GSI base, 7 LPC cascade;
-// 0 where every field is in its range. Rule 36 is that the number is not 0.
+// Document 01, "Ranges (H)": a test for each field, and for each kind of structure the first field out of its range, by the number
+// that refuses it; 0 where every field is in its range.
 use crate::Bio;
 use crate::Eio;
 use crate::Half;
@@ -25,20 +24,21 @@ const BASE_LAST: u16 = 65472;
 
 const INPUT_LAST: u16 = 63;
 
-// The fields by their numbers.
-const CASCADE: u8 = 1;
+// The fields by the numbers that refuse them. CASCADE is that of an EIO or of a used half of the LIO, NODE that of an EIO or the
+// hardware ID of a BIO.
+const CASCADE: u8 = 71;
 
-const NODE: u8 = 2;
+const NODE: u8 = 72;
 
-const NODE_MAP: u8 = 3;
+const NODE_MAP: u8 = 73;
 
-const MSI_COUNT: u8 = 4;
+const MSI_COUNT: u8 = 74;
 
-const MSI_END: u8 = 5;
+const MSI_END: u8 = 75;
 
-const GSI_BASE: u8 = 6;
+const GSI_BASE: u8 = 76;
 
-const LPC_CASCADE: u8 = 7;
+const LPC_CASCADE: u8 = 77;
 
 // The cascade of an EIO or of a used half of the LIO: one of the core's hardware lines.
 pub fn cascade_fits(cascade: u8) -> bool
@@ -96,7 +96,7 @@ pub fn half_fits(half: Half) -> bool
     (half.mask == 0) | cascade_fits(half.cascade)
 }
 
-// The first broken field of a LIO.
+// The first field out of its range of a LIO.
 pub fn lio_field(lio: Lio) -> u8
     ensures { λ r. ⌜ r ≡ lioField lio ⌝ }
 {
@@ -109,7 +109,7 @@ pub fn lio_field(lio: Lio) -> u8
     }
 }
 
-// The first broken field of an EIO.
+// The first field out of its range of an EIO.
 pub fn eio_field(eio: Eio) -> u8
     ensures { λ r. ⌜ r ≡ eioField eio ⌝ }
 {
@@ -122,7 +122,7 @@ pub fn eio_field(eio: Eio) -> u8
     if nodes_fit(eio.nodes) { 0 } else { NODE_MAP }
 }
 
-// The first broken field of an MSI.
+// The first field out of its range of an MSI.
 pub fn msi_field(msi: Msi) -> u8
     ensures { λ r. ⌜ r ≡ msiField msi ⌝ }
 {
@@ -136,7 +136,7 @@ pub fn msi_field(msi: Msi) -> u8
     }
 }
 
-// The first broken field of a BIO.
+// The first field out of its range of a BIO.
 pub fn bio_field(bio: Bio) -> u8
     ensures { λ r. ⌜ r ≡ bioField bio ⌝ }
 {
@@ -146,7 +146,7 @@ pub fn bio_field(bio: Bio) -> u8
     if base_fits(bio.base) { 0 } else { GSI_BASE }
 }
 
-// The first broken field of an LPC.
+// The first field out of its range of an LPC.
 pub fn lpc_field(lpc: Lpc) -> u8
     ensures { λ r. ⌜ r ≡ lpcField lpc ⌝ }
 {

@@ -25,7 +25,7 @@ use Rattle.parts.specs.Claims.{noRun, lioClaim, eioClaim, bioClaim, msiClaim}
 use Rattle.lines.specs.Says.{Said}
 use Rattle.lines.specs.Claims.{placed, claims}
 use Rattle.lines.specs.Quiet.{farFrom, stillEach, noEioOf, eiosQuiet, biosQuiet, msisQuiet, quiet}
-use Rattle.lines.specs.Rules.{rule40, rule43, rule54, atLater, spotted, rulesTo43, rulesFrom51, mapRules}
+use Rattle.lines.specs.Rules.{rule40, rule43, rule54, atLater, atBoth, spotted, rulesTo43, rulesFrom51, mapRules}
 use Rattle.lines.specs.declared.Places.{Places}
 
 -- ---- lists of claims without a clash
@@ -278,5 +278,5 @@ module _ (said : Said) (places : Places) (room : length (said .eios) ≤ length 
   -- only 40, 43 and 54 are left
   pub quiet-first : (madt fadt : ℕ)
       → firstRefusal (mapRules said places madt fadt) ≡ firstRefusal (rule40 said madt ∷ rule43 said (places .lpc) ∷ rule54 said fadt ∷ [])
-  unfolding firstRefusal mapRules rulesTo43 rulesFrom51 unless atLater spotted
+  unfolding firstRefusal mapRules rulesTo43 rulesFrom51 unless atLater atBoth spotted
   quiet-first madt fadt = rw (no-clash 41, lone-none (claims said places) housed, no-clash 51, no-clash 52, no-clash 53)

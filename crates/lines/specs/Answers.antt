@@ -13,7 +13,7 @@ use Rattle.lines.specs.declared.Route.the-variants.{Arrives, Unwired, No
 use Rattle.lines.specs.declared.Trace.{Trace}
 use Rattle.lines.specs.declared.Trace.the-variants.{Nothing, LioInput, BioInput, LpcCascade, MsiSlot, Refused as NoTrace}
 
--- 61: "a map asked about breaks 36 to 38 or 40 to 54 (of 40, only LIO and EIO)", at place 0
+-- 61: "a map asked about breaks 36 to 38 or 40 to 54 (of 40, only LIO and EIO)", where 71 to 77 took 36's place; at place 0
 abbrev pub badMap : Refusal
 badMap = refused 61 0
 
@@ -27,7 +27,7 @@ unfoldable pub traceOf : Map → ℕ → ℕ → Trace
 traceOf map vector number = if (keepsRules map) (traced (says map) vector number) (NoTrace badMap)
 
 -- ---- as numbers
--- "refusal number × 2^48 + place"
+-- "refusal number × 2^48 + place": the second place is not in it
 abbrev pub refusalCode : Refusal → ℕ
 refusalCode refusal = refusal .number * 2 ^ 48 + refusal .place
 

@@ -1,11 +1,12 @@
--- The rules that a map must keep: document 01, "Refusals in order", 36 to 38 and 40 to 54, and their order.
+-- The rules that a map must keep: document 01, "Refusals in order", 71 to 77 (36 before W-202 of document 02), 37, 38 and 40 to 54,
+-- and their order.
 use Prim.Native.Nat.{ℕ}
 use mathlib.Core.Bool.{Bool, true, false, not, _&&_, _||_}
 use mathlib.Core.List.{List, [], _∷_, _++_}
 use lib.Dec.{eqb, ltb}
 use lib.ListN.{length}
 use Rattle.words.specs.Lists.{every}
-use Rattle.words.specs.Refusals.{refused, rule, firstRefusal, isSound}
+use Rattle.words.specs.Refusals.{refused, refusedWith, rule, firstRefusal, isSound}
 use Rattle.words.specs.declared.Verdict.{Verdict}
 use Rattle.words.specs.declared.Verdict.the-variants.{Sound, Refused}
 use Rattle.kinds.specs.Ranges.{bitInBoth, lioField, eioField, bioField, msiField, lpcField}
@@ -34,9 +35,14 @@ unfoldable pub atLater : ℕ → Pair → Verdict
 atLater number None = Sound
 atLater number (Two p q) = Refused (refused number p)
 
--- the rule of a number that two structures break, at "the first structure that clashes with an earlier"
+-- "51 to 53 are to carry a second place, the earliest structure that the named one clashes with by that rule"
+unfoldable pub atBoth : ℕ → Pair → Verdict
+atBoth number None = Sound
+atBoth number (Two p q) = Refused (refusedWith number p q)
+
+-- the rule of 51, 52 or 53, at "the first structure that clashes with an earlier"
 abbrev pub ruleClash : ℕ → List Claim → Verdict
-ruleClash number all = atLater number (firstClash number all)
+ruleClash number all = atBoth number (firstClash number all)
 
 -- a rule that is broken at a spot, or nowhere
 unfoldable pub spotted : ℕ → Spot → Verdict
@@ -44,7 +50,7 @@ spotted number Nowhere = Sound
 spotted number (At p) = Refused (refused number p)
 
 -- ---- the rules
--- 36: a range above, of every EIO, BIO and MSI
+-- 71 to 77: every EIO, BIO and MSI has its fields in their ranges
 unfoldable pub eiosFit : List Eio → Bool
 eiosFit eios = every (λ e. eqb (eioField e) 0) eios
 
@@ -54,7 +60,7 @@ biosFit bios = every (λ b. eqb (bioField b) 0) bios
 unfoldable pub msisFit : List Msi → Bool
 msisFit msis = every (λ m. eqb (msiField m) 0) msis
 
--- 36 is kept by every structure
+-- and so has every structure
 unfoldable pub rangesKept : Said → Bool
 rangesKept said =
     eqb (lioField (said .lio)) 0
@@ -73,7 +79,7 @@ rule40 said madt = rule (not (said .lio .present) || eqb (length (said .eios)) 0
 
 -- 41: EIO repeats an earlier node
 abbrev pub rule41 : List Claim → Verdict
-rule41 all = ruleClash 41 all
+rule41 all = atLater 41 (firstClash 41 all)
 
 -- 42: BIO without an EIO of its node
 abbrev pub rule42 : List Claim → Verdict
@@ -135,11 +141,11 @@ rulesFrom51 said places fadt =
 unfoldable pub mapRules : Said → Places → ℕ → ℕ → List Verdict
 mapRules said places madt fadt = rulesTo43 said places madt ++ rulesFrom51 said places fadt
 
--- the first broken rule of a map with places, from 38 on; the walk refuses 36 to 38 at their structures
+-- the first broken rule of a map with places, from 38 on; the walk refuses 71 to 77, 37 and 38 at their structures
 unfoldable pub firstBroken : Map → Places → ℕ → ℕ → Verdict
 firstBroken map places madt fadt = firstRefusal (rule (tooMany map) 38 madt ∷ mapRules (says map) places madt fadt)
 
--- ---- 61: a map asked about breaks 36 to 38 or 40 to 54
+-- ---- 61: a map asked about breaks 71 to 77, 37, 38 or 40 to 54
 -- a map has no places: any that differ will do
 abbrev pub slotPlaces : Places
 slotPlaces =

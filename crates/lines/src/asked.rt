@@ -19,7 +19,7 @@ ghost use Rattle.lines.specs.Says.{says};
 ghost use Rattle.lines.specs.Rules.{eiosFit, biosFit, msisFit, rangesKept, keepsRules};
 ghost use Rattle.lines.specs.Answers.{routeOf, traceOf};
 
-// 36, of every EIO.
+// 71 to 73, of every EIO.
 fn eios_fit(eios: [Eio; 4], n: usize) -> bool
     requires { ⌜ n ≤ 4 ⌝ }
     ensures { λ r. ⌜ r ≡ eiosFit (take n eios) ⌝ }
@@ -34,7 +34,7 @@ fn eios_fit(eios: [Eio; 4], n: usize) -> bool
     fit
 }
 
-// 36, of every BIO.
+// 72 and 76, of every BIO.
 fn bios_fit(bios: [Bio; 4], n: usize) -> bool
     requires { ⌜ n ≤ 4 ⌝ }
     ensures { λ r. ⌜ r ≡ biosFit (take n bios) ⌝ }
@@ -49,7 +49,7 @@ fn bios_fit(bios: [Bio; 4], n: usize) -> bool
     fit
 }
 
-// 36, of every MSI.
+// 74 and 75, of every MSI.
 fn msis_fit(msis: [Msi; 4], n: usize) -> bool
     requires { ⌜ n ≤ 4 ⌝ }
     ensures { λ r. ⌜ r ≡ msisFit (take n msis) ⌝ }
@@ -65,7 +65,7 @@ fn msis_fit(msis: [Msi; 4], n: usize) -> bool
 }
 
 impl Map {
-    // 36, of every structure.
+    // 71 to 77, of every structure.
     fn ranges_kept(self) -> bool
         requires { ⌜ (self .eiocount ≤ 4) × (self .biocount ≤ 4) × (self .msicount ≤ 4) ⌝ }
         ensures { λ r. ⌜ r ≡ rangesKept (says self) ⌝ }
@@ -81,7 +81,7 @@ impl Map {
         (lio == 0) & e & b & m & (lpc == 0)
     }
 
-    // Whether a map breaks none of 36 to 38 and 40 to 54: of 40, only LIO and EIO.
+    // Whether a map breaks none of 71 to 77, 37, 38 and 40 to 54: of 40, only LIO and EIO.
     pub fn keeps_rules(self) -> bool
         ensures { λ r. ⌜ r ≡ keepsRules self ⌝ }
     {

@@ -16,7 +16,7 @@ ghost use Prim.Native.Nat.{_≤_};
 ghost use Rattle.words.specs.Refusals.{rule, unless, firstRefusal, isSound};
 ghost use Rattle.words.specs.declared.Verdict.the-variants.{Refused};
 ghost use Rattle.lines.specs.Says.{says};
-ghost use Rattle.lines.specs.Rules.{atLater, spotted, noBridge, tooMany, rule40, rule43, rule54, mapRules, firstBroken, slotPlaces};
+ghost use Rattle.lines.specs.Rules.{atLater, atBoth, spotted, noBridge, tooMany, rule40, rule43, rule54, mapRules, firstBroken, slotPlaces};
 
 // ---- verdicts
 
@@ -30,7 +30,7 @@ fn rule_of(broken: bool, number: u8, place: u32) -> Verdict
     Verdict::Sound
 }
 
-// A clash: the place is that of the later structure.
+// A clash of which the later structure is told.
 fn at_later(number: u8, pair: Pair) -> Verdict
     ensures { λ r. ⌜ r ≡ atLater number pair ⌝ }
 {
@@ -38,6 +38,16 @@ fn at_later(number: u8, pair: Pair) -> Verdict
         return Verdict::Sound;
     };
     Verdict::Refused(words::refuse(number, p))
+}
+
+// A clash of which the later structure and the earliest that it clashes with are told.
+fn at_both(number: u8, pair: Pair) -> Verdict
+    ensures { λ r. ⌜ r ≡ atBoth number pair ⌝ }
+{
+    let Pair::Two(p, q) = pair else {
+        return Verdict::Sound;
+    };
+    Verdict::Refused(words::refuse_with(number, p, q))
 }
 
 // A rule that is broken at a spot, or nowhere.
@@ -155,9 +165,9 @@ impl Map {
         ensures { λ r. ⌜ r ≡ firstRefusal (mapRules (says self) places madt fadt) ⌝ }
     {
         let from54 = self.rule_54(fadt);
-        let from53 = or_else(at_later(53, self.first_clash(places, 53)), from54);
-        let from52 = or_else(at_later(52, self.first_clash(places, 52)), from53);
-        let from51 = or_else(at_later(51, self.first_clash(places, 51)), from52);
+        let from53 = or_else(at_both(53, self.first_clash(places, 53)), from54);
+        let from52 = or_else(at_both(52, self.first_clash(places, 52)), from53);
+        let from51 = or_else(at_both(51, self.first_clash(places, 51)), from52);
         let from43 = or_else(self.rule_43(places.lpc), from51);
         let from42 = or_else(spot_verdict(42, self.first_lone(places)), from43);
         let from41 = or_else(at_later(41, self.first_clash(places, 41)), from42);

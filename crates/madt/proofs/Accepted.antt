@@ -1,4 +1,4 @@
--- What it tells that the walk of a MADT refused nothing: what it found is what the structures make, each of them keeps 32 to 38,
+-- What it tells that the walk of a MADT refused nothing: what it found is what the structures make, each of them keeps the rules,
 -- and no kind has too many.
 use mathlib.Core.Path.{_≡_, refl, sym, ap}
 use mathlib.Core.Bool.{Bool, true, false}
@@ -124,7 +124,7 @@ module _ (table : List ℕ) (base : ℕ) (h : firstRefusal (walkRules table base
       let fewer = those-fewer isEnabled (made 17 coreOf all) in
       omega (arith, fewer, made-many 17 coreOf all, few-cores)
 
-  -- each of them keeps 32 to 38
+  -- each of them keeps the rules
   pub kept-at : (i : ℕ) → i < length all → (n : ℕ) × Kept n (getD all i noWhole .bytes)
   unfolding walkRules
   kept-at i l = each-kept base [] (pieces table 44) h i l

@@ -1,23 +1,24 @@
--- What 32 to 38 say of one structure: one law for each of them that is the first to be broken, and one for a structure that keeps
--- them all.
+-- What the rules say of one structure: one law for each of 32 to 34 that is the first to be broken, one for each kind, and one for
+-- a structure that keeps them all.
 use mathlib.Core.Path.{_≡_, refl, sym, _∙_}
-use mathlib.Core.Bool.{Bool, true, false, not, true≢false}
+use mathlib.Core.Bool.{Bool, true, false, not, or-false, true≢false}
 use mathlib.Core.List.{List, [], _∷_}
 use Prim.Native.Nat.{ℕ, suc, _≤_, _<_}
 use native.Mathlib.Nat.{eq-or-lt-of-le}
 use native.Mathlib.Omega.{arith}
 use mathlib.Core.Logic.{⊎-elim}
 use lib.Dec.{eqb, leb}
-use borrow.Author.Tests.{eq-eqb, ne-eqb, le-leb, leb-true, leb-false}
+use borrow.Author.Tests.{eq-eqb, ne-eqb, not-false, le-leb, leb-true, leb-false}
 use Rattle.words.specs.Bytes.{byteAt}
 use Rattle.words.specs.Choice.{if}
 use Rattle.words.specs.Refusals.{refused, rule, unless, firstRefusal}
+use Rattle.words.specs.declared.Verdict.{Verdict}
 use Rattle.words.specs.declared.Verdict.the-variants.{Sound, Refused}
 use Rattle.words.proofs.Verdicts.{first-broken, first-kept, first-sound}
-use Rattle.words.proofs.Tests.{both-left, both-right}
+use Rattle.words.proofs.Tests.{both-left, both-right, neither-left}
 use Rattle.kinds.specs.Makers.{reservedFlags, coreOf, lioOf, eioOf, msiOf, bioOf, lpcOf}
-use Rattle.kinds.specs.Ranges.{lioField, eioField, msiField, bioField, lpcField, bitInBoth}
-use Rattle.madt.specs.Rules.{isType, byType, isKnown, lengthOf, wrongLength, wrongVersion, isHt, wrongFlags, brokenField, outOfRange, sharedBit, oneTooMany, structureRules}
+use Rattle.kinds.specs.Ranges.{cascadeFits, nodeFits, nodesFit, countFits, endFits, baseFits, inputFits, halvesFit, lioField, eioField, msiField, bioField, lpcField, bitInBoth}
+use Rattle.madt.specs.Rules.{isType, byType, isKnown, lengthOf, wrongLength, wrongVersion, isHt, wrongFlags, wrongCascade, wrongNode, wrongNodes, wrongCount, wrongEnd, wrongBase, wrongInput, sharedBit, oneTooMany, structureRules}
 use Rattle.madt.proofs.Types.{type-yes, type-no, of-core, of-lio, of-ht, of-eio, of-msi, of-bio, of-lpc, of-other}
 
 above : {n m : ℕ} → n ≤ m → (m ≡ n → ⊥) → suc n ≤ m
@@ -104,6 +105,31 @@ module _ (s : List ℕ) where
           (λ t. let z : 17 ≡ 0 = sym (of-bio s _ _ _ _ _ _ _ _ t) ∙ h in omega arith)
           (λ t. let z : 15 ≡ 0 = sym (of-lpc s _ _ _ _ _ _ _ _ t) ∙ h in omega arith))
 
+-- ---- the ranges of a kind: the rules of its fields in turn say what the number of its first field out of its range says
+abbrev pub fieldRule : ℕ → ℕ → Verdict
+fieldRule field place = rule (not (eqb field 0)) field place
+
+module _ (place : ℕ) (later : List Verdict) where
+  one-field : (fits : Bool) (n : ℕ) → eqb n 0 ≡ false
+      → firstRefusal (rule (not fits) n place ∷ later) ≡ firstRefusal (fieldRule (if fits 0 n) place ∷ later)
+  unfolding if
+  one-field true n h = refl
+  one-field false n h = rw h
+
+  two-fields : (fits then : Bool) (n m : ℕ) → eqb n 0 ≡ false → eqb m 0 ≡ false
+      → firstRefusal (rule (not fits) n place ∷ rule (not then) m place ∷ later)
+      ≡ firstRefusal (fieldRule (if (not fits) n (if then 0 m)) place ∷ later)
+  unfolding firstRefusal unless if
+  two-fields true then n m h k = one-field then m k
+  two-fields false then n m h k = rw h
+
+  three-fields : (fits then last : Bool) (n m k : ℕ) → eqb n 0 ≡ false → eqb m 0 ≡ false → eqb k 0 ≡ false
+      → firstRefusal (rule (not fits) n place ∷ rule (not then) m place ∷ rule (not last) k place ∷ later)
+      ≡ firstRefusal (fieldRule (if (not fits) n (if (not then) m (if last 0 k))) place ∷ later)
+  unfolding firstRefusal unless if
+  three-fields true then last n m k h i j = two-fields then last m k i j
+  three-fields false then last n m k h i j = rw h
+
 -- ---- the first of them that is broken
 module _ (place before : ℕ) (s : List ℕ) where
   pub at-32 : wrongLength s ≡ true → firstRefusal (structureRules place before s) ≡ Refused (refused 32 place)
@@ -120,87 +146,166 @@ module _ (place before : ℕ) (s : List ℕ) where
       unfolding structureRules
       at-34 h = first-kept _ _ _ _ a (first-kept _ _ _ _ b (first-broken _ _ _ _ h))
 
-      -- what is left of them, by what the tests say
-      left : (flags range bit full : Bool) → isHt s ≡ false → wrongFlags s ≡ flags → outOfRange s ≡ range → sharedBit s ≡ bit → oneTooMany before s ≡ full
-          → firstRefusal (structureRules place before s)
-          ≡ firstRefusal (rule flags 35 place ∷ rule range 36 place ∷ rule bit 37 place ∷ rule full 38 place ∷ [])
+      -- what is left of them where a structure is no HT
+      abbrev left : List Verdict
+      left =
+          rule (wrongFlags s) 35 place
+          ∷ rule (wrongCascade s) 71 place
+          ∷ rule (wrongNode s) 72 place
+          ∷ rule (wrongNodes s) 73 place
+          ∷ rule (wrongCount s) 74 place
+          ∷ rule (wrongEnd s) 75 place
+          ∷ rule (wrongBase s) 76 place
+          ∷ rule (wrongInput s) 77 place
+          ∷ rule (sharedBit s) 37 place
+          ∷ rule (oneTooMany before s) 38 place
+          ∷ []
+
+      from-35 : isHt s ≡ false → {verdict : Verdict} → firstRefusal left ≡ verdict → firstRefusal (structureRules place before s) ≡ verdict
       unfolding structureRules
-      left flags range bit full ht d e f g = first-kept _ _ _ _ a (first-kept _ _ _ _ b (first-kept _ _ _ _ ht (rw (d, e, f, g))))
+      from-35 ht e = first-kept _ _ _ _ a (first-kept _ _ _ _ b (first-kept _ _ _ _ ht e))
 
       -- and so of each kind
       module _ {full : Bool} (many : full ≡ oneTooMany before s) where
         pub for-core : byteAt s 0 ≡ 17
             → firstRefusal (structureRules place before s) ≡ firstRefusal (rule (reservedFlags (coreOf s)) 35 place ∷ rule full 38 place ∷ [])
-        unfolding firstRefusal unless if wrongFlags sharedBit outOfRange brokenField
-        for-core t =
-            left (reservedFlags (coreOf s)) false false full (ht-no s (λ h. omega arith)) (rw (type-yes 17 s t)) (rw (of-core s _ _ _ _ _ _ _ _ t)) (rw (type-no 18 s (λ h. omega arith))) (sym many)
+        unfolding firstRefusal unless if isType wrongFlags wrongCascade wrongNode wrongNodes wrongCount wrongEnd wrongBase wrongInput sharedBit
+        for-core t = from-35 (ht-no s (λ h. omega arith)) (rw (t, sym many))
 
         pub for-lio : byteAt s 0 ≡ 18
             → firstRefusal (structureRules place before s)
-            ≡ firstRefusal (rule (not (eqb (lioField (lioOf s)) 0)) 36 place ∷ rule (bitInBoth (lioOf s)) 37 place ∷ rule full 38 place ∷ [])
-        unfolding firstRefusal unless if wrongFlags sharedBit outOfRange brokenField
+            ≡ firstRefusal (fieldRule (lioField (lioOf s)) place ∷ rule (bitInBoth (lioOf s)) 37 place ∷ rule full 38 place ∷ [])
+        unfolding firstRefusal unless if isType wrongFlags wrongCascade wrongNode wrongNodes wrongCount wrongEnd wrongBase wrongInput sharedBit lioField
         for-lio t =
-            left false (not (eqb (lioField (lioOf s)) 0)) (bitInBoth (lioOf s)) full (ht-no s (λ h. omega arith)) (rw (type-no 17 s (λ h. omega arith))) (rw (of-lio s _ _ _ _ _ _ _ _ t)) (rw (type-yes 18 s t)) (sym many)
-
-        -- a kind whose ranges are all that it has
-        for-ranged : {field : ℕ} → isType 17 s ≡ false → isType 18 s ≡ false → isType 19 s ≡ false → brokenField s ≡ field
-            → firstRefusal (structureRules place before s) ≡ firstRefusal (rule (not (eqb field 0)) 36 place ∷ rule full 38 place ∷ [])
-        unfolding firstRefusal unless if isHt wrongFlags sharedBit outOfRange
-        for-ranged {field} core lio ht e = left false (not (eqb field 0)) false full ht (rw core) (rw e) (rw lio) (sym many)
+            from-35 (ht-no s (λ h. omega arith))
+            (rw (t, or-false, sym many) (one-field place (rule (bitInBoth (lioOf s)) 37 place ∷ rule full 38 place ∷ []) (halvesFit (lioOf s)) 71 refl))
 
         pub for-eio : byteAt s 0 ≡ 20
-            → firstRefusal (structureRules place before s) ≡ firstRefusal (rule (not (eqb (eioField (eioOf s)) 0)) 36 place ∷ rule full 38 place ∷ [])
-        unfolding brokenField
+            → firstRefusal (structureRules place before s) ≡ firstRefusal (fieldRule (eioField (eioOf s)) place ∷ rule full 38 place ∷ [])
+        unfolding firstRefusal unless if isType wrongFlags wrongCascade wrongNode wrongNodes wrongCount wrongEnd wrongBase wrongInput sharedBit eioField
         for-eio t =
-            for-ranged (type-no 17 s (λ h. omega arith)) (type-no 18 s (λ h. omega arith)) (type-no 19 s (λ h. omega arith)) (of-eio s _ _ _ _ _ _ _ _ t)
+            let e = eioOf s in
+            from-35 (ht-no s (λ h. omega arith))
+            (rw (t, or-false, sym many)
+            (three-fields place (rule full 38 place ∷ []) (cascadeFits (e .cascade)) (nodeFits (e .node)) (nodesFit (e .nodes)) 71 72 73 refl refl refl))
 
         pub for-msi : byteAt s 0 ≡ 21
-            → firstRefusal (structureRules place before s) ≡ firstRefusal (rule (not (eqb (msiField (msiOf s)) 0)) 36 place ∷ rule full 38 place ∷ [])
-        unfolding brokenField
+            → firstRefusal (structureRules place before s) ≡ firstRefusal (fieldRule (msiField (msiOf s)) place ∷ rule full 38 place ∷ [])
+        unfolding firstRefusal unless if isType wrongFlags wrongCascade wrongNode wrongNodes wrongCount wrongEnd wrongBase wrongInput sharedBit msiField
         for-msi t =
-            for-ranged (type-no 17 s (λ h. omega arith)) (type-no 18 s (λ h. omega arith)) (type-no 19 s (λ h. omega arith)) (of-msi s _ _ _ _ _ _ _ _ t)
+            let m = msiOf s in
+            from-35 (ht-no s (λ h. omega arith))
+            (rw (t, sym many)
+            (two-fields place (rule full 38 place ∷ []) (countFits (m .count)) (endFits (m .start) (m .count)) 74 75 refl refl))
 
         pub for-bio : byteAt s 0 ≡ 22
-            → firstRefusal (structureRules place before s) ≡ firstRefusal (rule (not (eqb (bioField (bioOf s)) 0)) 36 place ∷ rule full 38 place ∷ [])
-        unfolding brokenField
+            → firstRefusal (structureRules place before s) ≡ firstRefusal (fieldRule (bioField (bioOf s)) place ∷ rule full 38 place ∷ [])
+        unfolding firstRefusal unless if isType wrongFlags wrongCascade wrongNode wrongNodes wrongCount wrongEnd wrongBase wrongInput sharedBit bioField
         for-bio t =
-            for-ranged (type-no 17 s (λ h. omega arith)) (type-no 18 s (λ h. omega arith)) (type-no 19 s (λ h. omega arith)) (of-bio s _ _ _ _ _ _ _ _ t)
+            let b = bioOf s in
+            from-35 (ht-no s (λ h. omega arith))
+            (rw (t, sym many)
+            (two-fields place (rule full 38 place ∷ []) (nodeFits (b .node)) (baseFits (b .base)) 72 76 refl refl))
 
         pub for-lpc : byteAt s 0 ≡ 23
-            → firstRefusal (structureRules place before s) ≡ firstRefusal (rule (not (eqb (lpcField (lpcOf s)) 0)) 36 place ∷ rule full 38 place ∷ [])
-        unfolding brokenField
+            → firstRefusal (structureRules place before s) ≡ firstRefusal (fieldRule (lpcField (lpcOf s)) place ∷ rule full 38 place ∷ [])
+        unfolding firstRefusal unless if isType wrongFlags wrongCascade wrongNode wrongNodes wrongCount wrongEnd wrongBase wrongInput sharedBit lpcField
         for-lpc t =
-            for-ranged (type-no 17 s (λ h. omega arith)) (type-no 18 s (λ h. omega arith)) (type-no 19 s (λ h. omega arith)) (of-lpc s _ _ _ _ _ _ _ _ t)
+            from-35 (ht-no s (λ h. omega arith))
+            (rw (t, sym many) (one-field place (rule full 38 place ∷ []) (inputFits (lpcOf s .cascade)) 77 refl))
 
   -- no rule speaks of a type that is passed over
   module _ (h : isKnown s ≡ false) where
+    no : (n : ℕ) → 17 ≤ n → n ≤ 23 → isType n s ≡ false
+    no = no-type s h
+
     pub passed-over : firstRefusal (structureRules place before s) ≡ Sound
-    unfolding firstRefusal unless if wrongLength wrongVersion isHt wrongFlags outOfRange brokenField sharedBit oneTooMany
+    unfolding firstRefusal unless if wrongLength wrongVersion wrongFlags wrongCascade wrongNode wrongNodes wrongCount wrongEnd wrongBase wrongInput sharedBit oneTooMany
     passed-over =
-        left (rw h) (rw h) false false false false (no-type s h 19 (omega arith) (omega arith)) (rw (no-type s h 17 (omega arith) (omega arith))) (rw (other-type s h {A = ℕ} 0 _ 0 _ _ _ _ 0))
-        (rw (no-type s h 18 (omega arith) (omega arith))) (other-type s h _ _ false _ _ _ _ false)
+        from-35 (rw h) (rw h) (ht-no s (unknown s h 19 (omega arith) (omega arith)))
+        (rw (
+          no 17 (omega arith) (omega arith),
+          no 18 (omega arith) (omega arith),
+          no 19 (omega arith) (omega arith),
+          no 20 (omega arith) (omega arith),
+          no 21 (omega arith) (omega arith),
+          no 22 (omega arith) (omega arith),
+          no 23 (omega arith) (omega arith),
+        ))
 
 -- ---- what it tells that none is broken
 pub record Kept (before : ℕ) (s : List ℕ) : Type 0 where
-  pub r32 : wrongLength s ≡ false
-  pub r33 : wrongVersion s ≡ false
-  pub r34 : isHt s ≡ false
-  pub r35 : wrongFlags s ≡ false
-  pub r36 : outOfRange s ≡ false
+  pub r71 : wrongCascade s ≡ false
+  pub r72 : wrongNode s ≡ false
+  pub r73 : wrongNodes s ≡ false
+  pub r74 : wrongCount s ≡ false
+  pub r75 : wrongEnd s ≡ false
+  pub r76 : wrongBase s ≡ false
+  pub r77 : wrongInput s ≡ false
   pub r37 : sharedBit s ≡ false
   pub r38 : oneTooMany before s ≡ false
 
 pub all-kept : (place before : ℕ) (s : List ℕ) → firstRefusal (structureRules place before s) ≡ Sound → Kept before s
 unfolding structureRules
 all-kept place before s h =
-    let a = first-sound _ _ _ _ h in
-    let b = first-sound _ _ _ _ (a .1) in
-    let c = first-sound _ _ _ _ (b .1) in
-    let d = first-sound _ _ _ _ (c .1) in
-    let e = first-sound _ _ _ _ (d .1) in
-    let f = first-sound _ _ _ _ (e .1) in
-    let g = first-sound _ _ _ _ (f .1) in
-    record { r32 = a .0; r33 = b .0; r34 = c .0; r35 = d .0; r36 = e .0; r37 = f .0; r38 = g .0 }
+    let r35 = first-sound _ _ _ _ (first-sound _ _ _ _ (first-sound _ _ _ _ (first-sound _ _ _ _ h .1) .1) .1) in
+    let r71 = first-sound _ _ _ _ (r35 .1) in
+    let r72 = first-sound _ _ _ _ (r71 .1) in
+    let r73 = first-sound _ _ _ _ (r72 .1) in
+    let r74 = first-sound _ _ _ _ (r73 .1) in
+    let r75 = first-sound _ _ _ _ (r74 .1) in
+    let r76 = first-sound _ _ _ _ (r75 .1) in
+    let r77 = first-sound _ _ _ _ (r76 .1) in
+    let r37 = first-sound _ _ _ _ (r77 .1) in
+    let r38 = first-sound _ _ _ _ (r37 .1) in
+    record {
+      r71 = r71 .0;
+      r72 = r72 .0;
+      r73 = r73 .0;
+      r74 = r74 .0;
+      r75 = r75 .0;
+      r76 = r76 .0;
+      r77 = r77 .0;
+      r37 = r37 .0;
+      r38 = r38 .0;
+    }
+
+-- its fields are in their ranges
+module _ {before : ℕ} {s : List ℕ} (k : Kept before s) where
+  pub fits-lio : byteAt s 0 ≡ 18 → eqb (lioField (lioOf s)) 0 ≡ true
+  unfolding isType wrongCascade lioField if
+  fits-lio t =
+      let r71 = rw t at (k .r71) in
+      rw (not-false (halvesFit (lioOf s)) (neither-left (not (halvesFit (lioOf s))) false r71))
+
+  pub fits-eio : byteAt s 0 ≡ 20 → eqb (eioField (eioOf s)) 0 ≡ true
+  unfolding isType wrongCascade wrongNode wrongNodes eioField if
+  fits-eio t =
+      let e = eioOf s in
+      let r71 = rw t at (k .r71) in
+      let r72 = neither-left (not (nodeFits (e .node))) false (rw t at (k .r72)) in
+      let r73 = not-false (nodesFit (e .nodes)) (rw t at (k .r73)) in
+      rw (r71, r72, r73)
+
+  pub fits-msi : byteAt s 0 ≡ 21 → eqb (msiField (msiOf s)) 0 ≡ true
+  unfolding isType wrongCount wrongEnd msiField if
+  fits-msi t =
+      let m = msiOf s in
+      let r74 = rw t at (k .r74) in
+      let r75 = not-false (endFits (m .start) (m .count)) (rw t at (k .r75)) in
+      rw (r74, r75)
+
+  pub fits-bio : byteAt s 0 ≡ 22 → eqb (bioField (bioOf s)) 0 ≡ true
+  unfolding isType wrongNode wrongBase bioField if
+  fits-bio t =
+      let b = bioOf s in
+      let r72 = rw t at (k .r72) in
+      let r76 = not-false (baseFits (b .base)) (rw t at (k .r76)) in
+      rw (r72, r76)
+
+  pub fits-lpc : byteAt s 0 ≡ 23 → eqb (lpcField (lpcOf s)) 0 ≡ true
+  unfolding isType wrongInput lpcField if
+  fits-lpc t = rw (not-false (inputFits (lpcOf s .cascade)) (rw t at (k .r77)))
 
 -- the structure is not one too many of its kind
 module _ {before : ℕ} {s : List ℕ} (k : Kept before s) where

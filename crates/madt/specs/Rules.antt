@@ -1,6 +1,7 @@
--- Document 01, "MADT structures" and "Refusals in order", 32 to 38: the rules for one structure, whose own bytes are s.
+-- Document 01, "MADT structures" and "Refusals in order", 32 to 38, with 36 split into 71 to 77 by W-202 of document 02: the rules
+-- for one structure, whose own bytes are s.
 use Prim.Native.Nat.{ℕ}
-use mathlib.Core.Bool.{Bool, false, not, _&&_}
+use mathlib.Core.Bool.{Bool, false, not, _&&_, _||_}
 use mathlib.Core.List.{List, [], _∷_}
 use lib.Dec.{eqb, leb}
 use Rattle.words.specs.Bytes.{byteAt}
@@ -8,7 +9,7 @@ use Rattle.words.specs.Choice.{if}
 use Rattle.words.specs.Refusals.{rule}
 use Rattle.words.specs.declared.Verdict.{Verdict}
 use Rattle.kinds.specs.Makers.{reservedFlags, coreOf, lioOf, eioOf, msiOf, bioOf, lpcOf}
-use Rattle.kinds.specs.Ranges.{lioField, eioField, msiField, bioField, lpcField, bitInBoth}
+use Rattle.kinds.specs.Ranges.{cascadeFits, nodeFits, nodesFit, countFits, endFits, baseFits, inputFits, halvesFit, bitInBoth}
 
 -- "Type at 0": the structure is of the kind with a type number
 unfoldable pub isType : ℕ → List ℕ → Bool
@@ -50,13 +51,33 @@ isHt s = isType 19 s
 unfoldable pub wrongFlags : List ℕ → Bool
 wrongFlags s = isType 17 s && reservedFlags (coreOf s)
 
--- 36: "a range above", by the first field out of its range; 0 where every field is in it
-unfoldable pub brokenField : List ℕ → ℕ
-brokenField s =
-    byType s 0 (lioField (lioOf s)) 0 (eioField (eioOf s)) (msiField (msiOf s)) (bioField (bioOf s)) (lpcField (lpcOf s)) 0
+-- 71: "cascade of EIO or LIO": "of EIO and of a used LIO half 2 to 9"
+unfoldable pub wrongCascade : List ℕ → Bool
+wrongCascade s = isType 18 s && not (halvesFit (lioOf s)) || isType 20 s && not (cascadeFits (eioOf s .cascade))
 
-unfoldable pub outOfRange : List ℕ → Bool
-outOfRange s = not (eqb (brokenField s) 0)
+-- 72: "node or hardware ID": "0 to 63"
+unfoldable pub wrongNode : List ℕ → Bool
+wrongNode s = isType 20 s && not (nodeFits (eioOf s .node)) || isType 22 s && not (nodeFits (bioOf s .node))
+
+-- 73: "node map": "not 0"
+unfoldable pub wrongNodes : List ℕ → Bool
+wrongNodes s = isType 20 s && not (nodesFit (eioOf s .nodes))
+
+-- 74: "MSI count": "at least 1"
+unfoldable pub wrongCount : List ℕ → Bool
+wrongCount s = isType 21 s && not (countFits (msiOf s .count))
+
+-- 75: "MSI end": "start + count at most 256"
+unfoldable pub wrongEnd : List ℕ → Bool
+wrongEnd s = isType 21 s && not (endFits (msiOf s .start) (msiOf s .count))
+
+-- 76: "GSI base": "64 to 65,472"
+unfoldable pub wrongBase : List ℕ → Bool
+wrongBase s = isType 22 s && not (baseFits (bioOf s .base))
+
+-- 77: "LPC cascade": "0 to 63"
+unfoldable pub wrongInput : List ℕ → Bool
+wrongInput s = isType 23 s && not (inputFits (lpcOf s .cascade))
 
 -- 37: "a bit in both LIO masks"
 unfoldable pub sharedBit : List ℕ → Bool
@@ -67,14 +88,21 @@ unfoldable pub oneTooMany : ℕ → List ℕ → Bool
 oneTooMany before s =
     byType s (leb 256 before) (leb 1 before) false (leb 4 before) (leb 4 before) (leb 4 before) (leb 1 before) false
 
--- their order, of a structure at a place, after so many of its kind
+-- their order, of a structure at a place, after so many of its kind: "36 isn't given again, and 71 to 78 take its place in the
+-- order" (78 speaks of an HT, which 34 refuses)
 unfoldable pub structureRules : ℕ → ℕ → List ℕ → List Verdict
 structureRules place before s =
     rule (wrongLength s) 32 place
     ∷ rule (wrongVersion s) 33 place
     ∷ rule (isHt s) 34 place
     ∷ rule (wrongFlags s) 35 place
-    ∷ rule (outOfRange s) 36 place
+    ∷ rule (wrongCascade s) 71 place
+    ∷ rule (wrongNode s) 72 place
+    ∷ rule (wrongNodes s) 73 place
+    ∷ rule (wrongCount s) 74 place
+    ∷ rule (wrongEnd s) 75 place
+    ∷ rule (wrongBase s) 76 place
+    ∷ rule (wrongInput s) 77 place
     ∷ rule (sharedBit s) 37 place
     ∷ rule (oneTooMany before s) 38 place
     ∷ []

@@ -1,4 +1,4 @@
-// Refusals 32 to 38 of one structure, given by its own bytes.
+// The refusals of one structure, given by its own bytes: 32 to 35, 71 to 77, 37 and 38, in this order.
 use crate::steps;
 use kinds::Bio;
 use kinds::Eio;
@@ -67,12 +67,12 @@ fn check_core(core: Core, full: bool, place: u32) -> Verdict
     Verdict::Sound
 }
 
-// Refusals 36 and 38 of a kind that has ranges, by the first field that is out of its own.
+// Refusals 71 to 77 and 38 of a kind that has ranges, by the first field that is out of its own.
 fn check_field(field: u8, full: bool, place: u32) -> Verdict
-    ensures { λ r. ⌜ r ≡ firstRefusal (rule (not (eqb field 0)) 36 place ∷ rule full 38 place ∷ []) ⌝ }
+    ensures { λ r. ⌜ r ≡ firstRefusal (rule (not (eqb field 0)) field place ∷ rule full 38 place ∷ []) ⌝ }
 {
     if field != 0 {
-        return Verdict::Refused(words::refuse(36, place));
+        return Verdict::Refused(words::refuse(field, place));
     }
     if full {
         return Verdict::Refused(words::refuse(38, place));
@@ -80,12 +80,14 @@ fn check_field(field: u8, full: bool, place: u32) -> Verdict
     Verdict::Sound
 }
 
-// Refusals 36 to 38 of a LIO.
+// Refusals 71, 37 and 38 of a LIO.
 fn check_lio(lio: Lio, full: bool, place: u32) -> Verdict
-    ensures { λ r. ⌜ r ≡ firstRefusal (rule (not (eqb (lioField lio) 0)) 36 place ∷ rule (bitInBoth lio) 37 place ∷ rule full 38 place ∷ []) ⌝ }
+    ensures { λ r. let field = lioField lio in
+        ⌜ r ≡ firstRefusal (rule (not (eqb field 0)) field place ∷ rule (bitInBoth lio) 37 place ∷ rule full 38 place ∷ []) ⌝ }
 {
-    if ranges::lio_field(lio) != 0 {
-        return Verdict::Refused(words::refuse(36, place));
+    let field = ranges::lio_field(lio);
+    if field != 0 {
+        return Verdict::Refused(words::refuse(field, place));
     }
     if ranges::bit_in_both(lio) {
         return Verdict::Refused(words::refuse(37, place));
@@ -96,8 +98,8 @@ fn check_lio(lio: Lio, full: bool, place: u32) -> Verdict
     Verdict::Sound
 }
 
-// Refusals 32 to 38 of a structure at a place, behind those that made a map and so many CORE. Types other than 17 to 23 are
-// passed over, their version unread.
+// The refusals of a structure at a place, behind those that made a map and so many CORE. Types other than 17 to 23 are passed
+// over, their version unread.
 pub(crate) fn check(structure: &[u8], place: u32, cores: u16, map: Map) -> Verdict
     ensures { λ r. let s = now (structure .entry) in
         ⌜ ((all : List Whole) → MadeBy all cores map → r ≡ firstRefusal (structureRules place (howMany (byteAt s 0) all) s)) ⌝ }

@@ -1,4 +1,4 @@
--- Every answer of a map that keeps the rules fits its code: rule 36 bounds core vectors, nodes, bases and slots.
+-- Every answer of a map that keeps the rules fits its code: 71 to 77 bound core vectors, nodes, bases and slots.
 use Prim.Native.Nat.{ℕ, zero, suc, _+_, _-_, _^_, _<_, _≤_}
 use native.Mathlib.Omega.{arith}
 use mathlib.Core.Path.{_≡_, refl, sym, subst}

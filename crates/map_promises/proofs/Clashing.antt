@@ -6,7 +6,7 @@ use mathlib.Core.List.{List, [], _∷_}
 use mathlib.Core.Bool.{true, false}
 use lib.ListN.{getD}
 use Rattle.words.specs.Choice.{if}
-use Rattle.words.specs.Refusals.{refused, unless, firstRefusal}
+use Rattle.words.specs.Refusals.{refusedWith, unless, firstRefusal}
 use Rattle.words.specs.declared.Verdict.{Verdict}
 use Rattle.words.specs.declared.Verdict.the-variants.{Sound, Refused}
 use Rattle.words.proofs.Verdicts.{first-kept}
@@ -15,16 +15,16 @@ use Rattle.clashes.specs.declared.Claim.{Claim}
 use Rattle.clashes.specs.declared.Pair.the-variants.{None}
 use Rattle.lines.specs.Says.{Said, says}
 use Rattle.lines.specs.Claims.{claims}
-use Rattle.lines.specs.Rules.{tooMany, atLater, ruleClash, spotted, rangesKept, rule51, rule52, rule53, rule54, rulesTo43, rulesFrom51, mapRules, firstBroken}
+use Rattle.lines.specs.Rules.{tooMany, atLater, atBoth, ruleClash, spotted, rangesKept, rule51, rule52, rule53, rule54, rulesTo43, rulesFrom51, mapRules, firstBroken}
 use Rattle.lines.specs.declared.Map.{Map}
 use Rattle.lines.specs.declared.Places.{Places}
 use Rattle.map_promises.specs.Structures.{Structure, Placed}
-use Rattle.map_promises.specs.Clashing.{ShareNode, ShareNumber, ShareVector, ShareCore, Sharing, TwoNode, LoneBio, TwoNumber, TwoVector, TwoCore, NamesLater, NamesLone, KeepsTo40, KeepsTo43, RefusedWith, NodeExactly, LoneExactly, NumberExactly, VectorExactly, CoreExactly}
+use Rattle.map_promises.specs.Clashing.{ShareNode, ShareNumber, ShareVector, ShareCore, Sharing, TwoNode, LoneBio, TwoNumber, TwoVector, TwoCore, Names, NamesLater, NamesLone, OnePlace, KeepsTo40, KeepsTo43, RefusedWith, NodeExactly, LoneExactly, NumberExactly, VectorExactly, CoreExactly}
 use Rattle.map_promises.proofs.Hubs.{bio-hub, names-lone, finds-lone}
 use Rattle.map_promises.proofs.Meetings.{Agrees, names, sharing, no-sharing, finds-two, finds-nothing}
 use Rattle.map_promises.proofs.Sharing.{node-agrees, number-agrees, vector-agrees, core-agrees, number-sharing, sharing-number, vector-sharing, sharing-vector}
 use Rattle.map_promises.proofs.Unused.{lio-said}
-use Rattle.map_promises.proofs.Verdicts.{eio-there, later-kept, spotted-kept, later-told, spotted-told, position, told-at}
+use Rattle.map_promises.proofs.Verdicts.{eio-there, later-kept, both-kept, spotted-kept, later-told, both-told, spotted-told, position, told-at}
 
 module _ (map : Map) (places : Places) (madt fadt : ℕ) where
   abbrev said : Said
@@ -36,8 +36,8 @@ module _ (map : Map) (places : Places) (madt fadt : ℕ) where
   abbrev rules : List Verdict
   rules = mapRules said places madt fadt
 
-  abbrev Told : ℕ → ℕ → Type 0
-  Told n p = RefusedWith map places madt fadt n p
+  abbrev Told : ℕ → ℕ → ℕ → Type 0
+  Told n p q = RefusedWith map places madt fadt n p q
 
   -- with 38 kept, the verdict is that of the rules from 40 on
   from-40 : tooMany map ≡ false → firstBroken map places madt fadt ≡ firstRefusal rules
@@ -45,57 +45,48 @@ module _ (map : Map) (places : Places) (madt fadt : ℕ) where
   from-40 few = first-kept (tooMany map) 38 madt rules few refl
 
   -- a number that is told is that of the first broken rule
-  told : tooMany map ≡ false → (n p : ℕ) → Told n p
-      → (getD rules (position n) Sound ≡ Refused (refused n p)) × ((i : ℕ) → i < position n → getD rules i Sound ≡ Sound)
-  told few n p h = told-at said places madt fadt n p (sym (from-40 few) ∙ h)
+  told : tooMany map ≡ false → (n p q : ℕ) → Told n p q
+      → (getD rules (position n) Sound ≡ Refused (refusedWith n p q)) × ((i : ℕ) → i < position n → getD rules i Sound ≡ Sound)
+  told few n p q h = told-at said places madt fadt n p q (sym (from-40 few) ∙ h)
 
   module _ (ok : Placed said places) where
-    -- where a clash is told, two structures share, and the later is named
-    clash-told : tooMany map ≡ false → {n : ℕ} {Share : Structure → Structure → Type 0} → Agrees said n Share
-        → getD rules (position n) Sound ≡ ruleClash n all → (p : ℕ) → Told n p → Sharing said Share × NamesLater said places Share p
-    clash-told few {n} agrees own p t =
-        let w = later-told n n p (firstClash n all) (sym own ∙ told few n p t .0) .1 in
-        let named = names said places ok agrees p (w .0) (w .1) in
-        (sharing said places ok agrees p (w .0) named, (w .0, named))
-
-    -- the searches before it found nothing
-    clash-none : tooMany map ≡ false → (k n m : ℕ) → getD rules k Sound ≡ ruleClash n all → k < position m → (p : ℕ) → Told m p
-        → firstClash n all ≡ None
-    clash-none few k n m own l p t = later-kept n (firstClash n all) (sym own ∙ told few m p t .1 k l)
-
     -- ---- 41 and 42
     module _ (h : KeepsTo40 map madt) where
       nodes : Agrees said 41 (ShareNode said)
-      nodes = node-agrees said (h .r36)
+      nodes = node-agrees said (h .ranges)
 
-      node-told : (p : ℕ) → Told 41 p → TwoNode said × NamesLater said places (ShareNode said) p
+      node-told : (p q : ℕ) → Told 41 p q → TwoNode said × OnePlace (NamesLater said places (ShareNode said)) p q
       unfolding mapRules rulesTo43 rulesFrom51 if
-      node-told p t = clash-told (h .r38) nodes refl p t
+      node-told p q t =
+          let w = later-told 41 41 p q (firstClash 41 all) (told (h .r38) 41 p q t .0) in
+          let named = names said places ok nodes p (w .2 .0) (w .2 .1) in
+          (sharing said places ok nodes p (w .2 .0) named, ((w .2 .0, named), w .1))
 
-      node-tells : TwoNode said → (p : ℕ) × Told 41 p
+      node-tells : TwoNode said → (p : ℕ) × (q : ℕ) × Told 41 p q
       unfolding mapRules rulesTo43 rulesFrom51 firstRefusal unless atLater
       node-tells w =
           let f = finds-two said places ok nodes w in
-          (f .0, from-40 (h .r38) ∙ rw (h .r40, f .2))
+          (f .0, 0, from-40 (h .r38) ∙ rw (h .r40, f .2))
 
-      lone-told : (p : ℕ) → Told 42 p → ((TwoNode said → ⊥) × LoneBio said) × NamesLone said places p
+      lone-told : (p q : ℕ) → Told 42 p q → ((TwoNode said → ⊥) × LoneBio said) × OnePlace (NamesLone said places) p q
       unfolding mapRules rulesTo43 rulesFrom51 if
-      lone-told p t =
-          let w = spotted-told 42 42 p (firstLone all) (told (h .r38) 42 p t .0) in
-          let n = names-lone said (h .r36) places ok p (w .1) in
-          let never = no-sharing said places ok nodes (clash-none (h .r38) 1 41 42 refl (omega arith) p t) in
-          ((never, (n .j, n .lone)), n)
+      lone-told p q t =
+          let r = told (h .r38) 42 p q t in
+          let w = spotted-told 42 42 p q (firstLone all) (r .0) in
+          let n = names-lone said (h .ranges) places ok p (w .2) in
+          let never = no-sharing said places ok nodes (later-kept 41 (firstClash 41 all) (r .1 1 (omega arith))) in
+          ((never, (n .j, n .lone)), (n, w .1))
 
-      lone-tells : (TwoNode said → ⊥) → LoneBio said → (p : ℕ) × Told 42 p
+      lone-tells : (TwoNode said → ⊥) → LoneBio said → (p : ℕ) × (q : ℕ) × Told 42 p q
       unfolding mapRules rulesTo43 rulesFrom51 firstRefusal unless atLater spotted
       lone-tells never w =
-          let f = finds-lone said (h .r36) places ok w in
-          (f .0, from-40 (h .r38) ∙ rw (h .r40, finds-nothing said places ok nodes never, f .1))
+          let f = finds-lone said (h .ranges) places ok w in
+          (f .0, 0, from-40 (h .r38) ∙ rw (h .r40, finds-nothing said places ok nodes never, f .1))
 
     -- ---- 51 to 53
     module _ (h : KeepsTo43 map places madt) where
       abbrev ranged : rangesKept said ≡ true
-      ranged = h .to40 .r36
+      ranged = h .to40 .ranges
 
       abbrev few : tooMany map ≡ false
       few = h .to40 .r38
@@ -108,6 +99,18 @@ module _ (map : Map) (places : Places) (madt fadt : ℕ) where
 
       cores : Agrees said 53 (ShareCore said)
       cores = core-agrees said ranged (lio-said (map .lio) .0) (lio-said (map .lio) .1)
+
+      -- where a clash is told, two structures share, and both are named
+      clash-told : {n : ℕ} {Share : Structure → Structure → Type 0} → Agrees said n Share → getD rules (position n) Sound ≡ ruleClash n all
+          → (p q : ℕ) → Told n p q → Sharing said Share × Names said places Share p q
+      clash-told {n} agrees own p q t =
+          let w = both-told n n p q (firstClash n all) (sym own ∙ told few n p q t .0) in
+          let named = names said places ok agrees p q (w .1) in
+          (sharing said places ok agrees p q named, named)
+
+      -- the searches before it found nothing
+      clash-none : (k n m : ℕ) → getD rules k Sound ≡ ruleClash n all → k < position m → (p q : ℕ) → Told m p q → firstClash n all ≡ None
+      clash-none k n m own l p q t = both-kept n (firstClash n all) (sym own ∙ told few m p q t .1 k l)
 
       -- with the rules below 51 kept, the verdict is that of the rest
       from-51 : firstBroken map places madt fadt ≡ firstRefusal (rule51 all ∷ rule52 all ∷ rule53 all ∷ rule54 said fadt ∷ [])
@@ -126,45 +129,45 @@ module _ (map : Map) (places : Places) (madt fadt : ℕ) where
       vector-none : firstClash 52 all ≡ None → TwoVector said → ⊥
       vector-none e w = no-sharing said places ok vectors e (vector-sharing said w)
 
-      number-told : (p : ℕ) → Told 51 p → TwoNumber said × NamesLater said places (ShareNumber said) p
+      number-told : (p q : ℕ) → Told 51 p q → TwoNumber said × Names said places (ShareNumber said) p q
       unfolding mapRules rulesTo43 rulesFrom51 if
-      number-told p t =
-          let w = clash-told few numbers refl p t in
+      number-told p q t =
+          let w = clash-told numbers refl p q t in
           (sharing-number said (w .0), w .1)
 
-      number-tells : TwoNumber said → (p : ℕ) × Told 51 p
-      unfolding firstRefusal unless atLater
+      number-tells : TwoNumber said → (p : ℕ) × (q : ℕ) × Told 51 p q
+      unfolding firstRefusal unless atBoth
       number-tells w =
           let f = finds-two said places ok numbers (number-sharing said w) in
-          (f .0, from-51 ∙ rw (f .2))
+          (f .0, f .1, from-51 ∙ rw (f .2))
 
-      vector-told : (p : ℕ) → Told 52 p → ((TwoNumber said → ⊥) × TwoVector said) × NamesLater said places (ShareVector said) p
+      vector-told : (p q : ℕ) → Told 52 p q → ((TwoNumber said → ⊥) × TwoVector said) × Names said places (ShareVector said) p q
       unfolding mapRules rulesTo43 rulesFrom51 if
-      vector-told p t =
-          let w = clash-told few vectors refl p t in
-          let never = number-none (clash-none few 4 51 52 refl (omega arith) p t) in
+      vector-told p q t =
+          let w = clash-told vectors refl p q t in
+          let never = number-none (clash-none 4 51 52 refl (omega arith) p q t) in
           ((never, sharing-vector said (w .0)), w .1)
 
-      vector-tells : (TwoNumber said → ⊥) → TwoVector said → (p : ℕ) × Told 52 p
-      unfolding firstRefusal unless atLater
+      vector-tells : (TwoNumber said → ⊥) → TwoVector said → (p : ℕ) × (q : ℕ) × Told 52 p q
+      unfolding firstRefusal unless atBoth
       vector-tells never w =
           let f = finds-two said places ok vectors (vector-sharing said w) in
-          (f .0, from-51 ∙ rw (no-number never, f .2))
+          (f .0, f .1, from-51 ∙ rw (no-number never, f .2))
 
-      core-told : (p : ℕ) → Told 53 p
-          → ((TwoNumber said → ⊥) × (TwoVector said → ⊥) × TwoCore said) × NamesLater said places (ShareCore said) p
+      core-told : (p q : ℕ) → Told 53 p q
+          → ((TwoNumber said → ⊥) × (TwoVector said → ⊥) × TwoCore said) × Names said places (ShareCore said) p q
       unfolding mapRules rulesTo43 rulesFrom51 if
-      core-told p t =
-          let w = clash-told few cores refl p t in
-          let never = number-none (clash-none few 4 51 53 refl (omega arith) p t) in
-          let none = vector-none (clash-none few 5 52 53 refl (omega arith) p t) in
+      core-told p q t =
+          let w = clash-told cores refl p q t in
+          let never = number-none (clash-none 4 51 53 refl (omega arith) p q t) in
+          let none = vector-none (clash-none 5 52 53 refl (omega arith) p q t) in
           ((never, none, w .0), w .1)
 
-      core-tells : (TwoNumber said → ⊥) → (TwoVector said → ⊥) → TwoCore said → (p : ℕ) × Told 53 p
-      unfolding firstRefusal unless atLater
+      core-tells : (TwoNumber said → ⊥) → (TwoVector said → ⊥) → TwoCore said → (p : ℕ) × (q : ℕ) × Told 53 p q
+      unfolding firstRefusal unless atBoth
       core-tells never none w =
           let f = finds-two said places ok cores w in
-          (f .0, from-51 ∙ rw (no-number never, no-vector none, f .2))
+          (f .0, f .1, from-51 ∙ rw (no-number never, no-vector none, f .2))
 
 -- THE PROMISES
 pub node-exactly : (map : Map) (places : Places) (madt fadt : ℕ) → NodeExactly map places madt fadt

@@ -1,4 +1,4 @@
--- No two answers have one code: the refusal's number, or the kind, and the values are read off again.
+-- No two answers have one code: the refusal's number and place, or the kind and the values, are read off again.
 use native.Mathlib.Omega.{arith}
 use mathlib.Core.Path.{refl, ap, ap₂}
 use Rattle.words.specs.Refusals.{refused}

@@ -12,14 +12,14 @@ use Rattle.parts.specs.Inputs.{hasBit, lesser, hasPin}
 use Rattle.lines.specs.Answers.{routeOf, traceOf}
 use Rattle.lines.specs.Claims.{placed, claims}
 use Rattle.lines.specs.Routes.{lioArrival, through, bridge, pinArrival, bioOwner, owner, arrivalOf, arrival}
-use Rattle.lines.specs.Rules.{atLater, spotted, eiosFit, biosFit, msisFit, rangesKept, noBridge, lost, rulesTo43, rulesFrom51, mapRules, firstBroken, keepsRules}
+use Rattle.lines.specs.Rules.{atLater, atBoth, spotted, eiosFit, biosFit, msisFit, rangesKept, noBridge, lost, rulesTo43, rulesFrom51, mapRules, firstBroken, keepsRules}
 use Rattle.lines.specs.Traces.{slotTold, isBridge, isLpcPin, pinTold, landed, eioTraced, traced}
 use Rattle.lines.specs.declared.Map.{Map}
-use Rattle.map_promises.specs.Examples.{Question, Told, told, brokenAlone, unusedPlaces, firstNamed, partners, MapExamples}
+use Rattle.map_promises.specs.Examples.{Question, Told, told, brokenAlone, unusedPlaces, firstNamed, MapExamples}
 
 -- what is told, with all that it is computed by
 unfoldable computed : Map → Question → Told
-unfolding if first every fold lioField eioField msiField bioField lpcField usedHalf saidLio saidLpc clash sooner nearer partner better firstClash lonelier firstLone hasBit lesser hasPin routeOf traceOf placed claims lioArrival through bridge pinArrival bioOwner owner arrivalOf arrival atLater spotted eiosFit biosFit msisFit rangesKept noBridge lost rulesTo43 rulesFrom51 mapRules firstBroken unless firstRefusal isSound keepsRules slotTold isBridge isLpcPin pinTold landed eioTraced traced told
+unfolding if first every fold lioField eioField msiField bioField lpcField usedHalf saidLio saidLpc clash sooner nearer partner better firstClash lonelier firstLone hasBit lesser hasPin routeOf traceOf placed claims lioArrival through bridge pinArrival bioOwner owner arrivalOf arrival atLater atBoth spotted eiosFit biosFit msisFit rangesKept noBridge lost rulesTo43 rulesFrom51 mapRules firstBroken unless firstRefusal isSound keepsRules slotTold isBridge isLpcPin pinTold landed eioTraced traced told
 computed map question = told map question
 
 -- THE PROMISES
@@ -34,7 +34,3 @@ unused-places = refl
 pub first-named : MapExamples firstNamed
 unfolding computed firstNamed
 first-named = refl
-
-pub partners-named : MapExamples partners
-unfolding computed partners
-partners-named = refl

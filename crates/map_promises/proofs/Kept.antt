@@ -34,7 +34,7 @@ use Rattle.map_promises.proofs.Meetings.{no-sharing}
 use Rattle.map_promises.proofs.Sharing.{node-agrees, number-agrees, vector-agrees, core-agrees, number-sharing, vector-sharing}
 use Rattle.map_promises.proofs.Slots.{slots-placed}
 use Rattle.map_promises.proofs.Unused.{lio-said}
-use Rattle.map_promises.proofs.Verdicts.{eio-there, later-kept, spotted-kept}
+use Rattle.map_promises.proofs.Verdicts.{eio-there, later-kept, both-kept, spotted-kept}
 
 -- the rules, as facts about what is said
 pub record Good (said : Said) : Type 0 where
@@ -70,12 +70,12 @@ good map h =
     let low0 = lio-said (map .lio) .0 in
     let high0 = lio-said (map .lio) .1 in
     let none : (n : ℕ) → ruleClash n (claims said slotPlaces) ≡ Sound → firstClash n (claims said slotPlaces) ≡ NoPair =
-    λ n. later-kept n (firstClash n (claims said slotPlaces)) in
+    λ n. both-kept n (firstClash n (claims said slotPlaces)) in
     record {
       ranged = ranged;
       masks = eqb-true _ 0 (not-false (eqb (bitAnd (said .lio .low .mask) (said .lio .high .mask)) 0) apart);
       some = some;
-      no41 = no-sharing said slotPlaces ok (node-agrees said ranged) (none 41 (f 2));
+      no41 = no-sharing said slotPlaces ok (node-agrees said ranged) (later-kept 41 (firstClash 41 (claims said slotPlaces)) (f 2));
       hub = hub;
       behind = behind-bridge (said .lpc .present) (bridge (said .bios)) (rule-kept (noBridge (said .lpc .present) (bridge (said .bios))) 43 14 (f 4));
       no51 = λ w. no-sharing said slotPlaces ok (number-agrees said ranged) (none 51 (f 5)) (number-sharing said w);

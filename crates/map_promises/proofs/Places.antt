@@ -29,7 +29,7 @@ use Rattle.map_promises.proofs.Logic.{same-bool}
 use Rattle.map_promises.proofs.Meetings.{same-claim, member, of-member, itself, no-sharing, finds-nothing}
 use Rattle.map_promises.proofs.Members.{every-mem, mem-every}
 use Rattle.map_promises.proofs.Slots.{slots-placed}
-use Rattle.map_promises.proofs.Verdicts.{later-kept, kept-later, spotted-kept, kept-spotted}
+use Rattle.map_promises.proofs.Verdicts.{later-kept, kept-later, both-kept, kept-both, spotted-kept, kept-spotted}
 
 module _ (said : Said) (p q : Places) (op : Placed said p) (oq : Placed said q) where
   -- no clash here, no clash there
@@ -72,10 +72,10 @@ moves map p q op oq a b c d h =
     let bad43 = noBridge (said .lpc .present) (bridge (said .bios)) in
     let bad54 = lost (arrival said (said .sci)) in
     let clash : (n : ℕ) → ruleClash n (claims said p) ≡ Sound → ruleClash n (claims said q) ≡ Sound =
-    λ n k. kept-later n (firstClash n (claims said q)) (clash-moves said p q op oq n (later-kept n (firstClash n (claims said p)) k)) in
+    λ n k. kept-both n (firstClash n (claims said q)) (clash-moves said p q op oq n (both-kept n (firstClash n (claims said p)) k)) in
     let e38 = known (tooMany map) 38 a c (f 0) in
     let e40 = known bad40 40 a c (f 1) in
-    let e41 = clash 41 (f 2) in
+    let e41 = kept-later 41 (firstClash 41 (claims said q)) (clash-moves said p q op oq 41 (later-kept 41 (firstClash 41 (claims said p)) (f 2))) in
     let e42 = kept-spotted 42 (firstLone (claims said q)) (lone-moves said p q op oq (spotted-kept 42 (firstLone (claims said p)) (f 3))) in
     let e43 = known bad43 43 (p .lpc) (q .lpc) (f 4) in
     let e51 = clash 51 (f 5) in

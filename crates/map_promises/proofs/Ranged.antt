@@ -1,4 +1,4 @@
--- What rule 36 tells of the structures of a map.
+-- What 71 to 77 tell of the structures of a map.
 use Prim.Native.Nat.{ℕ, _+_, _<_, _≤_}
 use native.Mathlib.Omega.{arith}
 use mathlib.Core.Path.{_≡_, refl}
@@ -31,8 +31,8 @@ fits-of false n z h = absurd (z h)
 eio-right : (e : Eio) → eqb (eioField e) 0 ≡ true → (2 ≤ e .cascade) × (e .node ≤ 63) × (e .cascade ≤ 9)
 unfolding eioField
 eio-right e h =
-    let a = passed (not (cascadeFits (e .cascade))) 1 _ 0 (eqb-true _ 0 h) (λ z. omega arith) in
-    let b = passed (not (nodeFits (e .node))) 2 _ 0 (a .1) (λ z. omega arith) in (
+    let a = passed (not (cascadeFits (e .cascade))) 71 _ 0 (eqb-true _ 0 h) (λ z. omega arith) in
+    let b = passed (not (nodeFits (e .node))) 72 _ 0 (a .1) (λ z. omega arith) in (
       leb-true 2 (e .cascade) (and-left (leb 2 (e .cascade)) (leb (e .cascade) 9) (not-false (cascadeFits (e .cascade)) (a .0))),
       leb-true (e .node) 63 (not-false (nodeFits (e .node)) (b .0)),
       leb-true (e .cascade) 9 (and-right (leb 2 (e .cascade)) (leb (e .cascade) 9) (not-false (cascadeFits (e .cascade)) (a .0))),
@@ -41,8 +41,8 @@ eio-right e h =
 bio-right : (b : Bio) → eqb (bioField b) 0 ≡ true → (b .node ≤ 63) × (64 ≤ b .base) × (b .base ≤ 65472)
 unfolding bioField
 bio-right b h =
-    let a = passed (not (nodeFits (b .node))) 2 _ 0 (eqb-true _ 0 h) (λ z. omega arith) in
-    let f = fits-of (baseFits (b .base)) 6 (λ z. omega arith) (a .1) in (
+    let a = passed (not (nodeFits (b .node))) 72 _ 0 (eqb-true _ 0 h) (λ z. omega arith) in
+    let f = fits-of (baseFits (b .base)) 76 (λ z. omega arith) (a .1) in (
       leb-true (b .node) 63 (not-false (nodeFits (b .node)) (a .0)),
       leb-true 64 (b .base) (and-left (leb 64 (b .base)) (leb (b .base) 65472) f),
       leb-true (b .base) 65472 (and-right (leb 64 (b .base)) (leb (b .base) 65472) f),
@@ -51,20 +51,20 @@ bio-right b h =
 msi-right : (m : Msi) → eqb (msiField m) 0 ≡ true → (1 ≤ m .count) × (m .start + m .count ≤ 256)
 unfolding msiField
 msi-right m h =
-    let a = passed (not (countFits (m .count))) 4 _ 0 (eqb-true _ 0 h) (λ z. omega arith) in (
+    let a = passed (not (countFits (m .count))) 74 _ 0 (eqb-true _ 0 h) (λ z. omega arith) in (
       leb-true 1 (m .count) (not-false (countFits (m .count)) (a .0)),
-      leb-true (m .start + m .count) 256 (fits-of (endFits (m .start) (m .count)) 5 (λ z. omega arith) (a .1)),
+      leb-true (m .start + m .count) 256 (fits-of (endFits (m .start) (m .count)) 75 (λ z. omega arith) (a .1)),
     )
 
 lio-right : (lio : Lio) → eqb (lioField lio) 0 ≡ true → (halfFits (lio .low) ≡ true) × (halfFits (lio .high) ≡ true)
 unfolding lioField
 lio-right lio h =
-    let f = fits-of (halfFits (lio .low) && halfFits (lio .high)) 1 (λ z. omega arith) (eqb-true _ 0 h) in
+    let f = fits-of (halfFits (lio .low) && halfFits (lio .high)) 71 (λ z. omega arith) (eqb-true _ 0 h) in
     (and-left (halfFits (lio .low)) (halfFits (lio .high)) f, and-right (halfFits (lio .low)) (halfFits (lio .high)) f)
 
 lpc-right : (lpc : Lpc) → eqb (lpcField lpc) 0 ≡ true → lpc .cascade ≤ 63
 unfolding lpcField
-lpc-right lpc h = leb-true (lpc .cascade) 63 (fits-of (inputFits (lpc .cascade)) 7 (λ z. omega arith) (eqb-true _ 0 h))
+lpc-right lpc h = leb-true (lpc .cascade) 63 (fits-of (inputFits (lpc .cascade)) 77 (λ z. omega arith) (eqb-true _ 0 h))
 
 -- a used half enters one of the core's hardware lines
 half-used : (half : Half) → halfFits half ≡ true → (half .mask ≡ 0 → ⊥) → (2 ≤ half .cascade) × (half .cascade ≤ 9)

@@ -6,7 +6,7 @@ use borrow.Author.Tests.{eqb-false}
 use lib.Dec.{eqb, ltb}
 use lib.ListN.{length, getD}
 use Rattle.words.specs.Choice.{if}
-use Rattle.words.specs.Refusals.{refused, firstRefusal}
+use Rattle.words.specs.Refusals.{refusedWith, firstRefusal}
 use Rattle.words.specs.declared.Refusal.{Refusal}
 use Rattle.words.specs.declared.Verdict.the-variants.{Sound, Refused}
 use Rattle.words.proofs.Verdicts.{not-sound, same-refusal, rule-kept, rule-told, first-told}
@@ -17,10 +17,10 @@ use Rattle.clashes.specs.declared.Pair.the-variants.{Two, None}
 use Rattle.clashes.proofs.Logic.{or-neither}
 use Rattle.lines.specs.Says.{Said}
 use Rattle.lines.specs.Routes.{bridge, arrival}
-use Rattle.lines.specs.Rules.{atLater, spotted, rule40, noBridge, lost, rulesTo43, rulesFrom51, mapRules}
+use Rattle.lines.specs.Rules.{atLater, atBoth, spotted, rule40, noBridge, lost, rulesTo43, rulesFrom51, mapRules}
 use Rattle.lines.specs.declared.Places.{Places}
 
--- ---- a rule that two structures break, and one that a structure breaks by itself
+-- ---- a rule that two structures break, one place or both told, and one that a structure breaks by itself
 module _ (n : ℕ) where
   pub later-kept : (c : Pair) → atLater n c ≡ Sound → c ≡ None
   unfolding atLater
@@ -31,6 +31,15 @@ module _ (n : ℕ) where
   unfolding atLater
   kept-later c h = rw h
 
+  pub both-kept : (c : Pair) → atBoth n c ≡ Sound → c ≡ None
+  unfolding atBoth
+  both-kept None h = refl
+  both-kept (Two p q) h = not-sound h
+
+  pub kept-both : (c : Pair) → c ≡ None → atBoth n c ≡ Sound
+  unfolding atBoth
+  kept-both c h = rw h
+
   pub spotted-kept : (s : Spot) → spotted n s ≡ Sound → s ≡ Nowhere
   unfolding spotted
   spotted-kept Nowhere h = refl
@@ -40,17 +49,27 @@ module _ (n : ℕ) where
   unfolding spotted
   kept-spotted s h = rw h
 
-  pub later-told : (m p : ℕ) (c : Pair) → atLater n c ≡ Refused (refused m p) → (n ≡ m) × ((q : ℕ) × (c ≡ Two p q))
+  -- what is told is read off the refusal
+  pub later-told : (m p q : ℕ) (c : Pair) → atLater n c ≡ Refused (refusedWith m p q) → (n ≡ m) × (q ≡ 0) × ((w : ℕ) × (c ≡ Two p w))
   unfolding atLater
-  later-told m p None h = not-sound (sym h)
-  later-told m p (Two x q) h =
-      (ap (λ (r : Refusal). r .number) (same-refusal h), (q, ap (λ (r : Refusal). Two (r .place) q) (same-refusal h)))
+  later-told m p q None h = not-sound (sym h)
+  later-told m p q (Two x w) h =
+      let same = same-refusal h in
+      (ap (λ (r : Refusal). r .number) same, sym (ap (λ (r : Refusal). r .second) same), (w, ap (λ (r : Refusal). Two (r .place) w) same))
 
-  pub spotted-told : (m p : ℕ) (s : Spot) → spotted n s ≡ Refused (refused m p) → (n ≡ m) × (s ≡ At p)
+  pub both-told : (m p q : ℕ) (c : Pair) → atBoth n c ≡ Refused (refusedWith m p q) → (n ≡ m) × (c ≡ Two p q)
+  unfolding atBoth
+  both-told m p q None h = not-sound (sym h)
+  both-told m p q (Two x y) h =
+      let same = same-refusal h in
+      (ap (λ (r : Refusal). r .number) same, ap (λ (r : Refusal). Two (r .place) (r .second)) same)
+
+  pub spotted-told : (m p q : ℕ) (s : Spot) → spotted n s ≡ Refused (refusedWith m p q) → (n ≡ m) × (q ≡ 0) × (s ≡ At p)
   unfolding spotted
-  spotted-told m p Nowhere h = not-sound (sym h)
-  spotted-told m p (At x) h =
-      (ap (λ (r : Refusal). r .number) (same-refusal h), ap (λ (r : Refusal). At (r .place)) (same-refusal h))
+  spotted-told m p q Nowhere h = not-sound (sym h)
+  spotted-told m p q (At x) h =
+      let same = same-refusal h in
+      (ap (λ (r : Refusal). r .number) same, sym (ap (λ (r : Refusal). r .second) same), ap (λ (r : Refusal). At (r .place)) same)
 
 -- 40: there is an EIO
 pub eio-there : (said : Said) (madt : ℕ) → rule40 said madt ≡ Sound → length (said .eios) ≡ 0 → ⊥
@@ -69,22 +88,22 @@ positionOf refusal = position (refusal .number)
 
 module _ (said : Said) (places : Places) (madt fadt : ℕ) where
   -- a rule that is broken gives its own number
-  stands : (k n p : ℕ) → getD (mapRules said places madt fadt) k Sound ≡ Refused (refused n p) → position n ≡ k
+  stands : (k n p q : ℕ) → getD (mapRules said places madt fadt) k Sound ≡ Refused (refusedWith n p q) → position n ≡ k
   unfolding mapRules rulesTo43 rulesFrom51 if
-  stands zero n p h = ap positionOf (sym (rule-told (not (said .lio .present) || eqb (length (said .eios)) 0) 40 madt h))
-  stands (suc zero) n p h = ap position (sym (later-told 41 n p _ h .0))
-  stands (suc (suc zero)) n p h = ap position (sym (spotted-told 42 n p _ h .0))
-  stands (suc (suc (suc zero))) n p h = ap positionOf (sym (rule-told (noBridge (said .lpc .present) (bridge (said .bios))) 43 (places .lpc) h))
-  stands (suc (suc (suc (suc zero)))) n p h = ap position (sym (later-told 51 n p _ h .0))
-  stands (suc (suc (suc (suc (suc zero))))) n p h = ap position (sym (later-told 52 n p _ h .0))
-  stands (suc (suc (suc (suc (suc (suc zero)))))) n p h = ap position (sym (later-told 53 n p _ h .0))
-  stands (suc (suc (suc (suc (suc (suc (suc zero))))))) n p h = ap positionOf (sym (rule-told (lost (arrival said (said .sci))) 54 fadt h))
-  stands (suc (suc (suc (suc (suc (suc (suc (suc k)))))))) n p h = not-sound (sym h)
+  stands zero n p q h = ap positionOf (sym (rule-told (not (said .lio .present) || eqb (length (said .eios)) 0) 40 madt h))
+  stands (suc zero) n p q h = ap position (sym (later-told 41 n p q _ h .0))
+  stands (suc (suc zero)) n p q h = ap position (sym (spotted-told 42 n p q _ h .0))
+  stands (suc (suc (suc zero))) n p q h = ap positionOf (sym (rule-told (noBridge (said .lpc .present) (bridge (said .bios))) 43 (places .lpc) h))
+  stands (suc (suc (suc (suc zero)))) n p q h = ap position (sym (both-told 51 n p q _ h .0))
+  stands (suc (suc (suc (suc (suc zero))))) n p q h = ap position (sym (both-told 52 n p q _ h .0))
+  stands (suc (suc (suc (suc (suc (suc zero)))))) n p q h = ap position (sym (both-told 53 n p q _ h .0))
+  stands (suc (suc (suc (suc (suc (suc (suc zero))))))) n p q h = ap positionOf (sym (rule-told (lost (arrival said (said .sci))) 54 fadt h))
+  stands (suc (suc (suc (suc (suc (suc (suc (suc k)))))))) n p q h = not-sound (sym h)
 
   -- the number that is told is that of the first broken rule
-  pub told-at : (n p : ℕ) → firstRefusal (mapRules said places madt fadt) ≡ Refused (refused n p)
-      → (getD (mapRules said places madt fadt) (position n) Sound ≡ Refused (refused n p))
+  pub told-at : (n p q : ℕ) → firstRefusal (mapRules said places madt fadt) ≡ Refused (refusedWith n p q)
+      → (getD (mapRules said places madt fadt) (position n) Sound ≡ Refused (refusedWith n p q))
       × ((i : ℕ) → i < position n → getD (mapRules said places madt fadt) i Sound ≡ Sound)
-  told-at n p h =
+  told-at n p q h =
       let w = first-told (mapRules said places madt fadt) h in
-      rw (stands (w .k) n p (w .told)) (w .told, w .before)
+      rw (stands (w .k) n p q (w .told)) (w .told, w .before)

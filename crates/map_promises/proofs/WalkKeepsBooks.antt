@@ -1,5 +1,5 @@
--- The walk of a MADT that refuses nothing keeps its books: every structure of the map has its own place, the map keeps 36 to
--- 38, and "its unused places, an unused half's byte among them, hold 0".
+-- The walk of a MADT that refuses nothing keeps its books: every structure of the map has its own place, the map keeps 71 to 77,
+-- 37 and 38, and "its unused places, an unused half's byte among them, hold 0".
 use Prim.Native.Nat.{ℕ, _+_, _<_, _≤_}
 use native.Mathlib.Nat.{eq-or-lt-of-le}
 use native.Mathlib.Omega.{arith}
@@ -7,7 +7,7 @@ use mathlib.Core.Path.{_≡_, refl, sym, _∙_, ap, subst}
 use mathlib.Core.Logic.{_⊎_, inl, inr, ⊎-elim}
 use mathlib.Core.List.{List}
 use mathlib.Core.Bool.{true, false, _&&_, true≢false}
-use borrow.Author.Tests.{eqb-true, le-ltb, not-false}
+use borrow.Author.Tests.{eqb-true, le-ltb}
 use lib.Dec.{eqb}
 use lib.ListN.{length, getD}
 use Rattle.words.specs.Bytes.{byteAt}
@@ -27,12 +27,12 @@ use Rattle.lines.specs.Rules.{eiosFit, biosFit, msisFit, rangesKept, tooMany}
 use Rattle.lines.specs.declared.Map.{Map}
 use Rattle.lines.specs.declared.Places.{Places}
 use Rattle.madt.specs.Pieces.{Whole, pieces, structures}
-use Rattle.madt.specs.Rules.{isType, brokenField, outOfRange, sharedBit}
+use Rattle.madt.specs.Rules.{isType, sharedBit}
 use Rattle.madt.specs.Contents.{ofType, howMany, made, standing, inFour, mapOf, placesOf, foundIn}
 use Rattle.madt.specs.Walk.{walkRules, walked}
-use Rattle.madt.proofs.Types.{type-yes, of-lio, of-eio, of-msi, of-bio, of-lpc}
+use Rattle.madt.proofs.Types.{type-yes}
 use Rattle.madt.proofs.Contents.{made-many, standing-many}
-use Rattle.madt.proofs.Checks.{Kept}
+use Rattle.madt.proofs.Checks.{Kept, fits-lio, fits-eio, fits-msi, fits-bio, fits-lpc}
 use Rattle.madt.proofs.Accepted.{noWhole, rules-sound, found-is, few-eios, few-msis, few-bios, kept-at}
 use Rattle.map_promises.specs.Structures.{Structure, lio, eio, bio, msi, IsIn, placeOf, Placed}
 use Rattle.map_promises.specs.Walks.{Normal, WellKept, WalkKeepsBooks}
@@ -41,7 +41,7 @@ use Rattle.map_promises.proofs.InOrder.{pieces-in-order}
 use Rattle.map_promises.proofs.Rising.{Rising, structures-rise, those-rise, rises-at, one-index, those-among}
 use Rattle.map_promises.proofs.Unused.{half-mask, half-fits, half-again, lio-unused, lpc-unused}
 
--- ---- some structures that stand one behind the other, behind the MADT's header, and each keep 32 to 38
+-- ---- some structures that stand one behind the other, behind the MADT's header, and each keep the rules
 pub record Good (until : ℕ) (all : List Whole) : Type 0 where
   pub rise : Rising until 44 all
   pub kept : (i : ℕ) → i < length all → (n : ℕ) × Kept n (getD all i noWhole .bytes)
@@ -163,6 +163,7 @@ module _ {until : ℕ} {all : List Whole} (g : Good until all) (sci : ℕ) where
 pub record Standing (next : ℕ) (map : Map) (places : Places) : Type 0 where
   pub before : (s : Structure) → IsIn (says map) s → placeOf places s < next
   pub behind : (s : Structure) → IsIn (says map) s → (s ≡ lio) ⊎ (0 < placeOf places s)
+  pub liobehind : map .lio .present ≡ true → 0 < places .lio
   pub lpcbehind : map .lpc .present ≡ true → 0 < places .lpc
   pub lpcbefore : places .lpc < next
 
@@ -210,10 +211,10 @@ module _ {until : ℕ} {all : List Whole} (g : Good until all) (base sci : ℕ) 
         apart = λ s t u v e. apart s t (is-there s u) (is-there t v) e;
       }
 
-  -- the LPC, which claims nothing, has a place too
-  lpc-there : (0 < howMany 23 all) ⊎ (howMany 23 all ≡ 0)
-  lpc-there =
-      ⊎-elim (λ (e : 0 ≡ howMany 23 all). inr (sym e)) (λ l. inl l) (eq-or-lt-of-le (let z : 0 ≤ howMany 23 all = omega arith in z))
+  -- a kind of which there is at most one is there or not; the LPC, which claims nothing, has a place too
+  there : (number : ℕ) → (0 < howMany number all) ⊎ (howMany number all ≡ 0)
+  there number =
+      ⊎-elim (λ (e : 0 ≡ howMany number all). inr (sym e)) (λ l. inl l) (eq-or-lt-of-le (let z : 0 ≤ howMany number all = omega arith in z))
 
   pub standing-well : Standing (base + until) (mapOf sci all) (placesOf base all)
   unfolding mapOf placesOf
@@ -221,18 +222,15 @@ module _ {until : ℕ} {all : List Whole} (g : Good until all) (base sci : ℕ) 
       record {
         before = λ s u. ⊎-elim (λ l. omega (arith, place-is s l, inside g (numberOf s) (indexOf s) l .1)) (λ w. omega (arith, w .1, g .first)) (is-there s u);
         behind = λ s u. ⊎-elim (λ l. inr (behind-header s l)) (λ w. inl (w .0)) (is-there s u);
+        liobehind = λ h. ⊎-elim (λ l. behind-header lio l)
+            (λ (z : howMany 18 all ≡ 0). absurd (true≢false (sym h ∙ ap (λ (x : Lio). x .present) (past noLio (made 18 (λ s. saidLio (lioOf s)) all) 0 (omega (arith, made-many 18 (λ s. saidLio (lioOf s)) all)))))) (there 18);
         lpcbehind = λ h. ⊎-elim (λ l. omega (arith, stands g 23 0 l base, inside g 23 0 l .0))
-            (λ (z : howMany 23 all ≡ 0). absurd (true≢false (sym h ∙ ap (λ (x : Lpc). x .present) (past noLpc (made 23 lpcOf all) 0 (omega (arith, made-many 23 lpcOf all)))))) lpc-there;
+            (λ (z : howMany 23 all ≡ 0). absurd (true≢false (sym h ∙ ap (λ (x : Lpc). x .present) (past noLpc (made 23 lpcOf all) 0 (omega (arith, made-many 23 lpcOf all)))))) (there 23);
         lpcbefore = ⊎-elim (λ l. omega (arith, stands g 23 0 l base, inside g 23 0 l .1))
-            (λ (z : howMany 23 all ≡ 0). omega (arith, past 0 (standing 23 base all) 0 (omega (arith, standing-many 23 base all)), g .first)) lpc-there;
+            (λ (z : howMany 23 all ≡ 0). omega (arith, past 0 (standing 23 base all) 0 (omega (arith, standing-many 23 base all)), g .first)) (there 23);
       }
 
--- ---- 36 to 38
--- a structure whose ranges are kept
-in-range : (s : List ℕ) {n field : ℕ} → Kept n s → brokenField s ≡ field → eqb field 0 ≡ true
-unfolding outOfRange
-in-range s k e = rw (sym e) (not-false _ (k .r36))
-
+-- ---- 71 to 77, 37 and 38
 -- the LIO, without the bytes of its unused halves
 pub record LioKept (x : Lio) : Type 0 where
   pub fits : eqb (lioField x) 0 ≡ true
@@ -247,8 +245,8 @@ lio-kept : (x : Lio) → x .present ≡ true → eqb (lioField x) 0 ≡ true →
 unfolding lioField saidLio if
 lio-kept x present field masks =
     let halves : (halfFits (x .low) && halfFits (x .high)) ≡ true =
-    if-cases (λ (n : ℕ). eqb n 0 ≡ true → (halfFits (x .low) && halfFits (x .high)) ≡ true) (halfFits (x .low) && halfFits (x .high)) 0 1
-    (λ t e. t) (λ t e. absurd (let o : _≡_ {A = ℕ} 1 0 = eqb-true 1 0 e in omega arith)) field in
+    if-cases (λ (n : ℕ). eqb n 0 ≡ true → (halfFits (x .low) && halfFits (x .high)) ≡ true) (halfFits (x .low) && halfFits (x .high)) 0 71
+    (λ t e. t) (λ t e. absurd (let o : _≡_ {A = ℕ} 71 0 = eqb-true 71 0 e in omega arith)) field in
     let low = half-fits (x .low) (and-left (halfFits (x .low)) (halfFits (x .high)) halves) in
     let high = half-fits (x .high) (and-right (halfFits (x .low)) (halfFits (x .high)) halves) in
     rw present
@@ -260,12 +258,12 @@ lio-kept x present field masks =
 
 module _ {until : ℕ} {all : List Whole} (g : Good until all) (sci : ℕ) where
   made-lio : (l : 0 < howMany 18 all) → LioKept (saidLio (lioOf (wholeAt 18 all 0 .bytes)))
-  unfolding brokenField sharedBit lioOf
+  unfolding sharedBit lioOf
   made-lio l =
       let s = wholeAt 18 all 0 .bytes in
       let k = kept g 18 0 l .1 in
       let t = typed g 18 0 l in
-      lio-kept (lioOf s) refl (in-range s k (of-lio s _ _ _ _ _ _ _ _ t)) (rw (type-yes 18 s t) at (k .r37))
+      lio-kept (lioOf s) refl (fits-lio k t) (rw (type-yes 18 s t) at (k .r37))
 
   the-lio : LioKept (mapOf sci all .lio)
   unfolding mapOf
@@ -280,36 +278,36 @@ module _ {until : ℕ} {all : List Whole} (g : Good until all) (sci : ℕ) where
   LpcKept x = (eqb (lpcField x) 0 ≡ true) × (saidLpc x ≡ x)
 
   the-lpc : LpcKept (mapOf sci all .lpc)
-  unfolding mapOf lpcField saidLpc lpcOf brokenField if
+  unfolding mapOf lpcField saidLpc lpcOf if
   the-lpc =
       ⊎-elim
       (λ (e : 0 ≡ howMany 23 all). rw (past noLpc (made 23 lpcOf all) 0 (omega (arith, made-many 23 lpcOf all))) (refl, refl))
-      (λ l. rw (makes g 23 0 l lpcOf noLpc) (in-range (wholeAt 23 all 0 .bytes) (kept g 23 0 l .1) (of-lpc _ _ _ _ _ _ _ _ _ (typed g 23 0 l)), refl))
+      (λ l. rw (makes g 23 0 l lpcOf noLpc) (fits-lpc (kept g 23 0 l .1) (typed g 23 0 l), refl))
       (eq-or-lt-of-le (let z : 0 ≤ howMany 23 all = omega arith in z))
 
   -- each structure of a kind that may repeat
   fit-all : {A : Type 0} (number : ℕ) (maker : List ℕ → A) (none : A) (field : A → ℕ)
-      → ((s : List ℕ) → byteAt s 0 ≡ number → brokenField s ≡ field (maker s))
+      → ((n : ℕ) (s : List ℕ) → Kept n s → byteAt s 0 ≡ number → eqb (field (maker s)) 0 ≡ true)
       → every (λ x. eqb (field x) 0) (made number maker all) ≡ true
-  fit-all number maker none field broken =
+  fit-all number maker none field fits =
       at-every none (λ x. eqb (field x) 0) (made number maker all)
       (λ i l.
       let here : i < howMany number all = omega (arith, made-many number maker all) in
-      let s = wholeAt number all i .bytes in
-      rw (makes g number i here maker none) (in-range s (kept g number i here .1) (broken s (typed g number i here))))
+      let k = kept g number i here in
+      rw (makes g number i here maker none) (fits (k .0) (wholeAt number all i .bytes) (k .1) (typed g number i here)))
 
   ranges : rangesKept (says (mapOf sci all)) ≡ true
-  unfolding rangesKept eiosFit biosFit msisFit brokenField
+  unfolding rangesKept eiosFit biosFit msisFit
   ranges =
       rw (
         the-lio .normal,
         the-lio .fits,
         said-eios g sci,
-        fit-all 20 eioOf noEio eioField (λ s t. of-eio s _ _ _ _ _ _ _ _ t),
+        fit-all 20 eioOf noEio eioField (λ n s k t. fits-eio k t),
         said-bios g sci,
-        fit-all 22 bioOf noBio bioField (λ s t. of-bio s _ _ _ _ _ _ _ _ t),
+        fit-all 22 bioOf noBio bioField (λ n s k t. fits-bio k t),
         said-msis g sci,
-        fit-all 21 msiOf noMsi msiField (λ s t. of-msi s _ _ _ _ _ _ _ _ t),
+        fit-all 21 msiOf noMsi msiField (λ n s k t. fits-msi k t),
         the-lpc .1,
         the-lpc .0,
       )
@@ -344,7 +342,7 @@ module _ {until : ℕ} {all : List Whole} (g : Good until all) (sci : ℕ) where
 
   pub well-kept : (base : ℕ) → WellKept (mapOf sci all) (placesOf base all)
   well-kept base =
-      record { placed = placed g base sci; r36 = ranges; r37 = rw (the-lio .normal) (the-lio .masks); r38 = few; normal = normal }
+      record { placed = placed g base sci; ranges = ranges; r37 = rw (the-lio .normal) (the-lio .masks); r38 = few; normal = normal }
 
 -- the walk of a MADT, from its first structure to the end
 pub walk-stands : (table : List ℕ) (base sci until : ℕ) → 44 ≤ until → length table ≤ until → walked table base sci .verdict ≡ Sound

@@ -1,12 +1,12 @@
 -- What two structures may not share, and what is told of it: document 01, "Refusals in order", 41, 42 and 51 to 53, each by
--- itself. The sharing is said of sources and controllers, not of claims. Each statement at the end stands alone;
--- proofs/Clashing.antt has a theorem for it.
+-- itself, and the second place that W-202 of document 02 gives to 51 to 53. The sharing is said of sources and controllers, not of
+-- claims. Each statement at the end stands alone; proofs/Clashing.antt has a theorem for it.
 use Prim.Native.Nat.{ℕ, _<_, _≤_}
 use mathlib.Core.Bool.{true, false}
 use mathlib.Core.Logic.{_⊎_}
 use mathlib.Core.Path.{_≡_}
 use lib.ListN.{length}
-use Rattle.words.specs.Refusals.{refused}
+use Rattle.words.specs.Refusals.{refusedWith}
 use Rattle.words.specs.declared.Verdict.the-variants.{Sound, Refused}
 use Rattle.kinds.specs.Ranges.{bitInBoth}
 use Rattle.lines.specs.Says.{Said, says}
@@ -101,8 +101,9 @@ abbrev pub TwoCore : Said → Type 0
 TwoCore said = Sharing said (ShareCore said)
 
 -- ---- what is named
--- "the first structure that clashes with an earlier": s at p shares with t at q, which stands before it; no structure before s
--- shares with an earlier one; and s shares with none that stands before t
+-- "the first structure that clashes with an earlier", and "the earliest structure that the named one clashes with by that rule": s at
+-- p shares with t at q, which stands before it; no structure before s shares with an earlier one; and s shares with none that
+-- stands before t
 pub record Names (said : Said) (places : Places) (Share : Structure → Structure → Type 0) (p q : ℕ) : Type 0 where
   pub s : Structure
   pub t : Structure
@@ -115,7 +116,7 @@ pub record Names (said : Said) (places : Places) (Share : Structure → Structur
   pub first : (u v : Structure) → IsIn said u → IsIn said v → placeOf places v < placeOf places u → Share u v → p ≤ placeOf places u
   pub earliest : (v : Structure) → IsIn said v → placeOf places v < p → Share s v → q ≤ placeOf places v
 
--- it stands at p: there is an earliest that it shares with
+-- 41 names the later alone: it stands at p, and there is an earlier one
 abbrev pub NamesLater : Said → Places → (Structure → Structure → Type 0) → ℕ → Type 0
 NamesLater said places Share p = (q : ℕ) × Names said places Share p q
 
@@ -126,10 +127,14 @@ pub record NamesLone (said : Said) (places : Places) (p : ℕ) : Type 0 where
   pub at : placeOf places (bio j) ≡ p
   pub first : (i : ℕ) → IsLone said i → p ≤ placeOf places (bio i)
 
+-- 41 and 42 tell one place: "all others carry 0"
+abbrev pub OnePlace : (ℕ → Type 0) → ℕ → ℕ → Type 0
+OnePlace Named p q = Named p × (q ≡ 0)
+
 -- ---- "The lowest line that applies wins"
 -- no rule below 41 is broken
 pub record KeepsTo40 (map : Map) (madt : ℕ) : Type 0 where
-  pub r36 : rangesKept (says map) ≡ true
+  pub ranges : rangesKept (says map) ≡ true
   pub r37 : bitInBoth (says map .lio) ≡ false
   pub r38 : tooMany map ≡ false
   pub r40 : rule40 (says map) madt ≡ Sound
@@ -142,38 +147,38 @@ pub record KeepsTo43 (map : Map) (places : Places) (madt : ℕ) : Type 0 where
   pub r43 : rule43 (says map) (places .lpc) ≡ Sound
 
 -- ---- demand 3, its last sentence: the statements
--- the map is refused with n, at p
-abbrev pub RefusedWith : Map → Places → ℕ → ℕ → ℕ → ℕ → Type 0
-RefusedWith map places madt fadt n p = firstBroken map places madt fadt ≡ Refused (refused n p)
+-- the map is refused with n, at p, with the second place q
+abbrev pub RefusedWith : Map → Places → ℕ → ℕ → ℕ → ℕ → ℕ → Type 0
+RefusedWith map places madt fadt n p q = firstBroken map places madt fadt ≡ Refused (refusedWith n p q)
 
--- a number is told exactly when its rule is the first that is broken, and then at a place that is named so
-abbrev pub Exactly : (ℕ → Type 0) → Type 0 → (ℕ → Type 0) → Type 0
-Exactly told broken named = ((p : ℕ) → told p → broken × named p) × (broken → (p : ℕ) × told p)
+-- a number is told exactly when its rule is the first that is broken, and then with the two places that are named so
+abbrev pub Exactly : (ℕ → ℕ → Type 0) → Type 0 → (ℕ → ℕ → Type 0) → Type 0
+Exactly told broken named = ((p q : ℕ) → told p q → broken × named p q) × (broken → (p : ℕ) × (q : ℕ) × told p q)
 
--- 41: exactly when two EIO have one node; the later is named
+-- 41: exactly when two EIO have one node; the later is named, and it alone
 abbrev pub NodeExactly : Map → Places → ℕ → ℕ → Type 0
 NodeExactly map places madt fadt =
     Placed (says map) places → KeepsTo40 map madt
-    → Exactly (RefusedWith map places madt fadt 41) (TwoNode (says map)) (NamesLater (says map) places (ShareNode (says map)))
+    → Exactly (RefusedWith map places madt fadt 41) (TwoNode (says map)) (OnePlace (NamesLater (says map) places (ShareNode (says map))))
 
 -- 42: exactly when no two EIO have one node, and a BIO has no EIO of its node; the first such is named
 abbrev pub LoneExactly : Map → Places → ℕ → ℕ → Type 0
 LoneExactly map places madt fadt =
     Placed (says map) places → KeepsTo40 map madt
-    → Exactly (RefusedWith map places madt fadt 42) ((TwoNode (says map) → ⊥) × LoneBio (says map)) (NamesLone (says map) places)
+    → Exactly (RefusedWith map places madt fadt 42) ((TwoNode (says map) → ⊥) × LoneBio (says map)) (OnePlace (NamesLone (says map) places))
 
--- 51: exactly when two sources share a global number
+-- 51: exactly when two sources share a global number; named are the later of their structures and the earliest that it shares with
 abbrev pub NumberExactly : Map → Places → ℕ → ℕ → Type 0
 NumberExactly map places madt fadt =
     Placed (says map) places → KeepsTo43 map places madt
-    → Exactly (RefusedWith map places madt fadt 51) (TwoNumber (says map)) (NamesLater (says map) places (ShareNumber (says map)))
+    → Exactly (RefusedWith map places madt fadt 51) (TwoNumber (says map)) (Names (says map) places (ShareNumber (says map)))
 
 -- 52: exactly when no two sources do, and two share an extended vector of one EIO
 abbrev pub VectorExactly : Map → Places → ℕ → ℕ → Type 0
 VectorExactly map places madt fadt =
     Placed (says map) places → KeepsTo43 map places madt
     → Exactly (RefusedWith map places madt fadt 52) ((TwoNumber (says map) → ⊥) × TwoVector (says map))
-    (NamesLater (says map) places (ShareVector (says map)))
+    (Names (says map) places (ShareVector (says map)))
 
 -- 53: exactly when no two sources share either, and two controllers enter one core vector
 abbrev pub CoreExactly : Map → Places → ℕ → ℕ → Type 0
@@ -181,4 +186,4 @@ CoreExactly map places madt fadt =
     Placed (says map) places → KeepsTo43 map places madt
     → Exactly (RefusedWith map places madt fadt 53)
     ((TwoNumber (says map) → ⊥) × (TwoVector (says map) → ⊥) × TwoCore (says map))
-    (NamesLater (says map) places (ShareCore (says map)))
+    (Names (says map) places (ShareCore (says map)))

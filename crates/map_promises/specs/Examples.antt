@@ -1,12 +1,12 @@
 -- "any map may be asked about": maps that no capture gives. Each rule of 61 is broken alone, counts go past the arrays, and
--- unused places hold garbage; and of a clash the earliest partner is found, which no refusal tells. All of it is computed by the
--- definitions that the contracts cite.
+-- unused places hold garbage; and of a clash the earliest partner is told. All of it is computed by the definitions that the
+-- contracts cite.
 use Prim.Native.Nat.{ℕ}
 use mathlib.Core.Bool.{true, false}
 use mathlib.Core.List.{List, [], _∷_, _++_, map}
 use mathlib.Core.Path.{_≡_}
 use lib.ListN.{length, take, replicate}
-use Rattle.words.specs.Refusals.{refused}
+use Rattle.words.specs.Refusals.{refusedWith}
 use Rattle.words.specs.declared.Verdict.{Verdict}
 use Rattle.words.specs.declared.Verdict.the-variants as verdicts
 use Rattle.kinds.specs.Used.{noEio, noBio, noMsi}
@@ -15,11 +15,6 @@ use Rattle.kinds.specs.declared.Eio.{Eio}
 use Rattle.kinds.specs.declared.Bio.{Bio}
 use Rattle.kinds.specs.declared.Msi.{Msi}
 use Rattle.kinds.specs.declared.Lpc.{Lpc}
-use Rattle.clashes.specs.Search.{firstClash}
-use Rattle.clashes.specs.declared.Pair.{Pair}
-use Rattle.clashes.specs.declared.Pair.the-variants.{Two}
-use Rattle.lines.specs.Says.{says}
-use Rattle.lines.specs.Claims.{claims}
 use Rattle.lines.specs.Rules.{firstBroken}
 use Rattle.lines.specs.Answers.{routeOf, traceOf, badMap}
 use Rattle.lines.specs.declared.Map.{Map}
@@ -133,25 +128,21 @@ at lio eio msi bio =
       lpc = 279;
     }
 
--- where a number arrives; what arrives at a vector with a number; the first broken rule, with the MADT at 118 and the FADT at 400;
--- the first clash by a rule
+-- where a number arrives; what arrives at a vector with a number; the first broken rule, with the MADT at 118 and the FADT at 400
 pub data Question : Type 0 where
   number : ℕ → Question
   arrival : ℕ → ℕ → Question
   rules : Places → Question
-  clash : ℕ → Places → Question
 
 pub data Told : Type 0 where
   routed : Route → Told
   traced : Trace → Told
   judged : Verdict → Told
-  paired : Pair → Told
 
 unfoldable pub told : Map → Question → Told
 told map (number n) = routed (routeOf map n)
 told map (arrival vector n) = traced (traceOf map vector n)
 told map (rules places) = judged (firstBroken map places 118 400)
-told map (clash rule places) = paired (firstClash rule (claims (says map) places))
 
 pub data Example : Type 0 where
   example : Map → Question → Told → Example
@@ -172,7 +163,7 @@ no26 map = example map (number 26) (routed (Refused badMap))
 -- ---- each rule broken alone
 unfoldable pub brokenAlone : List Example
 brokenAlone =
-    -- 36
+    -- 71 to 77
     no72 (withEios (eios (eio 1 0 ∷ [])))
     ∷ no72 (withEios (eios (eio 10 0 ∷ [])))
     ∷ no72 (withEios (eios (eio 3 0 ∷ eio 4 64 ∷ [])))
@@ -220,53 +211,34 @@ unusedPlaces =
     ∷ example (withLpc (absentLpc 19)) (arrival 3 19) (traced (BioInput 83))
     ∷ []
 
--- ---- the first broken rule, and its place
-abbrev pub names : Map → Places → ℕ → ℕ → Example
-names map places n place = example map (rules places) (judged (verdicts.Refused (refused n place)))
+-- ---- the first broken rule, its place and the second one
+abbrev pub names : Map → Places → ℕ → ℕ → ℕ → Example
+names map places n place second = example map (rules places) (judged (verdicts.Refused (refusedWith n place second)))
 
 unfoldable pub firstNamed : List Example
 firstNamed =
     example (withSci 75) (rules (at 207 230 243 262)) (judged verdicts.Sound)
-    ∷ names (counting 4 5 4) (at 207 230 243 262) 38 118
-    ∷ names (withEios (eios [])) (at 207 230 243 262) 40 118
-    ∷ names (withEios (eios (eio 3 0 ∷ eio 3 0 ∷ []))) (at 207 230 243 262) 41 294
-    ∷ names (withBios (bios (bio 9 64 ∷ []))) (at 207 230 243 262) 42 262
-    ∷ names (withBios (bios [])) (at 207 230 243 262) 43 279
-    ∷ names (withBios (bios (bio 0 64 ∷ bio 0 64 ∷ []))) (at 207 230 243 262) 51 314
-    ∷ names (onTwo (bios (bio 0 64 ∷ bio 5 127 ∷ [])) msisA) (at 207 230 243 262) 51 314
-    ∷ names (withBios (bios (bio 0 64 ∷ bio 0 128 ∷ []))) (at 207 230 243 262) 52 314
+    ∷ names (counting 4 5 4) (at 207 230 243 262) 38 118 0
+    ∷ names (withEios (eios [])) (at 207 230 243 262) 40 118 0
+    ∷ names (withEios (eios (eio 3 0 ∷ eio 3 0 ∷ []))) (at 207 230 243 262) 41 294 0
+    ∷ names (withBios (bios (bio 9 64 ∷ []))) (at 207 230 243 262) 42 262 0
+    ∷ names (withBios (bios [])) (at 207 230 243 262) 43 279 0
+    ∷ names (withBios (bios (bio 0 64 ∷ bio 0 64 ∷ []))) (at 207 230 243 262) 51 314 262
+    ∷ names (onTwo (bios (bio 0 64 ∷ bio 5 127 ∷ [])) msisA) (at 207 230 243 262) 51 314 262
+    ∷ names (withBios (bios (bio 0 64 ∷ bio 0 128 ∷ []))) (at 207 230 243 262) 52 314 262
     -- of slots and a bridge the later is named, and never the EIO
-    ∷ names (withMsis (msis (msi 63 193 ∷ []))) (at 207 230 243 262) 52 262
-    ∷ names (withMsis (msis (msi 0 64 ∷ []))) (at 207 230 262 243) 52 262
-    ∷ names (withMsis (msis (msi 0 64 ∷ []))) (at 207 299 230 249) 52 249
+    ∷ names (withMsis (msis (msi 63 193 ∷ []))) (at 207 230 243 262) 52 262 243
+    ∷ names (withMsis (msis (msi 0 64 ∷ []))) (at 207 230 262 243) 52 262 243
+    ∷ names (withMsis (msis (msi 0 64 ∷ []))) (at 207 299 230 249) 52 249 230
     -- the first that clashes, with the earliest that it clashes with
-    ∷ names (withMsis (msis (msi 64 64 ∷ msi 100 8 ∷ msi 0 8 ∷ []))) (at 207 230 262 243) 52 334
-    ∷ names (withMsis (msis (msi 64 64 ∷ msi 128 64 ∷ msi 100 64 ∷ []))) (at 207 230 243 262) 52 354
-    ∷ names (withEios (eios (eio 2 0 ∷ []))) (at 207 230 243 262) 53 230
-    ∷ names (withEios (eios (eio 2 0 ∷ []))) (at 220 207 243 262) 53 220
-    ∷ names (withLio (lio 2 255 3 0xFF00)) (at 207 230 243 262) 53 230
-    ∷ names (withSci 45) (at 207 230 243 262) 54 400
-    ∷ []
-
--- ---- of a clash, the structure that is named and the earliest that it clashes with
-abbrev pub pairs : Map → Places → ℕ → ℕ → ℕ → Example
-pairs map places n place partner = example map (clash n places) (paired (Two place partner))
-
-unfoldable pub partners : List Example
-partners =
-    pairs (withBios (bios (bio 0 64 ∷ bio 0 64 ∷ []))) (at 207 230 243 262) 51 314 262
-    ∷ pairs (onTwo (bios (bio 0 64 ∷ bio 5 127 ∷ [])) msisA) (at 207 230 243 262) 51 314 262
-    ∷ pairs (withBios (bios (bio 0 64 ∷ bio 0 128 ∷ []))) (at 207 230 243 262) 52 314 262
-    -- of slots and a bridge the later is named, and never the EIO
-    ∷ pairs (withMsis (msis (msi 63 193 ∷ []))) (at 207 230 243 262) 52 262 243
-    ∷ pairs (withMsis (msis (msi 0 64 ∷ []))) (at 207 230 262 243) 52 262 243
-    ∷ pairs (withMsis (msis (msi 0 64 ∷ []))) (at 207 299 230 249) 52 249 230
-    -- the first that clashes, with the earliest that it clashes with
-    ∷ pairs (withMsis (msis (msi 64 64 ∷ msi 100 8 ∷ msi 0 8 ∷ []))) (at 207 230 262 243) 52 334 262
-    ∷ pairs (withMsis (msis (msi 64 64 ∷ msi 128 64 ∷ msi 100 64 ∷ []))) (at 207 230 243 262) 52 354 243
-    ∷ pairs (withEios (eios (eio 2 0 ∷ []))) (at 207 230 243 262) 53 230 207
-    ∷ pairs (withEios (eios (eio 2 0 ∷ []))) (at 220 207 243 262) 53 220 207
-    ∷ pairs (withLio (lio 2 255 3 0xFF00)) (at 207 230 243 262) 53 230 207
+    ∷ names (withMsis (msis (msi 64 64 ∷ msi 100 8 ∷ msi 0 8 ∷ []))) (at 207 230 262 243) 52 334 262
+    ∷ names (withMsis (msis (msi 64 64 ∷ msi 128 64 ∷ msi 100 64 ∷ []))) (at 207 230 243 262) 52 354 243
+    -- "by that rule": the second bridge shares numbers with the first, and vectors with the slots that stand before both
+    ∷ names (holding lioA eiosA (bios (bio 0 64 ∷ bio 0 64 ∷ [])) (msis (msi 0 8 ∷ [])) (lpc 19) 75) (at 207 230 243 262) 51 314 262
+    ∷ names (withEios (eios (eio 2 0 ∷ []))) (at 207 230 243 262) 53 230 207
+    ∷ names (withEios (eios (eio 2 0 ∷ []))) (at 220 207 243 262) 53 220 207
+    ∷ names (withLio (lio 2 255 3 0xFF00)) (at 207 230 243 262) 53 230 207
+    ∷ names (withSci 45) (at 207 230 243 262) 54 400 0
     ∷ []
 
 -- asked in turn, the definitions give the answers

@@ -3,6 +3,7 @@ use Prim.Native.Nat.{ℕ, _+_, _^_, _<_, _≤_}
 use mathlib.Core.Bool.{true, false}
 use mathlib.Core.Logic.{_⊎_}
 use mathlib.Core.Path.{_≡_}
+use Rattle.words.specs.Refusals.{refused}
 use Rattle.words.specs.declared.Refusal.{Refusal}
 use Rattle.words.specs.declared.Verdict.the-variants.{Sound}
 use Rattle.kinds.specs.Ranges.{bitInBoth}
@@ -114,9 +115,27 @@ abbrev pub AnswersFit : Map → Type 0
 AnswersFit map =
     keepsRules map ≡ true → ((n : ℕ) → RouteFits (routeOf map n)) × ((vector number : ℕ) → TraceFits (traceOf map vector number))
 
--- no two answers have one code
+-- what a code holds of an answer: all of it, but of a refusal only number and place
+abbrev pub inCode : Refusal → Refusal
+inCode r = refused (r .number) (r .place)
+
+abbrev pub routeInCode : Route → Route
+routeInCode (Arrives vector number) = Arrives vector number
+routeInCode Unwired = Unwired
+routeInCode NoOwner = NoOwner
+routeInCode (Refused r) = Refused (inCode r)
+
+abbrev pub traceInCode : Trace → Trace
+traceInCode Nothing = Nothing
+traceInCode (LioInput n) = LioInput n
+traceInCode (BioInput n) = BioInput n
+traceInCode (LpcCascade n) = LpcCascade n
+traceInCode (MsiSlot node slot) = MsiSlot node slot
+traceInCode (NoTrace r) = NoTrace (inCode r)
+
+-- no two answers have one code: two refusals with one code have equal numbers and equal places
 abbrev pub RouteCodesApart : Type 0
-RouteCodesApart = (r s : Route) → RouteFits r → RouteFits s → routeCode r ≡ routeCode s → r ≡ s
+RouteCodesApart = (r s : Route) → RouteFits r → RouteFits s → routeCode r ≡ routeCode s → routeInCode r ≡ routeInCode s
 
 abbrev pub TraceCodesApart : Type 0
-TraceCodesApart = (r s : Trace) → TraceFits r → TraceFits s → traceCode r ≡ traceCode s → r ≡ s
+TraceCodesApart = (r s : Trace) → TraceFits r → TraceFits s → traceCode r ≡ traceCode s → traceInCode r ≡ traceInCode s

@@ -62,10 +62,10 @@ pub record Normal (map : Map) : Type 0 where
 abbrev pub NormalMapsEqual : Map → Map → Type 0
 NormalMapsEqual map other = Normal map → Normal other → Same map other → map ≡ other
 
--- a map with the places of its structures: every structure has a place of its own, 36 to 38 are kept, unused places hold 0
+-- a map with the places of its structures: every structure has a place of its own, 71 to 77, 37 and 38 are kept, unused places hold 0
 pub record WellKept (map : Map) (places : Places) : Type 0 where
   pub placed : Placed (says map) places
-  pub r36 : rangesKept (says map) ≡ true
+  pub ranges : rangesKept (says map) ≡ true
   pub r37 : bitInBoth (says map .lio) ≡ false
   pub r38 : tooMany map ≡ false
   pub normal : Normal map

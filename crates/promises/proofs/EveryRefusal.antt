@@ -43,7 +43,7 @@ use Rattle.promises.proofs.AcceptedIsTrustworthy.{accepted-is-trustwort
 use Rattle.promises.proofs.MapRefusals.{map-told}
 use Rattle.reading.proofs.Scanned.{found-verdict}
 use Rattle.promises.proofs.TableRefusals.{SurveyTold, survey-told}
-use Rattle.promises.proofs.Told.{Told, widen, Inside, tell, tell-none, more-told, joined-told}
+use Rattle.promises.proofs.Told.{Told, Inside, tell, tell-none, more-told, joined-told}
 use Rattle.promises.proofs.WhyRefused.{why-refused}
 use Rattle.promises.proofs.WalkRefusals.{walked-told}
 
@@ -58,58 +58,59 @@ module _ (capture : List ℕ) (t : Tables) (inside : TablesInside capture t) whe
   small : length table ≤ t .madt .length
   small = bytes-small capture (t .madt)
 
-  -- 31 to 38
-  pub walk-of-told : Told 38 capture (walkOf capture t .verdict)
+  -- of the structures
+  pub walk-of-told : Told capture (walkOf capture t .verdict)
   walk-of-told = walked-told capture base (t .madt .length) (inside .madt .inside) table (t .sci) (inside .madt .long) small
 
 module _ (capture : List ℕ) (t : Tables) (inside : TablesInside capture t) (at : Inside capture (t .madt .place) × Inside capture (t .fadt .place)) where
   -- 39
-  repeat-told : (r : Repeat) → firstRepeat (madtBytes capture (t .madt)) ≡ r → Told 54 capture (repeatRule (t .madt .place) r)
+  repeat-told : (r : Repeat) → firstRepeat (madtBytes capture (t .madt)) ≡ r → Told capture (repeatRule (t .madt .place) r)
   unfolding repeatRule
   repeat-told Nowhere e = omega arith
   repeat-told (At offset) e =
       let there = repeat-inside (madtBytes capture (t .madt)) offset e in
-      tell capture 39 (t .madt .place + offset) (refl, refl, omega arith)
+      tell capture 39 (t .madt .place + offset) (refl, refl, refl)
       (omega (arith, at .0 .0), omega (arith, there, small capture t inside, inside .madt .inside))
 
   -- 40, of the processors
-  processors-told : Told 54 capture (processorRule (t .madt .place) (count (madtBytes capture (t .madt))))
+  processors-told : Told capture (processorRule (t .madt .place) (count (madtBytes capture (t .madt))))
   unfolding processorRule
-  processors-told = if-cases (Told 54 capture) _ _ _ (λ z. tell capture 40 (t .madt .place) (refl, refl, omega arith) (at .0)) (λ z. omega arith)
+  processors-told = if-cases (Told capture) _ _ _ (λ z. tell capture 40 (t .madt .place) (refl, refl, refl) (at .0)) (λ z. omega arith)
 
-  rules-told : walkOf capture t .verdict ≡ verdicts.Sound → Told 54 capture (firstRefusal (laterRules capture t))
+  rules-told : walkOf capture t .verdict ≡ verdicts.Sound → Told capture (firstRefusal (laterRules capture t))
   rules-told sound =
-      more-told 54 capture _ _ (repeat-told (firstRepeat (madtBytes capture (t .madt))) refl)
-      (λ z. more-told 54 capture _ _ processors-told
+      more-told capture _ _ (repeat-told (firstRepeat (madtBytes capture (t .madt))) refl)
+      (λ z. more-told capture _ _ processors-told
       (λ z. map-told capture
       (walk-stands (madtBytes capture (t .madt)) (t .madt .place) (t .sci) (t .madt .length) (inside .madt .long) (small capture t inside) sound)
       (inside .madt .inside) (t .madt .place) (t .fadt .place) (at .0) (at .1)))
 
 -- ---- 1 to 54
-scan-told : (capture : List ℕ) → Told 54 capture (scan capture .verdict)
+scan-told : (capture : List ℕ) → Told capture (scan capture .verdict)
 unfolding turnedDown
 scan-told capture = go (survey capture) refl (survey-told capture)
   where
-    go : (s : Survey) → survey capture ≡ s → SurveyTold capture s → Told 54 capture (scan capture .verdict)
-    go (surveys.Refused r) e told = rw (scan-refused capture e) (widen 30 54 capture (verdicts.Refused r) (omega arith) told)
+    go : (s : Survey) → survey capture ≡ s → SurveyTold capture s → Told capture (scan capture .verdict)
+    go (surveys.Refused r) e told = rw (scan-refused capture e) told
     go (surveys.Found t) e told =
         let i = tables-inside capture t e in
         rw (found-verdict capture e)
-        (joined-told 54 capture (walkRules (madtBytes capture (t .madt)) (t .madt .place)) (laterRules capture t)
+        (joined-told capture (walkRules (madtBytes capture (t .madt)) (t .madt .place)) (laterRules capture t)
         (rw (sym (walk-verdict (madtBytes capture (t .madt)) (t .madt .place) (t .sci)))
-        (widen 38 54 capture (walkOf capture t .verdict) (omega arith) (walk-of-told capture t i)))
+        (walk-of-told capture t i))
         (λ sound. rules-told capture t i told (walk-verdict _ _ _ ∙ sound)))
 
 pub of-scan : (capture : List ℕ) (r : Refusal) → scan capture .verdict ≡ verdicts.Refused r → OfTheTable capture r
 of-scan capture r e = (rw e at (scan-told capture)) .0
 
-pub to-54 : (capture : List ℕ) (r : Refusal) → scan capture .verdict ≡ verdicts.Refused r → r .number ≤ 54
-to-54 capture r e = (rw e at (scan-told capture)) .1
+-- 60 is no refusal of the scan
+pub not-60 : (capture : List ℕ) (r : Refusal) → scan capture .verdict ≡ verdicts.Refused r → r .number ≡ 60 → ⊥
+not-60 capture r e = (rw e at (scan-told capture)) .1
 
 -- THE PROMISES
 pub reading-refusals : (capture list : List ℕ) → ReadingRefusals capture list
 reading-refusals capture list r h =
-    ⊎-elim (of-scan capture r) (λ w. rw (← w .1) (tell-none capture 60 refl refl)) (why-refused capture list r h)
+    ⊎-elim (of-scan capture r) (λ w. rw (← w .1) (tell-none capture 60 (refl, refl, refl))) (why-refused capture list r h)
 
 pub refused-leaves-list : (capture list : List ℕ) → RefusedLeavesList capture list
 unfolding filled listAfter

@@ -33,7 +33,7 @@ use Rattle.text.specs.declared.Written.{Written}
 use Rattle.text.specs.declared.Written.the-variants.{Whole, NoRoom}
 use Rattle.promises.specs.RefusalTable.{isRefusalNumber, OfTheTable}
 use Rattle.promises.specs.EveryResult.{OfTheList, RefusalBut, ScanRefuses, ReadRefuses, CReadRefuses, CRouteRefuses, CTraceRefuses, NoRoomLeaves, MapRouteRefuses, MapTraceRefuses}
-use Rattle.promises.proofs.EveryRefusal.{of-scan, to-54, reading-refusals, refused-leaves-list, route-refusals, trace-refusals, map-refusals}
+use Rattle.promises.proofs.EveryRefusal.{of-scan, not-60, reading-refusals, refused-leaves-list, route-refusals, trace-refusals, map-refusals}
 use Rattle.promises.proofs.ReadForC.{c-reading}
 use Rattle.promises.proofs.Told.{tell-none}
 use Rattle.promises.proofs.WhyRefused.{why-refused}
@@ -59,10 +59,6 @@ above-0 (suc n) h = omega arith
 coded : (Never : Refusal → Type 0) (capture : List ℕ) (result : ℕ) (r : Refusal) → result ≡ refusalCode r → OfTheTable capture r → (Never r → ⊥)
     → RefusalBut Never capture result
 coded Never capture result r e o never = (omega (arith, e, above-0 (r .number) (o .number)), (r, e, o, never))
-
--- 60 is no refusal of the scan
-not-60 : (capture : List ℕ) (r : Refusal) → scan capture .verdict ≡ verdicts.Refused r → OfTheList r → ⊥
-not-60 capture r e l = omega (arith, to-54 capture r e)
 
 -- ---- an answer's is not
 route-below : (t : Route) → RouteFits t → ((r : Refusal) → t ≡ routes.Refused r → ⊥) → routeCode t < 2 ^ 48
@@ -114,7 +110,7 @@ c-read-refuses κs a q x p =
     ⊎-elim
     (λ w. inl (coded (λ r. ⊥) _ q (w .refusal) (p .0 ∙ w .result) (w .ofthetable) (λ n. n), p .1 ∙ w .kept))
     (⊎-elim
-    (λ w. inl (coded (λ r. ⊥) _ q (refused 60 0) (p .0 ∙ w .result) (tell-none _ 60 refl refl) (λ n. n), p .1 ∙ w .kept))
+    (λ w. inl (coded (λ r. ⊥) _ q (refused 60 0) (p .0 ∙ w .result) (tell-none _ 60 (refl, refl, refl)) (λ n. n), p .1 ∙ w .kept))
     (λ w. inr (omega (arith, p .0 ∙ w .result, w .most))))
     (c-reading _ _)
 

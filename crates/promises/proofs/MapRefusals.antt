@@ -1,13 +1,14 @@
--- Refusals 38 and 40 to 54: what a map breaks, at the MADT, the FADT, or a structure that the walk found.
+-- Refusals 40 to 54: what a map breaks, at the MADT, the FADT, or a structure that the walk found.
 use Prim.Native.Nat.{ℕ, _<_, _≤_}
 use native.Mathlib.Omega.{arith}
 use mathlib.Core.Path.{_≡_, refl, sym, _∙_, ap}
 use mathlib.Core.Logic.{⊎-elim}
 use mathlib.Core.List.{List, List·Memᴰ}
-use mathlib.Core.Bool.{Bool, true, false, true≢false}
-use lib.Dec.{ltb}
+use mathlib.Core.Bool.{Bool, true, false, not, _||_, true≢false}
+use borrow.Author.Tests.{not-false}
+use lib.Dec.{eqb, ltb}
 use lib.ListN.{length}
-use Rattle.kinds.proofs.Used.{lpc-present}
+use Rattle.kinds.proofs.Used.{lio-present, lpc-present}
 use Rattle.clashes.specs.Rules.{lone}
 use Rattle.clashes.specs.Search.{sooner, firstClash, lonelier, firstLone}
 use Rattle.clashes.specs.declared.Claim.{Claim}
@@ -18,39 +19,48 @@ use Rattle.clashes.specs.declared.Pair.the-variants.{Two, None}
 use Rattle.lines.specs.Says.{Said, says}
 use Rattle.lines.specs.Claims.{claims}
 use Rattle.lines.specs.Routes.{bridge}
-use Rattle.lines.specs.Rules.{atLater, spotted, noBridge, rulesTo43, rulesFrom51, mapRules}
+use Rattle.lines.specs.Rules.{atLater, atBoth, spotted, rule40, noBridge, rulesTo43, rulesFrom51, mapRules}
 use Rattle.lines.specs.declared.Map.{Map}
 use Rattle.lines.specs.declared.Places.{Places}
 use Rattle.lines.specs.declared.Bridge.{Bridge}
 use Rattle.lines.specs.declared.Bridge.the-variants.{Is, None as NoBio}
 use Rattle.words.specs.Refusals.{rule, firstRefusal}
+use Rattle.words.specs.declared.Verdict.the-variants.{Sound}
 use Rattle.words.proofs.Choices.{if-cases}
+use Rattle.words.proofs.Tests.{neither-left}
+use Rattle.words.proofs.Verdicts.{rule-kept}
 use Rattle.map_promises.specs.Structures.{Structure, lio, eio, bio, msi, placeOf, claimOf}
 use Rattle.map_promises.proofs.Meetings.{of-member}
 use Rattle.map_promises.proofs.SearchNames.{search-names}
 use Rattle.map_promises.proofs.WalkKeepsBooks.{Standing}
-use Rattle.promises.proofs.Told.{Told, Named, Inside, tell, none-told, more-told, fold-told}
+use Rattle.promises.proofs.Told.{Told, Named, NamedBoth, Inside, tell, tell-both, none-told, more-told, fold-told}
 
 module _ (capture : List ℕ) where
   -- a rule that is broken at a place inside the capture
-  broken-told : (n : ℕ) (bad : Bool) (place : ℕ) → Named 54 n → (bad ≡ true → Inside capture place) → Told 54 capture (rule bad n place)
-  broken-told n bad place named at = if-cases (Told 54 capture) bad _ _ (λ t. tell capture n place named (at t)) (λ t. omega arith)
+  broken-told : (n : ℕ) (bad : Bool) (place : ℕ) → Named n → (bad ≡ true → Inside capture place) → Told capture (rule bad n place)
+  broken-told n bad place named at = if-cases (Told capture) bad _ _ (λ t. tell capture n place named (at t)) (λ t. omega arith)
 
   -- a search that finds nothing, or names a place inside the capture
   abbrev SpotTold : Spot → Type 0
   SpotTold Nowhere = 0 < 1
   SpotTold (At p) = Inside capture p
 
+  -- or two that stand inside it, the second not at 0
   abbrev PairTold : Pair → Type 0
   PairTold None = 0 < 1
-  PairTold (Two p q) = Inside capture p
+  PairTold (Two p q) = Inside capture p × (0 < q) × (q < p)
 
-  later-told : (n : ℕ) (c : Pair) → Named 54 n → PairTold c → Told 54 capture (atLater n c)
+  later-told : (n : ℕ) (c : Pair) → Named n → PairTold c → Told capture (atLater n c)
   unfolding atLater
   later-told n None named at = at
-  later-told n (Two p q) named at = tell capture n p named at
+  later-told n (Two p q) named at = tell capture n p named (at .0)
 
-  spotted-told : (n : ℕ) (s : Spot) → Named 54 n → SpotTold s → Told 54 capture (spotted n s)
+  both-told : (n : ℕ) (c : Pair) → NamedBoth n → PairTold c → Told capture (atBoth n c)
+  unfolding atBoth
+  both-told n None named at = at
+  both-told n (Two p q) named at = tell-both capture n p q named (at .0) (at .1) (at .2)
+
+  spotted-told : (n : ℕ) (s : Spot) → Named n → SpotTold s → Told capture (spotted n s)
   unfolding spotted
   spotted-told n Nowhere named at = at
   spotted-told n (At p) named at = tell capture n p named at
@@ -60,15 +70,17 @@ module _ (capture : List ℕ) where
   sooner-told Nowhere p b at = at
   sooner-told (At q) p b at = if-cases SpotTold (ltb p q) _ _ (λ t. at) (λ t. b)
 
-  -- 41 and 51 to 53: the later of two claims, which is not at 0
-  clash-told : (all : List Claim) → ((x : Claim) → List·Memᴰ x all → x .place < length capture) → (rule : ℕ) → PairTold (firstClash rule all)
+  -- 41 and 51 to 53: of claims inside the capture
+  clash-told : (all : List Claim) → ((x : Claim) → List·Memᴰ x all → Inside capture (x .place)) → (rule : ℕ) → PairTold (firstClash rule all)
   clash-told all inside rule = go (firstClash rule all) refl
     where
       go : (c : Pair) → firstClash rule all ≡ c → PairTold c
       go None e = omega arith
       go (Two p q) e =
           let f = search-names rule all p q e in
-          (omega (arith, f .earlier), omega (arith, f .x-at, inside (f .x) (f .x-listed)))
+          let x = inside (f .x) (f .x-listed) in
+          let y = inside (f .y) (f .y-listed) in
+          ((omega (arith, f .earlier), omega (arith, f .x-at, x .1)), omega (arith, f .y-at, y .0), f .earlier)
 
   -- 42: a claim that stands alone
   lone-told : (all : List Claim) → ((x : Claim) → List·Memᴰ x all → lone all x ≡ true → Inside capture (x .place)) → SpotTold (firstLone all)
@@ -84,6 +96,13 @@ bridgeless : (present : Bool) (b : Bridge) → noBridge present b ≡ true → p
 unfolding noBridge
 bridgeless present (Is b) h = absurd (true≢false (sym h))
 bridgeless present NoBio h = h
+
+-- 40: there is a LIO
+lio-there : (said : Said) (madt : ℕ) → rule40 said madt ≡ Sound → said .lio .present ≡ true
+lio-there said madt h =
+    let absent = not (said .lio .present) in
+    let none = eqb (length (said .eios)) 0 in
+    not-false _ (neither-left absent none (rule-kept (absent || none) 40 madt h))
 
 -- a claim stands where its structure does
 claim-at : (said : Said) (places : Places) (s : Structure) → claimOf said places s .place ≡ placeOf places s
@@ -103,6 +122,14 @@ module _ (capture : List ℕ) {next : ℕ} {map : Map} {places : Places} (b : St
       let at : x .place ≡ claimOf (says map) places (w .0) .place = ap (λ (c : Claim). c .place) (w .2) in
       omega (arith, at, claim-at (says map) places (w .0), b .before (w .0) (w .1))
 
+  -- with a LIO none stands at 0
+  claims-inside : map .lio .present ≡ true → (x : Claim) → List·Memᴰ x (claims (says map) places) → Inside capture (x .place)
+  claims-inside present x m =
+      let w = of-member (says map) places x m in
+      let at : x .place ≡ claimOf (says map) places (w .0) .place = ap (λ (c : Claim). c .place) (w .2) in
+      let there : 0 < placeOf places (w .0) = ⊎-elim (λ e. rw e (b .liobehind present)) (λ l. l) (b .behind (w .0) (w .1)) in
+      (omega (arith, at, claim-at (says map) places (w .0)), claims-before x m)
+
   lone-inside : (all : List Claim) (x : Claim) → List·Memᴰ x (claims (says map) places) → lone all x ≡ true → Inside capture (x .place)
   lone-inside all x m t =
       let w = of-member (says map) places x m in
@@ -118,16 +145,18 @@ module _ (capture : List ℕ) {next : ℕ} {map : Map} {places : Places} (b : St
       (b .lpcbehind there, omega (arith, b .lpcbefore))
 
   -- 40 to 54
-  pub map-told : (madt fadt : ℕ) → Inside capture madt → Inside capture fadt → Told 54 capture (firstRefusal (mapRules (says map) places madt fadt))
+  pub map-told : (madt fadt : ℕ) → Inside capture madt → Inside capture fadt → Told capture (firstRefusal (mapRules (says map) places madt fadt))
   unfolding mapRules rulesTo43 rulesFrom51
   map-told madt fadt m f =
       let all = claims (says map) places in
-      let clash = clash-told capture all claims-before in
-      more-told 54 capture _ _ (broken-told capture 40 _ madt (refl, refl, omega arith) (λ t. m))
-      (λ z. more-told 54 capture _ _ (later-told capture 41 (firstClash 41 all) (refl, refl, omega arith) (clash 41))
-      (λ z. more-told 54 capture _ _ (spotted-told capture 42 (firstLone all) (refl, refl, omega arith) (lone-told capture all (lone-inside all)))
-      (λ z. more-told 54 capture _ _ (broken-told capture 43 _ (places .lpc) (refl, refl, omega arith) lpc-inside)
-      (λ z. more-told 54 capture _ _ (later-told capture 51 (firstClash 51 all) (refl, refl, omega arith) (clash 51))
-      (λ z. more-told 54 capture _ _ (later-told capture 52 (firstClash 52 all) (refl, refl, omega arith) (clash 52))
-      (λ z. more-told 54 capture _ _ (later-told capture 53 (firstClash 53 all) (refl, refl, omega arith) (clash 53))
-      (λ z. more-told 54 capture _ _ (broken-told capture 54 _ fadt (refl, refl, omega arith) (λ t. f)) (λ z. none-told 54 capture))))))))
+      more-told capture _ _ (broken-told capture 40 _ madt (refl, refl, refl) (λ t. m))
+      (λ kept.
+      let present = sym (lio-present (map .lio)) ∙ lio-there (says map) madt kept in
+      let clash = clash-told capture all (claims-inside present) in
+      more-told capture _ _ (later-told capture 41 (firstClash 41 all) (refl, refl, refl) (clash 41))
+      (λ z. more-told capture _ _ (spotted-told capture 42 (firstLone all) (refl, refl, refl) (lone-told capture all (lone-inside all)))
+      (λ z. more-told capture _ _ (broken-told capture 43 _ (places .lpc) (refl, refl, refl) lpc-inside)
+      (λ z. more-told capture _ _ (both-told capture 51 (firstClash 51 all) (refl, refl, refl) (clash 51))
+      (λ z. more-told capture _ _ (both-told capture 52 (firstClash 52 all) (refl, refl, refl) (clash 52))
+      (λ z. more-told capture _ _ (both-told capture 53 (firstClash 53 all) (refl, refl, refl) (clash 53))
+      (λ z. more-told capture _ _ (broken-told capture 54 _ fadt (refl, refl, refl) (λ t. f)) (λ z. none-told capture))))))))

@@ -7,7 +7,7 @@ use mathlib.Core.Logic.{⊎-elim}
 use mathlib.Core.List.{List}
 use borrow.Author.Tests.{ne-eqb}
 use lib.Dec.{eqb}
-use Rattle.words.specs.Refusals.{refused, firstRefusal}
+use Rattle.words.specs.Refusals.{refusedWith, firstRefusal}
 use Rattle.words.specs.declared.Refusal.{Refusal}
 use Rattle.words.specs.declared.Verdict.the-variants.{Sound, Refused}
 use Rattle.words.proofs.Verdicts.{rule-sound, unless-refused, unless-sound, first-joined}
@@ -44,12 +44,12 @@ module _ (capture : List ℕ) (t : Tables) where
   places = walkOf capture t .found .places
 
   module _ (h : NothingBefore41 capture t) where
-    -- the walk keeps 36 to 38, and gives each structure a place of its own
+    -- the walk keeps 71 to 77, 37 and 38, and gives each structure a place of its own
     kept : WellKept map places
     kept = walk-keeps-books (madtBytes capture (t .madt)) (t .madt .place) (t .sci) (h .structures) .0
 
     to-40 : KeepsTo40 map (t .madt .place)
-    to-40 = record { r36 = kept .r36; r37 = kept .r37; r38 = kept .r38; r40 = h .r40 }
+    to-40 = record { ranges = kept .ranges; r37 = kept .r37; r38 = kept .r38; r40 = h .r40 }
 
     -- the verdict is what the map breaks first
     of-map : scan capture .verdict ≡ firstBroken map places (t .madt .place) (t .fadt .place)
@@ -63,9 +63,9 @@ module _ (capture : List ℕ) (t : Tables) where
         ∙ sym (map-judged map places (t .madt .place) (t .fadt .place) (kept .r38))
 
     -- what is told of the map is told of the capture
-    of-map-told : (n : ℕ) {broken : Type 0} {named : ℕ → Type 0} → Exactly (RefusedWith map places (t .madt .place) (t .fadt .place) n) broken named
-        → Exactly (λ p. scan capture .verdict ≡ Refused (refused n p)) broken named
-    of-map-told n e = ((λ p r. e .0 p (sym of-map ∙ r)), λ b. let w = e .1 b in (w .0, of-map ∙ w .1))
+    of-map-told : (n : ℕ) {broken : Type 0} {named : ℕ → ℕ → Type 0} → Exactly (RefusedWith map places (t .madt .place) (t .fadt .place) n) broken named
+        → Exactly (λ p q. scan capture .verdict ≡ Refused (refusedWith n p q)) broken named
+    of-map-told n e = ((λ p q r. e .0 p q (sym of-map ∙ r)), λ b. let w = e .1 b in (w .0, w .1, of-map ∙ w .2))
 
   to-43 : NothingBefore51 capture t → KeepsTo43 map places (t .madt .place)
   to-43 h = record { to40 = to-40 (h .to40); r41 = h .r41; r42 = h .r42; r43 = h .r43 }
@@ -86,14 +86,14 @@ refused-exactly-for-sharing capture t =
     }
 
 -- a refusal of the reading that is not 60 is the scan's
-of-scan : (capture list : List ℕ) (n : ℕ) → n < 60 → {broken : Type 0} {at : ℕ → Type 0}
-    → Exactly (λ p. scan capture .verdict ≡ Refused (refused n p)) broken at
-    → Exactly (λ p. readingOf capture list .answer ≡ NotRead (refused n p)) broken at
+of-scan : (capture list : List ℕ) (n : ℕ) → n < 60 → {broken : Type 0} {at : ℕ → ℕ → Type 0}
+    → Exactly (λ p q. scan capture .verdict ≡ Refused (refusedWith n p q)) broken at
+    → Exactly (λ p q. readingOf capture list .answer ≡ NotRead (refusedWith n p q)) broken at
 unfolding readingOf withoutMap
 of-scan capture list n l e = (
-  (λ p r.
-      ⊎-elim (e .0 p) (λ w. absurd (let z : 60 ≡ n = ap (λ (r : Refusal). r .number) (w .1) in omega arith)) (why-refused capture list (refused n p) r)),
-  λ b. let w = e .1 b in (w .0, ap (λ (r : Reading). r .answer) (unless-refused _ _ _ (w .1))),
+  (λ p q r.
+      ⊎-elim (e .0 p q) (λ w. absurd (let z : 60 ≡ n = ap (λ (r : Refusal). r .number) (w .1) in omega arith)) (why-refused capture list (refusedWith n p q) r)),
+  λ b. let w = e .1 b in (w .0, w .1, ap (λ (r : Reading). r .answer) (unless-refused _ _ _ (w .2))),
 )
 
 pub read-refused-exactly-for-sharing : (capture list : List ℕ) (t : Tables) → ReadRefusedExactlyForSharing capture list t

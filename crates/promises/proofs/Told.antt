@@ -1,79 +1,96 @@
 -- Verdicts whose refusals are of the table: a chain of rules, a search and a fold give one where each of their answers is one.
 use Prim.Native.Nat.{ℕ, zero, suc, _+_, _<_, _≤_}
 use native.Mathlib.Omega.{arith}
-use mathlib.Core.Path.{_≡_, refl}
+use mathlib.Core.Path.{_≡_, refl, sym, ap, _∙_}
 use mathlib.Core.Logic.{inl, inr}
 use mathlib.Core.List.{List, [], _∷_, _++_, List·Memᴰ, List·Memᴰ·head, List·Memᴰ·tail}
-use mathlib.Core.Bool.{Bool, true, false}
+use mathlib.Core.Bool.{Bool, true, false, true≢false}
 use lib.ListN.{length}
 use Rattle.words.specs.Lists.{first, numbersFrom}
 use Rattle.words.specs.Choice.{if}
-use Rattle.words.specs.Refusals.{refused, rule, unless, firstRefusal, inEach}
+use Rattle.words.specs.Refusals.{refused, refusedWith, rule, unless, firstRefusal, inEach}
 use Rattle.words.specs.declared.Refusal.{Refusal}
 use Rattle.words.specs.declared.Verdict.{Verdict}
 use Rattle.words.specs.declared.Verdict.the-variants.{Sound, Refused}
 use Rattle.clashes.specs.Folds.{fold}
 use Rattle.words.proofs.Choices.{if-cases}
 use Rattle.words.proofs.Verdicts.{first-none, first-joined}
-use Rattle.promises.specs.RefusalTable.{isRefusalNumber, isPlaceless, OfTheTable}
+use Rattle.promises.specs.RefusalTable.{isRefusalNumber, isPlaceless, isTwofold, OfTheTable}
 
--- a refusal of the table with a number up to `most`
-abbrev pub UpTo : ℕ → List ℕ → Refusal → Type 0
-UpTo most capture r = OfTheTable capture r × (r .number ≤ most)
+-- a refusal of the table that is not 60, the list's
+abbrev pub OfTheRules : List ℕ → Refusal → Type 0
+OfTheRules capture r = OfTheTable capture r × (r .number ≡ 60 → ⊥)
 
 -- a verdict that refuses nothing, or with such a refusal
-abbrev pub Told : ℕ → List ℕ → Verdict → Type 0
-Told most capture Sound = 0 < 1
-Told most capture (Refused r) = UpTo most capture r
-
-pub widen : (most more : ℕ) (capture : List ℕ) (v : Verdict) → most ≤ more → Told most capture v → Told more capture v
-widen most more capture Sound l told = told
-widen most more capture (Refused r) l told = (told .0, omega (arith, told .1))
+abbrev pub Told : List ℕ → Verdict → Type 0
+Told capture Sound = 0 < 1
+Told capture (Refused r) = OfTheRules capture r
 
 -- ---- one refusal
--- its number is one that has a place, and its place is inside the capture
-abbrev pub Named : ℕ → ℕ → Type 0
-Named most n = (isRefusalNumber n ≡ true) × (isPlaceless n ≡ false) × (n ≤ most)
-
 abbrev pub Inside : List ℕ → ℕ → Type 0
 Inside capture place = (0 < place) × (place < length capture)
 
-pub tell : (capture : List ℕ) {most : ℕ} (n place : ℕ) → Named most n → Inside capture place → UpTo most capture (refused n place)
-tell capture n place named at = (record { number = named .0; place = inr (named .1, at .0, at .1) }, named .2)
+-- 60 has no place
+not-60 : {n : ℕ} → isPlaceless n ≡ false → n ≡ 60 → ⊥
+not-60 h e = true≢false (sym (ap isPlaceless e) ∙ h)
 
-pub tell-none : (capture : List ℕ) (n : ℕ) → isRefusalNumber n ≡ true → isPlaceless n ≡ true → OfTheTable capture (refused n 0)
-tell-none capture n number none = record { number = number; place = inl (none, refl) }
+-- its number is one that has a place, inside the capture, and tells no second one
+abbrev pub Named : ℕ → Type 0
+Named n = (isRefusalNumber n ≡ true) × (isPlaceless n ≡ false) × (isTwofold n ≡ false)
+
+pub tell : (capture : List ℕ) (n place : ℕ) → Named n → Inside capture place → OfTheRules capture (refused n place)
+tell capture n place named at = (
+  record { number = named .0; place = inr (named .1, at .0, at .1); second = inr (named .2, refl) },
+  not-60 (named .1),
+)
+
+-- or it tells a second one, before it
+abbrev pub NamedBoth : ℕ → Type 0
+NamedBoth n = (isRefusalNumber n ≡ true) × (isPlaceless n ≡ false) × (isTwofold n ≡ true)
+
+pub tell-both : (capture : List ℕ) (n p q : ℕ) → NamedBoth n → Inside capture p → 0 < q → q < p → OfTheRules capture (refusedWith n p q)
+tell-both capture n p q named at some before = (
+  record { number = named .0; place = inr (named .1, at .0, at .1); second = inl (named .2, some, before) },
+  not-60 (named .1),
+)
+
+-- or it has no place
+abbrev pub Placeless : ℕ → Type 0
+Placeless n = (isRefusalNumber n ≡ true) × (isPlaceless n ≡ true) × (isTwofold n ≡ false)
+
+pub tell-none : (capture : List ℕ) (n : ℕ) → Placeless n → OfTheTable capture (refused n 0)
+tell-none capture n named = record { number = named .0; place = inl (named .1, refl); second = inr (named .2, refl) }
 
 -- ---- rules in turn
-module _ (most : ℕ) (capture : List ℕ) where
-  turn-told : (v later : Verdict) → Told most capture v → (v ≡ Sound → Told most capture later) → Told most capture (unless Refused v later)
+module _ (capture : List ℕ) where
+  turn-told : (v later : Verdict) → Told capture v → (v ≡ Sound → Told capture later) → Told capture (unless Refused v later)
   unfolding unless
   turn-told Sound later here after = after refl
   turn-told (Refused r) later here after = here
 
   -- no rule, and one more
-  pub none-told : Told most capture (firstRefusal [])
+  pub none-told : Told capture (firstRefusal [])
   none-told = rw first-none (omega arith)
 
-  pub more-told : (v : Verdict) (later : List Verdict) → Told most capture v → (v ≡ Sound → Told most capture (firstRefusal later))
-      → Told most capture (firstRefusal (v ∷ later))
+  pub more-told : (v : Verdict) (later : List Verdict) → Told capture v → (v ≡ Sound → Told capture (firstRefusal later))
+      → Told capture (firstRefusal (v ∷ later))
   unfolding firstRefusal
   more-told v later = turn-told v (firstRefusal later)
 
-  pub rule-told : (broken : Bool) (n place : ℕ) (later : List Verdict) → UpTo most capture (refused n place)
-      → (broken ≡ false → Told most capture (firstRefusal later)) → Told most capture (firstRefusal (rule broken n place ∷ later))
+  pub rule-told : (broken : Bool) (n place : ℕ) (later : List Verdict) → OfTheRules capture (refused n place)
+      → (broken ≡ false → Told capture (firstRefusal later)) → Told capture (firstRefusal (rule broken n place ∷ later))
   unfolding firstRefusal unless if
   rule-told true n place later here after = here
   rule-told false n place later here after = after refl
 
   -- one list behind another
-  pub joined-told : (xs ys : List Verdict) → Told most capture (firstRefusal xs) → (firstRefusal xs ≡ Sound → Told most capture (firstRefusal ys))
-      → Told most capture (firstRefusal (xs ++ ys))
+  pub joined-told : (xs ys : List Verdict) → Told capture (firstRefusal xs) → (firstRefusal xs ≡ Sound → Told capture (firstRefusal ys))
+      → Told capture (firstRefusal (xs ++ ys))
   joined-told xs ys here after = rw (first-joined xs ys) (turn-told (firstRefusal xs) (firstRefusal ys) here after)
 
   -- those of some numbers in turn
-  pub each-told : (rules : ℕ → List Verdict) (from k : ℕ) → ((i : ℕ) → from ≤ i → i < from + k → Told most capture (firstRefusal (rules i)))
-      → Told most capture (firstRefusal (inEach rules (numbersFrom from k)))
+  pub each-told : (rules : ℕ → List Verdict) (from k : ℕ) → ((i : ℕ) → from ≤ i → i < from + k → Told capture (firstRefusal (rules i)))
+      → Told capture (firstRefusal (inEach rules (numbersFrom from k)))
   unfolding inEach numbersFrom
   each-told rules from zero each = none-told
   each-told rules from (suc k) each =

@@ -1,4 +1,4 @@
--- Refusals 31 to 38: of a structure of the MADT, at its place.
+-- Refusals 31 to 35, 71 to 77, 37 and 38: of a structure of the MADT, at its place.
 use Prim.Native.Nat.{ℕ, suc, _+_, _<_, _≤_}
 use native.Mathlib.Omega.{arith}
 use mathlib.Core.Path.{refl}
@@ -18,35 +18,41 @@ use Rattle.promises.proofs.Told.{Told, Named, Inside, tell, none-told, 
 
 module _ (capture : List ℕ) where
   -- a rule of a structure inside the capture, and the rest
-  one-told : (broken : Bool) (n place : ℕ) (later : List Verdict) → Named 38 n → Inside capture place → Told 38 capture (firstRefusal later)
-      → Told 38 capture (firstRefusal (rule broken n place ∷ later))
-  one-told broken n place later named at rest = rule-told 38 capture broken n place later (tell capture n place named at) (λ z. rest)
+  one-told : (broken : Bool) (n place : ℕ) (later : List Verdict) → Named n → Inside capture place → Told capture (firstRefusal later)
+      → Told capture (firstRefusal (rule broken n place ∷ later))
+  one-told broken n place later named at rest = rule-told capture broken n place later (tell capture n place named at) (λ z. rest)
 
-  structure-told : (place before : ℕ) (s : List ℕ) → Inside capture place → Told 38 capture (firstRefusal (structureRules place before s))
+  structure-told : (place before : ℕ) (s : List ℕ) → Inside capture place → Told capture (firstRefusal (structureRules place before s))
   unfolding structureRules
   structure-told place before s at =
-      one-told _ 32 place _ (refl, refl, omega arith) at
-      (one-told _ 33 place _ (refl, refl, omega arith) at
-      (one-told _ 34 place _ (refl, refl, omega arith) at
-      (one-told _ 35 place _ (refl, refl, omega arith) at
-      (one-told _ 36 place _ (refl, refl, omega arith) at
-      (one-told _ 37 place _ (refl, refl, omega arith) at
-      (one-told _ 38 place _ (refl, refl, omega arith) at (none-told 38 capture)))))))
+      one-told _ 32 place _ (refl, refl, refl) at
+      (one-told _ 33 place _ (refl, refl, refl) at
+      (one-told _ 34 place _ (refl, refl, refl) at
+      (one-told _ 35 place _ (refl, refl, refl) at
+      (one-told _ 71 place _ (refl, refl, refl) at
+      (one-told _ 72 place _ (refl, refl, refl) at
+      (one-told _ 73 place _ (refl, refl, refl) at
+      (one-told _ 74 place _ (refl, refl, refl) at
+      (one-told _ 75 place _ (refl, refl, refl) at
+      (one-told _ 76 place _ (refl, refl, refl) at
+      (one-told _ 77 place _ (refl, refl, refl) at
+      (one-told _ 37 place _ (refl, refl, refl) at
+      (one-told _ 38 place _ (refl, refl, refl) at (none-told capture)))))))))))))
 
 module _ (capture : List ℕ) (base until : ℕ) (ends : base + until ≤ length capture) where
   in-turn-told : (before : List Whole) (ps : List Piece) (from : ℕ) → 0 < from → InOrder until from ps
-      → Told 38 capture (firstRefusal (rulesInTurn base before ps))
+      → Told capture (firstRefusal (rulesInTurn base before ps))
   unfolding rulesInTurn
-  in-turn-told before [] from l o = none-told 38 capture
+  in-turn-told before [] from l o = none-told capture
   in-turn-told before (cut at ∷ ps) from l o =
-      one-told capture true 31 (base + at) [] (refl, refl, omega arith) (omega (arith, o .0), omega (arith, o .1)) (none-told 38 capture)
+      one-told capture true 31 (base + at) [] (refl, refl, refl) (omega (arith, o .0), omega (arith, o .1)) (none-told capture)
   in-turn-told before (whole at s ∷ ps) from l o =
-      joined-told 38 capture (structureRules (base + at) (howMany (byteAt s 0) before) s) _
+      joined-told capture (structureRules (base + at) (howMany (byteAt s 0) before) s) _
       (structure-told capture (base + at) (howMany (byteAt s 0) before) s (omega (arith, o .0), omega (arith, o .1)))
       (λ sound. in-turn-told (before ++ (record { at = at; bytes = s } ∷ [])) ps (suc at) (omega arith) (o .2))
 
   -- the walk of a MADT that ends inside the capture
-  pub walked-told : (table : List ℕ) (sci : ℕ) → 44 ≤ until → length table ≤ until → Told 38 capture (walked table base sci .verdict)
+  pub walked-told : (table : List ℕ) (sci : ℕ) → 44 ≤ until → length table ≤ until → Told capture (walked table base sci .verdict)
   unfolding walkRules
   walked-told table sci first all =
       rw (walk-verdict table base sci) (in-turn-told [] (pieces table 44) 44 (omega arith) (pieces-in-order table until all 44 first))

@@ -17,6 +17,7 @@ use Rattle.reading.specs.Reading.{madtFound, readingOf, listAfter}
 use Rattle.reading.specs.Entries.{readCode, readResult, bytesAfter}
 use Rattle.reading.specs.declared.Answer.{Answer}
 use Rattle.reading.specs.declared.Answer.the-variants.{Read, Refused}
+use Rattle.map_promises.specs.Statements.{inCode}
 use Rattle.promises.specs.RefusalTable.{OfTheTable}
 
 -- lent the bytes of a list, it leaves the bytes of what the reading leaves of that list, and gives the reading's answer as a
@@ -56,10 +57,16 @@ pub record HasRead (capture list : List ℕ) : Type 0 where
 abbrev pub CReading : List ℕ → List ℕ → Type 0
 CReading capture list = NotRead capture list ⊎ (TooShort capture list ⊎ HasRead capture list)
 
--- no two answers have one number, so that a result is decoded in one way: a count is below 2^48, a refusal is not
+-- what a result's number holds of an answer: all of it, but of a refusal only number and place
+abbrev pub answerInCode : Answer → Answer
+answerInCode (Read processors) = Read processors
+answerInCode (Refused r) = Refused (inCode r)
+
+-- no two answers have one number, so that a result is decoded in one way: a count is below 2^48, a refusal is not; two refusals
+-- with one number have equal refusal numbers and equal places
 abbrev pub AnswerFits : Answer → Type 0
 AnswerFits (Read processors) = processors < 2 ^ 48
 AnswerFits (Refused r) = (0 < r .number) × (r .place < 2 ^ 32)
 
 abbrev pub ReadCodesApart : Type 0
-ReadCodesApart = (a b : Answer) → AnswerFits a → AnswerFits b → readCode a ≡ readCode b → a ≡ b
+ReadCodesApart = (a b : Answer) → AnswerFits a → AnswerFits b → readCode a ≡ readCode b → answerInCode a ≡ answerInCode b

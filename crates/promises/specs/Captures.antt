@@ -3,7 +3,7 @@ use Prim.Native.Nat.{ℕ}
 use mathlib.Core.Bool.{true}
 use mathlib.Core.List.{List}
 use mathlib.Core.Path.{_≡_}
-use Rattle.words.specs.Refusals.{refused, firstRefusal}
+use Rattle.words.specs.Refusals.{refusedWith, firstRefusal}
 use Rattle.words.specs.declared.Refusal.{Refusal}
 use Rattle.words.specs.declared.Verdict.the-variants.{Sound, Refused}
 use Rattle.tables.specs.Survey.{survey}
@@ -21,7 +21,7 @@ use Rattle.madt.specs.Pieces.{pieces, structures}
 use Rattle.processors.specs.Listing.{count}
 use Rattle.processors.specs.Repeats.{firstRepeat}
 use Rattle.processors.specs.declared.Repeat.the-variants.{Nowhere}
-use Rattle.map_promises.specs.Clashing.{ShareNode, ShareNumber, ShareVector, ShareCore, TwoNode, LoneBio, TwoNumber, TwoVector, TwoCore, NamesLater, NamesLone, Exactly}
+use Rattle.map_promises.specs.Clashing.{ShareNode, ShareNumber, ShareVector, ShareCore, TwoNode, LoneBio, TwoNumber, TwoVector, TwoCore, Names, NamesLater, NamesLone, OnePlace, Exactly}
 use Rattle.map_promises.specs.Routing.{RouteIsSources, UnwiredExactly, NoOwnerExactly}
 use Rattle.map_promises.specs.Statements.{NoTwoAlike, TracingNames, NothingExactly, LpcLinesShare, ThereAndBack}
 use Rattle.map_promises.specs.Walks.{Normal, InTableOrder}
@@ -36,7 +36,7 @@ Accepted capture = scan capture .verdict ≡ Sound
 
 -- what a person at the bench may rely on in a map
 pub record Trustworthy (map : Map) : Type 0 where
-  -- it keeps 36 to 38 and 40 to 54, and its unused places hold 0
+  -- it keeps 71 to 77, 37, 38 and 40 to 54, and its unused places hold 0
   pub keeps : keepsRules map ≡ true
   pub normal : Normal map
   -- 61 is never given: every question about it is answered
@@ -109,31 +109,31 @@ RulesInOrder capture =
     (NotRefusedBefore51 capture → (t : Tables) × NothingBefore51 capture t)
     × ((t : Tables) → NothingBefore51 capture t → NotRefusedBefore51 capture)
 
--- "refused for a clash exactly when": each number by itself, over the structures that the walk found; `told n p` is that n is told
--- at place p
-pub record EachExactly (told : ℕ → ℕ → Type 0) (capture : List ℕ) (t : Tables) (said : Said) (places : Places) : Type 0 where
+-- "refused for a clash exactly when": each number by itself, over the structures that the walk found; `told n p q` is that n is told
+-- at place p with the second place q
+pub record EachExactly (told : ℕ → ℕ → ℕ → Type 0) (capture : List ℕ) (t : Tables) (said : Said) (places : Places) : Type 0 where
   -- "EIO repeats an earlier node"
-  pub r41 : NothingBefore41 capture t → Exactly (told 41) (TwoNode said) (NamesLater said places (ShareNode said))
+  pub r41 : NothingBefore41 capture t → Exactly (told 41) (TwoNode said) (OnePlace (NamesLater said places (ShareNode said)))
   -- "BIO without an EIO of its node"
-  pub r42 : NothingBefore41 capture t → Exactly (told 42) ((TwoNode said → ⊥) × LoneBio said) (NamesLone said places)
+  pub r42 : NothingBefore41 capture t → Exactly (told 42) ((TwoNode said → ⊥) × LoneBio said) (OnePlace (NamesLone said places))
   -- "two sources share a global number"
-  pub r51 : NothingBefore51 capture t → Exactly (told 51) (TwoNumber said) (NamesLater said places (ShareNumber said))
+  pub r51 : NothingBefore51 capture t → Exactly (told 51) (TwoNumber said) (Names said places (ShareNumber said))
   -- "or an extended vector of one EIO"
   pub r52 :
       NothingBefore51 capture t
-      → Exactly (told 52) ((TwoNumber said → ⊥) × TwoVector said) (NamesLater said places (ShareVector said))
+      → Exactly (told 52) ((TwoNumber said → ⊥) × TwoVector said) (Names said places (ShareVector said))
   -- "or two controllers enter by one core vector"
   pub r53 :
       NothingBefore51 capture t
-      → Exactly (told 53) ((TwoNumber said → ⊥) × (TwoVector said → ⊥) × TwoCore said) (NamesLater said places (ShareCore said))
+      → Exactly (told 53) ((TwoNumber said → ⊥) × (TwoVector said → ⊥) × TwoCore said) (Names said places (ShareCore said))
 
 -- so of what the capture is refused with
 abbrev pub RefusedExactlyForSharing : List ℕ → Tables → Type 0
 RefusedExactlyForSharing capture t =
-    EachExactly (λ n p. scan capture .verdict ≡ Refused (refused n p)) capture t (says (walkOf capture t .found .map)) (walkOf capture t .found .places)
+    EachExactly (λ n p q. scan capture .verdict ≡ Refused (refusedWith n p q)) capture t (says (walkOf capture t .found .map)) (walkOf capture t .found .places)
 
 -- and so of the reading's answer, whatever list it is lent
 abbrev pub ReadRefusedExactlyForSharing : List ℕ → List ℕ → Tables → Type 0
 ReadRefusedExactlyForSharing capture list t =
-    EachExactly (λ n p. readingOf capture list .answer ≡ NotRead (refused n p)) capture t (says (walkOf capture t .found .map))
+    EachExactly (λ n p q. readingOf capture list .answer ≡ NotRead (refusedWith n p q)) capture t (says (walkOf capture t .found .map))
     (walkOf capture t .found .places)

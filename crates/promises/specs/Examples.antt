@@ -1,11 +1,12 @@
 -- Document 01, "Board A and its neighbours": the twelve examples, and that board A is read. All of it is computed from the
--- bytes of the board by the definitions that the contracts cite.
+-- bytes of the board by the definitions that the contracts cite. By W-202 of document 02 the last three tell more.
 use Prim.Native.Nat.{ℕ}
 use mathlib.Core.Bool.{true}
 use mathlib.Core.List.{List, [], _∷_, map}
 use mathlib.Core.Path.{_≡_}
 use lib.ListN.{replicate}
-use Rattle.words.specs.Refusals.{refused}
+use Rattle.words.specs.Refusals.{refused, refusedWith}
+use Rattle.words.specs.declared.Refusal.{Refusal}
 use Rattle.words.specs.declared.Verdict.{Verdict}
 use Rattle.words.specs.declared.Verdict.the-variants as verdicts
 use Rattle.kinds.specs.Used.{noEio, noBio, noMsi}
@@ -53,8 +54,8 @@ question (asked is given) = asked
 abbrev pub answer : Example → Told
 answer (asked is given) = given
 
-abbrev pub refusedWith : ℕ → ℕ → Told
-refusedWith n place = judged (verdicts.Refused (refused n place))
+abbrev pub isRefused : Refusal → Told
+isRefused refusal = judged (verdicts.Refused refusal)
 
 unfoldable pub twelve : List Example
 twelve =
@@ -67,9 +68,9 @@ twelve =
     ∷ (arrival 3 19 is traced (LpcCascade 83))
     ∷ (arrival 3 64 is traced (MsiSlot 0 64))
     ∷ (arrival 2 24 is traced Nothing)
-    ∷ (neighbour msiFrom63 is refusedWith 52 262)
-    ∷ (neighbour msiTo257 is refusedWith 36 243)
-    ∷ (neighbour eioAt2 is refusedWith 53 230)
+    ∷ (neighbour msiFrom63 is isRefused (refusedWith 52 262 243))
+    ∷ (neighbour msiTo257 is isRefused (refused 75 243))
+    ∷ (neighbour eioAt2 is isRefused (refusedWith 53 230 207))
     ∷ []
 
 -- the statement over the list: asked in turn, the definitions give the answers

@@ -1,5 +1,5 @@
--- Document 01, "Refusals in order": the numbers of its table, and the mission's first demand: each public call "either answers
--- or refuses with a number and a place from our table".
+-- Document 01, "Refusals in order": the numbers of its table as W-202 of document 02 changed it, and the mission's first demand:
+-- each public call "either answers or refuses with a number and a place from our table".
 use Prim.Native.Nat.{ℕ, _<_}
 use mathlib.Core.Bool.{Bool, true, false, _&&_, _||_}
 use mathlib.Core.List.{List}
@@ -23,22 +23,38 @@ use Rattle.reading.specs.declared.Answer.the-variants.{Refused}
 abbrev pub among : ℕ → ℕ → ℕ → Bool
 among low high n = leb low n && leb n high
 
--- the numbers that a capture is refused with: 1 to 6 of the capture, 10 to 14 of the RSDP, 20 to 30 of the tables, 31 to 38 of
--- a structure, 39 of the processors, 40 to 43 and 51 to 54 of the map, 60 of the list. The table's last, 61, is of a map that
--- is asked about by itself.
+-- the numbers that a capture is refused with: 1 to 6 of the capture, 10 to 14 of the RSDP, 20 to 30 of the tables, 31 to 35, 71 to
+-- 77 in place of 36, 37 and 38 of a structure, 39 of the processors, 40 to 43 and 51 to 54 of the map, 60 of the list. The
+-- table's last, 61, is of a map that is asked about by itself.
 abbrev pub isRefusalNumber : ℕ → Bool
 isRefusalNumber n =
-    among 1 6 n || among 10 14 n || among 20 30 n || among 31 38 n || eqb n 39 || among 40 43 n || among 51 54 n || eqb n 60
+    among 1 6 n
+    || among 10 14 n
+    || among 20 30 n
+    || among 31 35 n
+    || among 71 77 n
+    || among 37 38 n
+    || eqb n 39
+    || among 40 43 n
+    || among 51 54 n
+    || eqb n 60
 
 -- 1 to 5 are of the capture as a whole, and 60 is of the list: the table's place for them is 0
 abbrev pub isPlaceless : ℕ → Bool
 isPlaceless n = among 1 5 n || eqb n 60
 
--- "A place is an offset in the capture": every other refusal names one inside it, and not 0
+-- "51 to 53 are to carry a second place"
+abbrev pub isTwofold : ℕ → Bool
+isTwofold = among 51 53
+
+-- "A place is an offset in the capture": every other refusal names one inside it, and not 0. A second place is that of an earlier
+-- structure, and not 0 either; "all others carry 0"
 pub record OfTheTable (capture : List ℕ) (refusal : Refusal) : Type 0 where
   pub number : isRefusalNumber (refusal .number) ≡ true
   pub place : ((isPlaceless (refusal .number) ≡ true) × (refusal .place ≡ 0))
       ⊎ ((isPlaceless (refusal .number) ≡ false) × (0 < refusal .place) × (refusal .place < length capture))
+  pub second : ((isTwofold (refusal .number) ≡ true) × (0 < refusal .second) × (refusal .second < refusal .place))
+      ⊎ ((isTwofold (refusal .number) ≡ false) × (refusal .second ≡ 0))
 
 -- whatever is handed in, a refusal of the reading has a number of the table and a place of the capture
 abbrev pub ReadingRefusals : List ℕ → List ℕ → Type 0

@@ -1,6 +1,6 @@
--- The map of an accepted capture keeps the rules: the walk gave each of its structures a place of its own and kept 36 to 38,
--- no rule after the walk is broken with these places, and the places do not matter. So the C entries, which have an accepted
--- capture, ask the rules no second time. And its unused places hold 0.
+-- The map of an accepted capture keeps the rules: the walk gave each of its structures a place of its own and kept 71 to
+-- 77, 37 and 38, no rule after the walk is broken with these places, and the places do not matter. So the C entries, which have
+-- an accepted capture, ask the rules no second time. And its unused places hold 0.
 use Prim.Native.Nat.{ℕ}
 use mathlib.Core.Bool.{true}
 use mathlib.Core.List.{List}
@@ -36,7 +36,7 @@ accepted-keeps-rules capture h =
     let found = walkOf capture t .found in
     let b = books capture s in
     rw (s .map)
-    (places-do-not-matter (found .map) (found .places) (t .madt .place) (t .fadt .place) (b .placed) .0 (b .r36) (b .r37)
+    (places-do-not-matter (found .map) (found .places) (t .madt .place) (t .fadt .place) (b .placed) .0 (b .ranges) (b .r37)
     (rules-kept capture t (s .rules) (b .r38)))
 
 -- a question to it has its answer without 61

@@ -19,7 +19,7 @@ use Rattle.lines.specs.declared.Route.{Route}
 use Rattle.lines.specs.declared.Route.the-variants.{Arrives, Unwired, NoOwner, Refused}
 use Rattle.words.proofs.Choices.{if-cases}
 use Rattle.text.specs.Numerals.{letters}
-use Rattle.text.specs.Lines.{each, field, phrase, line, versionLine, coreLine, coreLines, halfLine, lioLines, eioLine, bioLine, msiLine, lpcLine, sciLine, refusalLine}
+use Rattle.text.specs.Lines.{each, field, phrase, line, versionLine, coreLine, coreLines, halfLine, lioLines, eioLine, bioLine, msiLine, lpcLine, sciLine, placesLine, refusalLine}
 use Rattle.text.specs.Text.{joined, mapParts, mapText}
 use Rattle.text.specs.Rooms.{Fits}
 use Rattle.text.proofs.Numerals.{decimal-length}
@@ -108,12 +108,22 @@ sci-length sci NoOwner = omega arith
 sci-length sci (Refused refusal) = omega arith
 
 -- ---- the texts
+places-length : (place second : ℕ) → length (placesLine place second) ≤ 51
+unfolding placesLine letters
+places-length place second =
+    if-cases (λ (l : List ℕ). length l ≤ 51) _ _ _
+    (λ t. let one = line-length (letters " at") (place ∷ []) in omega arith)
+    (λ t.
+    let front = phrase-length (letters " at") (place ∷ []) in
+    let back = line-length (letters " with") (second ∷ []) in
+    omega (arith, length-append (phrase (letters " at") (place ∷ [])) (line (letters " with") (second ∷ []))))
+
 pub refusal-fits : (refusal : Refusal) → Fits 0 (refusalLine refusal)
 unfolding refusalLine letters
 refusal-fits refusal =
     let front = phrase-length (letters "refused") (refusal .number ∷ []) in
-    let back = line-length (letters " at") (refusal .place ∷ []) in
-    omega (arith, length-append (phrase (letters "refused") (refusal .number ∷ [])) (line (letters " at") (refusal .place ∷ [])))
+    let back = places-length (refusal .place) (refusal .second) in
+    omega (arith, length-append (phrase (letters "refused") (refusal .number ∷ [])) (placesLine (refusal .place) (refusal .second)))
 
 -- some bytes are no more than this
 record Most (bytes : List ℕ) (most : ℕ) : Type 0 where

@@ -1,7 +1,8 @@
--- What is written of a half of the LIO, of the LPC and of the SCI, by their cases.
+-- What is written of a half of the LIO, of the LPC and of a refusal's places, by their cases.
 use mathlib.Core.Path.{_≡_, refl}
 use mathlib.Core.Bool.{true, false}
 use mathlib.Core.List.{[], _∷_}
+use Prim.Native.Nat.{ℕ}
 use borrow.Author.Tests.{eq-eqb, ne-eqb}
 use Rattle.words.proofs.Choices.{yes-if, no-if}
 use Rattle.kinds.specs.declared.Half.{Half}
@@ -10,7 +11,7 @@ use Rattle.kinds.specs.declared.Lpc.{Lpc}
 use Rattle.lines.specs.declared.Bridge.{Bridge}
 use Rattle.lines.specs.declared.Bridge.the-variants.{Is, None}
 use Rattle.text.specs.Numerals.{letters}
-use Rattle.text.specs.Lines.{line, halfLine, lpcLine}
+use Rattle.text.specs.Lines.{line, halfLine, lpcLine, placesLine}
 
 pub half-unused : (half : Half) → half .mask ≡ 0 → halfLine half ≡ []
 unfolding halfLine
@@ -35,3 +36,7 @@ lpc-present lpc e h = rw e (yes-if _ _ _ h)
 
 pub lpc-same : {lpc lpc′ : Lpc} {bridge bridge′ : Bridge} → lpc ≡ lpc′ → bridge ≡ bridge′ → lpcLine lpc bridge ≡ lpcLine lpc′ bridge′
 lpc-same e g = rw (e, g)
+
+pub one-place : (place second : ℕ) → second ≡ 0 → placesLine place second ≡ line (letters " at") (place ∷ [])
+unfolding placesLine
+one-place place second h = yes-if _ _ _ (eq-eqb second 0 h)

@@ -7,13 +7,15 @@ use Prim.Native.Char.{code}
 use native.Mathlib.Nat.{add-zero}
 use native.Mathlib.Numerals.{add-one}
 use native.Mathlib.Omega.{arith}
+use borrow.Author.Tests.{ne-eqb}
 use lib.ListN.{length, length-append, drop, getD, drop-of-length-le, length-drop}
 use lib.Seq.{sets, length-sets, drop-cons}
 use Rattle.processors.proofs.Filling.{sets-append}
 use Rattle.words.specs.declared.Refusal.{Refusal}
+use Rattle.words.proofs.Choices.{no-if}
 use Rattle.kinds.specs.declared.Lio.{Lio}
 use Rattle.text.specs.Numerals.{letters, digit, decimal}
-use Rattle.text.specs.Lines.{each, field, phrase, line, coreLine, coreLines, halfLine, lioLines, refusalLine}
+use Rattle.text.specs.Lines.{each, field, phrase, line, coreLine, coreLines, halfLine, lioLines, placesLine, refusalLine}
 use Rattle.text.specs.Text.{joined}
 use Rattle.text.specs.Rooms.{Fits}
 use Rattle.text.proofs.Numerals.{decimal-more}
@@ -88,8 +90,13 @@ pub lio-split : (lio : Lio) → Split (lioLines lio) (halfLine (lio .low)) (half
 unfolding lioLines
 lio-split lio = record { parts = refl }
 
+pub places-split : (place second : ℕ) → (second ≡ 0 → ⊥)
+    → Split (placesLine place second) (phrase (letters " at") (place ∷ [])) (line (letters " with") (second ∷ []))
+unfolding placesLine
+places-split place second h = record { parts = no-if _ _ _ (ne-eqb second 0 h) refl }
+
 pub refusal-split : (refusal : Refusal)
-    → Split (refusalLine refusal) (phrase (letters "refused") (refusal .number ∷ [])) (line (letters " at") (refusal .place ∷ []))
+    → Split (refusalLine refusal) (phrase (letters "refused") (refusal .number ∷ [])) (placesLine (refusal .place) (refusal .second))
 unfolding refusalLine
 refusal-split refusal = record { parts = refl }
 

@@ -87,6 +87,13 @@ sciLine sci Unwired = []
 sciLine sci NoOwner = []
 sciLine sci (Refused refusal) = []
 
+-- "printed `refused 52 at 262 with 243`; all others carry 0, unprinted": the places, to the end of the line
+unfoldable pub placesLine : ℕ → ℕ → List ℕ
+placesLine place second =
+    if (eqb second 0)
+    (line (letters " at") (place ∷ []))
+    (phrase (letters " at") (place ∷ []) ++ line (letters " with") (second ∷ []))
+
 -- "A refusal prints `refused NUMBER at PLACE`."
 unfoldable pub refusalLine : Refusal → List ℕ
-refusalLine refusal = phrase (letters "refused") (refusal .number ∷ []) ++ line (letters " at") (refusal .place ∷ [])
+refusalLine refusal = phrase (letters "refused") (refusal .number ∷ []) ++ placesLine (refusal .place) (refusal .second)

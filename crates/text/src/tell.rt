@@ -14,7 +14,7 @@ ghost use mathlib.Core.Path.{_≡_};
 ghost use Prim.Native.Nat.{_+_, _≤_};
 ghost use lib.ListN.{length, take};
 ghost use lib.Seq.{sets};
-ghost use Rattle.text.specs.Lines.{each, versionLine, coreLine, coreLines, halfLine, lioLines, eioLine, lastOf, bioLine, msiLine, lpcLine, sciLine, refusalLine};
+ghost use Rattle.text.specs.Lines.{each, versionLine, coreLine, coreLines, halfLine, lioLines, eioLine, lastOf, bioLine, msiLine, lpcLine, sciLine, placesLine, refusalLine};
 ghost use Rattle.text.specs.Rooms.{Fits};
 
 // The capture's version.
@@ -201,14 +201,28 @@ pub(crate) fn put_sci(room: &mut [u8], n: usize, sci: u16, route: Route) -> usiz
     }
 }
 
-// A refusal by its number and its place.
+// The places of a refusal, to the end of its line: a second place of 0 is not printed.
+fn put_places(room: &mut [u8], n: usize, place: u32, second: u32) -> usize
+    requires { ⌜ Fits n (placesLine place second) ⌝ }
+    ensures { λ r. ⌜ r ≡ n + length (placesLine place second) ⌝ }
+    ensures { λ r. ⌜ now (room .exit) ≡ sets (now (room .entry)) n (placesLine place second) ⌝ }
+{
+    let at = [place as u64];
+    if second == 0 {
+        return put_line(room, n, b" at", &at);
+    }
+    let with = [second as u64];
+    let end = put_phrase(room, n, b" at", &at);
+    put_line(room, end, b" with", &with)
+}
+
+// A refusal by its number and its places.
 pub(crate) fn put_refusal(room: &mut [u8], n: usize, refusal: Refusal) -> usize
     requires { ⌜ Fits n (refusalLine refusal) ⌝ }
     ensures { λ r. ⌜ r ≡ n + length (refusalLine refusal) ⌝ }
     ensures { λ r. ⌜ now (room .exit) ≡ sets (now (room .entry)) n (refusalLine refusal) ⌝ }
 {
     let number = [refusal.number as u64];
-    let place = [refusal.place as u64];
     let end = put_phrase(room, n, b"refused", &number);
-    put_line(room, end, b" at", &place)
+    put_places(room, end, refusal.place, refusal.second)
 }

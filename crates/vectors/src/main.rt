@@ -72,6 +72,9 @@ fn say_number(text: &[u8], number: u64) {
 fn say_refusal(refusal: Refusal) {
     say_number(b"refused ", refusal.number as u64);
     say_number(b" at ", refusal.place as u64);
+    if refusal.second != 0 {
+        say_number(b" with ", refusal.second as u64);
+    }
 }
 
 fn say_label(head: &[u8]) {

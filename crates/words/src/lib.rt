@@ -4,12 +4,15 @@ ghost use mathlib.Core.Path.{_≡_};
 ghost use Prim.Native.Nat.{_+_, _≤_};
 ghost use lib.ListN.{length};
 ghost use Rattle.words.specs.Bytes.{byteAt, numberAt, partAt, byteSum};
-ghost use Rattle.words.specs.Refusals.{refused};
+ghost use Rattle.words.specs.Refusals.{refused, refusedWith};
 
-// Why a capture or a map is turned away: document 01's number for the rule that is broken, and where in the capture.
+// Why a capture or a map is turned away: document 01's number for the rule that is broken, where in the capture, and the second
+// place: of a clash, where the earliest structure stands that the one at `place` clashes with. A refusal that tells no second
+// place has 0 there.
 pub struct Refusal {
     pub number: u8,
     pub place: u32,
+    pub second: u32,
 }
 
 // What rules say of a capture: nothing is broken, or the refusal.
@@ -18,11 +21,22 @@ pub enum Verdict {
     Refused(Refusal),
 }
 
-// The one maker of refusals.
+// The maker of refusals that tell both places.
+pub fn refuse_with(number: u8, place: u32, second: u32) -> Refusal
+    ensures { λ r. ⌜ r ≡ refusedWith number place second ⌝ }
+{
+    Refusal {
+        number,
+        place,
+        second,
+    }
+}
+
+// The maker of all others.
 pub fn refuse(number: u8, place: u32) -> Refusal
     ensures { λ r. ⌜ r ≡ refused number place ⌝ }
 {
-    Refusal { number, place }
+    refuse_with(number, place, 0)
 }
 
 // The byte at an offset.

@@ -12,8 +12,8 @@ rule-54-requires c κs = search needs
 first-clash-requires : tie.Need-first-clash-requires
 first-clash-requires c κs = c .before .pre
 
-at-later-requires : tie.Need-at-later-requires
-at-later-requires c κs = search needs
+at-both-requires : tie.Need-at-both-requires
+at-both-requires c κs = search needs
 
 or-else-requires : tie.Need-or-else-requires
 or-else-requires c κs = search needs
@@ -21,8 +21,8 @@ or-else-requires c κs = search needs
 first-clash-requires-2 : tie.Need-first-clash-requires-2
 first-clash-requires-2 c κs = c .before .before .before .before .pre
 
-at-later-requires-2 : tie.Need-at-later-requires-2
-at-later-requires-2 c κs = search needs
+at-both-requires-2 : tie.Need-at-both-requires-2
+at-both-requires-2 c κs = search needs
 
 or-else-requires-2 : tie.Need-or-else-requires-2
 or-else-requires-2 c κs = search needs
@@ -30,8 +30,8 @@ or-else-requires-2 c κs = search needs
 first-clash-requires-3 : tie.Need-first-clash-requires-3
 first-clash-requires-3 c κs = c .before .before .before .before .before .before .before .pre
 
-at-later-requires-3 : tie.Need-at-later-requires-3
-at-later-requires-3 c κs = search needs
+at-both-requires-3 : tie.Need-at-both-requires-3
+at-both-requires-3 c κs = search needs
 
 or-else-requires-3 : tie.Need-or-else-requires-3
 or-else-requires-3 c κs = search needs
@@ -54,8 +54,8 @@ or-else-requires-5 c κs = search needs
 first-clash-requires-4 : tie.Need-first-clash-requires-4
 first-clash-requires-4 c κs = c .before .before .before .before .before .before .before .before .before .before .before .before .before .before .before .pre
 
-at-later-requires-4 : tie.Need-at-later-requires-4
-at-later-requires-4 c κs = search needs
+at-later-requires : tie.Need-at-later-requires
+at-later-requires c κs = search needs
 
 or-else-requires-6 : tie.Need-or-else-requires-6
 or-else-requires-6 c κs = search needs
@@ -73,7 +73,7 @@ returns c =
       c .or-else7 .ensures,
       c .before .rule-40 .ensures,
       c .before .before .or-else6 .ensures,
-      c .before .before .before .at-later4 .ensures,
+      c .before .before .before .at-later .ensures,
       c .before .before .before .before .first-clash4 .ensures,
       c .before .before .before .before .before .or-else5 .ensures,
       c .before .before .before .before .before .before .spot-verdict .ensures,
@@ -81,13 +81,13 @@ returns c =
       c .before .before .before .before .before .before .before .before .or-else4 .ensures,
       c .before .before .before .before .before .before .before .before .before .rule-43 .ensures,
       c .before .before .before .before .before .before .before .before .before .before .or-else3 .ensures,
-      c .before .before .before .before .before .before .before .before .before .before .before .at-later3 .ensures,
+      c .before .before .before .before .before .before .before .before .before .before .before .at-both3 .ensures,
       c .before .before .before .before .before .before .before .before .before .before .before .before .first-clash3 .ensures,
       c .before .before .before .before .before .before .before .before .before .before .before .before .before .or-else2 .ensures,
-      c .before .before .before .before .before .before .before .before .before .before .before .before .before .before .at-later2 .ensures,
+      c .before .before .before .before .before .before .before .before .before .before .before .before .before .before .at-both2 .ensures,
       c .before .before .before .before .before .before .before .before .before .before .before .before .before .before .before .first-clash2 .ensures,
       c .before .before .before .before .before .before .before .before .before .before .before .before .before .before .before .before .or-else .ensures,
-      c .before .before .before .before .before .before .before .before .before .before .before .before .before .before .before .before .before .at-later .ensures,
+      c .before .before .before .before .before .before .before .before .before .before .before .before .before .before .before .before .before .at-both .ensures,
       c .before .before .before .before .before .before .before .before .before .before .before .before .before .before .before .before .before .before .first-clash .ensures,
       c .before .before .before .before .before .before .before .before .before .before .before .before .before .before .before .before .before .before .before .rule-54 .ensures,
       unless-last,
@@ -99,13 +99,13 @@ first-by-search-spec =
     (tie.spec
     rule-54-requires
     first-clash-requires
-    at-later-requires
+    at-both-requires
     or-else-requires
     first-clash-requires-2
-    at-later-requires-2
+    at-both-requires-2
     or-else-requires-2
     first-clash-requires-3
-    at-later-requires-3
+    at-both-requires-3
     or-else-requires-3
     rule-43-requires
     or-else-requires-4
@@ -113,7 +113,7 @@ first-by-search-spec =
     spot-verdict-requires
     or-else-requires-5
     first-clash-requires-4
-    at-later-requires-4
+    at-later-requires
     or-else-requires-6
     rule-40-requires
     or-else-requires-7

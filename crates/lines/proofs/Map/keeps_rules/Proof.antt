@@ -1,4 +1,4 @@
--- `Map::keeps_rules`: none of 36 to 38 and 40 to 54 is broken.
+-- `Map::keeps_rules`: none of 71 to 77, 37, 38 and 40 to 54 is broken.
 use mathlib.Core.Path.{sym, _∙_}
 use mathlib.Core.Bool.{and-false}
 use borrow.Author.Needs.{needs}

@@ -1,4 +1,4 @@
--- `Map::ranges_kept` is rule 36 of every structure.
+-- `Map::ranges_kept` asks for the ranges of every structure.
 use borrow.Author.Needs.{needs}
 use Rattle.lines.specs.Rules.{rangesKept}
 use Rattle.lines.proofs.Map.ranges_kept.Statement.{statement}

@@ -1,4 +1,4 @@
--- `check_field` asks 36, then 38.
+-- `check_field` asks for the first field out of its range, then 38.
 use mathlib.Core.Bool.{not}
 use mathlib.Core.Path.{ap, sym, _∙_}
 use borrow.Author.Tests.{eq-eqb, ne-eqb}

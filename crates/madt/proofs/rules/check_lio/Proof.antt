@@ -1,7 +1,9 @@
--- `check_lio` asks 36, 37, then 38.
+-- `check_lio` asks 71, 37, then 38.
 use mathlib.Core.Bool.{not}
 use mathlib.Core.Path.{ap, sym, _∙_}
+use Prim.Native.Nat.{ℕ}
 use borrow.Author.Tests.{eq-eqb, ne-eqb}
+use Rattle.words.specs.Refusals.{refused}
 use Rattle.words.specs.declared.Verdict.the-variants.{Refused}
 use Rattle.words.proofs.Verdicts.{first-none, first-broken, first-kept}
 use borrow.Author.Needs.{needs}
@@ -15,7 +17,10 @@ refuse-requires : tie.Need-refuse-requires
 refuse-requires c κs = search needs
 
 returns : tie.Need-returns
-returns c = ap Refused (c .refuse .ensures) ∙ sym (first-broken _ _ _ _ (ap not (ne-eqb _ _ (λ h. c .before .if1 .taken (c .before .before .lio-field .ensures ∙ h)))))
+returns c =
+    ap Refused (c .refuse .ensures)
+    ∙ ap (λ (n : ℕ). Refused (refused n (c .before .before .before .args .place))) (c .before .before .lio-field .ensures)
+    ∙ sym (first-broken _ _ _ _ (ap not (ne-eqb _ _ (λ h. c .before .if1 .taken (c .before .before .lio-field .ensures ∙ h)))))
 
 bit-in-both-requires : tie.Need-bit-in-both-requires
 bit-in-both-requires c κs = search needs
