@@ -2,3 +2,4 @@ pub mod Folds
 pub mod Rules
 pub mod Apart
 pub mod Search
+pub mod Told

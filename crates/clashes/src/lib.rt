@@ -1,11 +1,13 @@
 // What each controller of a map claims for itself, and which claims clash: the rules 41, 42 and 51 to 53 of document 01.
 // A claim says nothing of its kind: what a structure does not claim is empty, and what is empty clashes with nothing.
 // Each rule is one test of two claims, and one search finds the structure to be named and its earliest partner; its steps are
-// here, and whoever has the claims goes through them.
+// here, and whoever has the claims goes through them. What is told of its answer is here too.
+use words::Verdict;
 ghost use mathlib.Core.Path.{_≡_};
 ghost use Rattle.clashes.specs.Rules.{meet, repeatsNode, sharesNumber, sharesVector, sharesCore, clash};
 ghost use Rattle.clashes.specs.Apart.{apart};
 ghost use Rattle.clashes.specs.Search.{sooner, nearer, better};
+ghost use Rattle.clashes.specs.Told.{atLater, atBoth, spotted};
 
 // Numbers one after the other: the first, and how many. None at all is 0, 0.
 pub struct Run {
@@ -153,4 +155,36 @@ pub fn better_of(best: Pair, place: u32, with: Spot) -> Pair
     } else {
         Pair::Two(o, w)
     }
+}
+
+// ---- what is told of a search's answer
+
+// A clash of which the later structure is told.
+pub fn at_later(number: u8, pair: Pair) -> Verdict
+    ensures { λ r. ⌜ r ≡ atLater number pair ⌝ }
+{
+    let Pair::Two(later, _) = pair else {
+        return Verdict::Sound;
+    };
+    Verdict::Refused(words::refuse(number, later))
+}
+
+// A clash of which the later structure and the earliest that it clashes with are told.
+pub fn at_both(number: u8, pair: Pair) -> Verdict
+    ensures { λ r. ⌜ r ≡ atBoth number pair ⌝ }
+{
+    let Pair::Two(later, earliest) = pair else {
+        return Verdict::Sound;
+    };
+    Verdict::Refused(words::refuse_with(number, later, earliest))
+}
+
+// A rule that is broken at a spot, or nowhere.
+pub fn at_spot(number: u8, spot: Spot) -> Verdict
+    ensures { λ r. ⌜ r ≡ spotted number spot ⌝ }
+{
+    let Spot::At(place) = spot else {
+        return Verdict::Sound;
+    };
+    Verdict::Refused(words::refuse(number, place))
 }

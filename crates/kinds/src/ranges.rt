@@ -96,7 +96,7 @@ pub fn half_fits(half: Half) -> bool
     (half.mask == 0) | cascade_fits(half.cascade)
 }
 
-// The first field out of its range of a LIO.
+// The first field of a LIO that is out of its range.
 pub fn lio_field(lio: Lio) -> u8
     ensures { λ r. ⌜ r ≡ lioField lio ⌝ }
 {
@@ -109,7 +109,7 @@ pub fn lio_field(lio: Lio) -> u8
     }
 }
 
-// The first field out of its range of an EIO.
+// The first field of an EIO that is out of its range.
 pub fn eio_field(eio: Eio) -> u8
     ensures { λ r. ⌜ r ≡ eioField eio ⌝ }
 {
@@ -122,7 +122,7 @@ pub fn eio_field(eio: Eio) -> u8
     if nodes_fit(eio.nodes) { 0 } else { NODE_MAP }
 }
 
-// The first field out of its range of an MSI.
+// The first field of an MSI that is out of its range.
 pub fn msi_field(msi: Msi) -> u8
     ensures { λ r. ⌜ r ≡ msiField msi ⌝ }
 {
@@ -136,7 +136,7 @@ pub fn msi_field(msi: Msi) -> u8
     }
 }
 
-// The first field out of its range of a BIO.
+// The first field of a BIO that is out of its range.
 pub fn bio_field(bio: Bio) -> u8
     ensures { λ r. ⌜ r ≡ bioField bio ⌝ }
 {
@@ -146,7 +146,7 @@ pub fn bio_field(bio: Bio) -> u8
     if base_fits(bio.base) { 0 } else { GSI_BASE }
 }
 
-// The first field out of its range of an LPC.
+// The first field of an LPC that is out of its range.
 pub fn lpc_field(lpc: Lpc) -> u8
     ensures { λ r. ⌜ r ≡ lpcField lpc ⌝ }
 {

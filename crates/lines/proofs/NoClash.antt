@@ -16,6 +16,7 @@ use Rattle.kinds.specs.declared.Bio.{Bio}
 use Rattle.clashes.specs.Rules.{noNode, clash, noEio, lone}
 use Rattle.clashes.specs.Apart.{apart}
 use Rattle.clashes.specs.Search.{firstClash}
+use Rattle.clashes.specs.Told.{atLater, atBoth, spotted}
 use Rattle.clashes.specs.declared.Claim.{Claim}
 use Rattle.clashes.specs.declared.Pair.the-variants.{None}
 use Rattle.clashes.proofs.Logic.{and-left, and-right, is-false}
@@ -25,7 +26,7 @@ use Rattle.parts.specs.Claims.{noRun, lioClaim, eioClaim, bioClaim, msiClaim}
 use Rattle.lines.specs.Says.{Said}
 use Rattle.lines.specs.Claims.{placed, claims}
 use Rattle.lines.specs.Quiet.{farFrom, stillEach, noEioOf, eiosQuiet, biosQuiet, msisQuiet, quiet}
-use Rattle.lines.specs.Rules.{rule40, rule43, rule54, atLater, atBoth, spotted, rulesTo43, rulesFrom51, mapRules}
+use Rattle.lines.specs.Rules.{rule40, rule43, rule54, rulesTo43, rulesFrom51, mapRules}
 use Rattle.lines.specs.declared.Places.{Places}
 
 -- ---- lists of claims without a clash

@@ -6,19 +6,15 @@ use mathlib.Core.List.{List, [], _∷_, _++_}
 use lib.Dec.{eqb, ltb}
 use lib.ListN.{length}
 use Rattle.words.specs.Lists.{every}
-use Rattle.words.specs.Refusals.{refused, refusedWith, rule, firstRefusal, isSound}
+use Rattle.words.specs.Refusals.{rule, firstRefusal, isSound}
 use Rattle.words.specs.declared.Verdict.{Verdict}
-use Rattle.words.specs.declared.Verdict.the-variants.{Sound, Refused}
 use Rattle.kinds.specs.Ranges.{bitInBoth, lioField, eioField, bioField, msiField, lpcField}
 use Rattle.kinds.specs.declared.Eio.{Eio}
 use Rattle.kinds.specs.declared.Bio.{Bio}
 use Rattle.kinds.specs.declared.Msi.{Msi}
 use Rattle.clashes.specs.Search.{firstClash, firstLone}
+use Rattle.clashes.specs.Told.{atLater, atBoth, spotted}
 use Rattle.clashes.specs.declared.Claim.{Claim}
-use Rattle.clashes.specs.declared.Spot.{Spot}
-use Rattle.clashes.specs.declared.Spot.the-variants.{At, Nowhere}
-use Rattle.clashes.specs.declared.Pair.{Pair}
-use Rattle.clashes.specs.declared.Pair.the-variants.{Two, None}
 use Rattle.lines.specs.Says.{Said, says}
 use Rattle.lines.specs.Claims.{claims}
 use Rattle.lines.specs.Routes.{bridge, arrival}
@@ -28,26 +24,6 @@ use Rattle.lines.specs.declared.Bridge.{Bridge}
 use Rattle.lines.specs.declared.Bridge.the-variants.{Is, None as NoBio}
 use Rattle.lines.specs.declared.Route.{Route}
 use Rattle.lines.specs.declared.Route.the-variants.{Arrives, Unwired, NoOwner, Refused as NoRoute}
-
--- ---- where a search points
--- "Of two things that clash or repeat, the place is the later one's"
-unfoldable pub atLater : ℕ → Pair → Verdict
-atLater number None = Sound
-atLater number (Two p q) = Refused (refused number p)
-
--- "51 to 53 are to carry a second place, the earliest structure that the named one clashes with by that rule"
-unfoldable pub atBoth : ℕ → Pair → Verdict
-atBoth number None = Sound
-atBoth number (Two p q) = Refused (refusedWith number p q)
-
--- the rule of 51, 52 or 53, at "the first structure that clashes with an earlier"
-abbrev pub ruleClash : ℕ → List Claim → Verdict
-ruleClash number all = atBoth number (firstClash number all)
-
--- a rule that is broken at a spot, or nowhere
-unfoldable pub spotted : ℕ → Spot → Verdict
-spotted number Nowhere = Sound
-spotted number (At p) = Refused (refused number p)
 
 -- ---- the rules
 -- 71 to 77: every EIO, BIO and MSI has its fields in their ranges
@@ -93,6 +69,10 @@ noBridge present NoBio = present
 -- 43: LPC without a BIO
 abbrev pub rule43 : Said → ℕ → Verdict
 rule43 said place = rule (noBridge (said .lpc .present) (bridge (said .bios))) 43 place
+
+-- the rule of 51, 52 or 53, at "the first structure that clashes with an earlier"
+abbrev pub ruleClash : ℕ → List Claim → Verdict
+ruleClash number all = atBoth number (firstClash number all)
 
 -- 51: two sources share a global number
 abbrev pub rule51 : List Claim → Verdict

@@ -7,8 +7,6 @@ use crate::Map;
 use crate::Places;
 use crate::Route;
 use crate::routes::lpc_bridge;
-use clashes::Pair;
-use clashes::Spot;
 use words::Verdict;
 ghost use mathlib.Core.Path.{_≡_};
 ghost use mathlib.Core.List.{[], _∷_};
@@ -16,7 +14,7 @@ ghost use Prim.Native.Nat.{_≤_};
 ghost use Rattle.words.specs.Refusals.{rule, unless, firstRefusal, isSound};
 ghost use Rattle.words.specs.declared.Verdict.the-variants.{Refused};
 ghost use Rattle.lines.specs.Says.{says};
-ghost use Rattle.lines.specs.Rules.{atLater, atBoth, spotted, noBridge, tooMany, rule40, rule43, rule54, mapRules, firstBroken, slotPlaces};
+ghost use Rattle.lines.specs.Rules.{noBridge, tooMany, rule40, rule43, rule54, mapRules, firstBroken, slotPlaces};
 
 // ---- verdicts
 
@@ -28,36 +26,6 @@ fn rule_of(broken: bool, number: u8, place: u32) -> Verdict
         return Verdict::Refused(words::refuse(number, place));
     }
     Verdict::Sound
-}
-
-// A clash of which the later structure is told.
-fn at_later(number: u8, pair: Pair) -> Verdict
-    ensures { λ r. ⌜ r ≡ atLater number pair ⌝ }
-{
-    let Pair::Two(p, _) = pair else {
-        return Verdict::Sound;
-    };
-    Verdict::Refused(words::refuse(number, p))
-}
-
-// A clash of which the later structure and the earliest that it clashes with are told.
-fn at_both(number: u8, pair: Pair) -> Verdict
-    ensures { λ r. ⌜ r ≡ atBoth number pair ⌝ }
-{
-    let Pair::Two(p, q) = pair else {
-        return Verdict::Sound;
-    };
-    Verdict::Refused(words::refuse_with(number, p, q))
-}
-
-// A rule that is broken at a spot, or nowhere.
-fn spot_verdict(number: u8, spot: Spot) -> Verdict
-    ensures { λ r. ⌜ r ≡ spotted number spot ⌝ }
-{
-    let Spot::At(p) = spot else {
-        return Verdict::Sound;
-    };
-    Verdict::Refused(words::refuse(number, p))
 }
 
 // The first of two verdicts that refuses.
@@ -165,12 +133,12 @@ impl Map {
         ensures { λ r. ⌜ r ≡ firstRefusal (mapRules (says self) places madt fadt) ⌝ }
     {
         let from54 = self.rule_54(fadt);
-        let from53 = or_else(at_both(53, self.first_clash(places, 53)), from54);
-        let from52 = or_else(at_both(52, self.first_clash(places, 52)), from53);
-        let from51 = or_else(at_both(51, self.first_clash(places, 51)), from52);
+        let from53 = or_else(clashes::at_both(53, self.first_clash(places, 53)), from54);
+        let from52 = or_else(clashes::at_both(52, self.first_clash(places, 52)), from53);
+        let from51 = or_else(clashes::at_both(51, self.first_clash(places, 51)), from52);
         let from43 = or_else(self.rule_43(places.lpc), from51);
-        let from42 = or_else(spot_verdict(42, self.first_lone(places)), from43);
-        let from41 = or_else(at_later(41, self.first_clash(places, 41)), from42);
+        let from42 = or_else(clashes::at_spot(42, self.first_lone(places)), from43);
+        let from41 = or_else(clashes::at_later(41, self.first_clash(places, 41)), from42);
         or_else(self.rule_40(madt), from41)
     }
 
@@ -185,8 +153,8 @@ impl Map {
         self.first_by_search(places, madt, fadt)
     }
 
-    // The first broken rule of a map from 38 on, at the place of the structure that is named. A walk refuses 38 at the structure
-    // itself; for a map that has too many the place is the MADT's.
+    // The first broken rule of a map from 38 on, at the place of the structure that is named, and with its partner's for 51 to 53. A
+    // walk refuses 38 at the structure itself; for a map that has too many the place is the MADT's.
     pub fn first_broken(self, places: Places, madt: u32, fadt: u32) -> Verdict
         ensures { λ r. ⌜ r ≡ firstBroken self places madt fadt ⌝ }
     {

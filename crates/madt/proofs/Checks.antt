@@ -8,6 +8,7 @@ use native.Mathlib.Nat.{eq-or-lt-of-le}
 use native.Mathlib.Omega.{arith}
 use mathlib.Core.Logic.{⊎-elim}
 use lib.Dec.{eqb, leb}
+use lib.ListN.{drop}
 use borrow.Author.Tests.{eq-eqb, ne-eqb, not-false, le-leb, leb-true, leb-false}
 use Rattle.words.specs.Bytes.{byteAt}
 use Rattle.words.specs.Choice.{if}
@@ -146,22 +147,9 @@ module _ (place before : ℕ) (s : List ℕ) where
       unfolding structureRules
       at-34 h = first-kept _ _ _ _ a (first-kept _ _ _ _ b (first-broken _ _ _ _ h))
 
-      -- what is left of them where a structure is no HT
-      abbrev left : List Verdict
-      left =
-          rule (wrongFlags s) 35 place
-          ∷ rule (wrongCascade s) 71 place
-          ∷ rule (wrongNode s) 72 place
-          ∷ rule (wrongNodes s) 73 place
-          ∷ rule (wrongCount s) 74 place
-          ∷ rule (wrongEnd s) 75 place
-          ∷ rule (wrongBase s) 76 place
-          ∷ rule (wrongInput s) 77 place
-          ∷ rule (sharedBit s) 37 place
-          ∷ rule (oneTooMany before s) 38 place
-          ∷ []
-
-      from-35 : isHt s ≡ false → {verdict : Verdict} → firstRefusal left ≡ verdict → firstRefusal (structureRules place before s) ≡ verdict
+      -- what is left of them where a structure is no HT: those behind 34
+      from-35 : isHt s ≡ false → {verdict : Verdict} → firstRefusal (drop 3 (structureRules place before s)) ≡ verdict
+          → firstRefusal (structureRules place before s) ≡ verdict
       unfolding structureRules
       from-35 ht e = first-kept _ _ _ _ a (first-kept _ _ _ _ b (first-kept _ _ _ _ ht e))
 
@@ -169,20 +157,20 @@ module _ (place before : ℕ) (s : List ℕ) where
       module _ {full : Bool} (many : full ≡ oneTooMany before s) where
         pub for-core : byteAt s 0 ≡ 17
             → firstRefusal (structureRules place before s) ≡ firstRefusal (rule (reservedFlags (coreOf s)) 35 place ∷ rule full 38 place ∷ [])
-        unfolding firstRefusal unless if isType wrongFlags wrongCascade wrongNode wrongNodes wrongCount wrongEnd wrongBase wrongInput sharedBit
+        unfolding structureRules firstRefusal unless if isType wrongFlags wrongCascade wrongNode wrongNodes wrongCount wrongEnd wrongBase wrongInput sharedBit
         for-core t = from-35 (ht-no s (λ h. omega arith)) (rw (t, sym many))
 
         pub for-lio : byteAt s 0 ≡ 18
             → firstRefusal (structureRules place before s)
             ≡ firstRefusal (fieldRule (lioField (lioOf s)) place ∷ rule (bitInBoth (lioOf s)) 37 place ∷ rule full 38 place ∷ [])
-        unfolding firstRefusal unless if isType wrongFlags wrongCascade wrongNode wrongNodes wrongCount wrongEnd wrongBase wrongInput sharedBit lioField
+        unfolding structureRules firstRefusal unless if isType wrongFlags wrongCascade wrongNode wrongNodes wrongCount wrongEnd wrongBase wrongInput sharedBit lioField
         for-lio t =
             from-35 (ht-no s (λ h. omega arith))
             (rw (t, or-false, sym many) (one-field place (rule (bitInBoth (lioOf s)) 37 place ∷ rule full 38 place ∷ []) (halvesFit (lioOf s)) 71 refl))
 
         pub for-eio : byteAt s 0 ≡ 20
             → firstRefusal (structureRules place before s) ≡ firstRefusal (fieldRule (eioField (eioOf s)) place ∷ rule full 38 place ∷ [])
-        unfolding firstRefusal unless if isType wrongFlags wrongCascade wrongNode wrongNodes wrongCount wrongEnd wrongBase wrongInput sharedBit eioField
+        unfolding structureRules firstRefusal unless if isType wrongFlags wrongCascade wrongNode wrongNodes wrongCount wrongEnd wrongBase wrongInput sharedBit eioField
         for-eio t =
             let e = eioOf s in
             from-35 (ht-no s (λ h. omega arith))
@@ -191,7 +179,7 @@ module _ (place before : ℕ) (s : List ℕ) where
 
         pub for-msi : byteAt s 0 ≡ 21
             → firstRefusal (structureRules place before s) ≡ firstRefusal (fieldRule (msiField (msiOf s)) place ∷ rule full 38 place ∷ [])
-        unfolding firstRefusal unless if isType wrongFlags wrongCascade wrongNode wrongNodes wrongCount wrongEnd wrongBase wrongInput sharedBit msiField
+        unfolding structureRules firstRefusal unless if isType wrongFlags wrongCascade wrongNode wrongNodes wrongCount wrongEnd wrongBase wrongInput sharedBit msiField
         for-msi t =
             let m = msiOf s in
             from-35 (ht-no s (λ h. omega arith))
@@ -200,7 +188,7 @@ module _ (place before : ℕ) (s : List ℕ) where
 
         pub for-bio : byteAt s 0 ≡ 22
             → firstRefusal (structureRules place before s) ≡ firstRefusal (fieldRule (bioField (bioOf s)) place ∷ rule full 38 place ∷ [])
-        unfolding firstRefusal unless if isType wrongFlags wrongCascade wrongNode wrongNodes wrongCount wrongEnd wrongBase wrongInput sharedBit bioField
+        unfolding structureRules firstRefusal unless if isType wrongFlags wrongCascade wrongNode wrongNodes wrongCount wrongEnd wrongBase wrongInput sharedBit bioField
         for-bio t =
             let b = bioOf s in
             from-35 (ht-no s (λ h. omega arith))
@@ -209,7 +197,7 @@ module _ (place before : ℕ) (s : List ℕ) where
 
         pub for-lpc : byteAt s 0 ≡ 23
             → firstRefusal (structureRules place before s) ≡ firstRefusal (fieldRule (lpcField (lpcOf s)) place ∷ rule full 38 place ∷ [])
-        unfolding firstRefusal unless if isType wrongFlags wrongCascade wrongNode wrongNodes wrongCount wrongEnd wrongBase wrongInput sharedBit lpcField
+        unfolding structureRules firstRefusal unless if isType wrongFlags wrongCascade wrongNode wrongNodes wrongCount wrongEnd wrongBase wrongInput sharedBit lpcField
         for-lpc t =
             from-35 (ht-no s (λ h. omega arith))
             (rw (t, sym many) (one-field place (rule full 38 place ∷ []) (inputFits (lpcOf s .cascade)) 77 refl))
@@ -220,7 +208,7 @@ module _ (place before : ℕ) (s : List ℕ) where
     no = no-type s h
 
     pub passed-over : firstRefusal (structureRules place before s) ≡ Sound
-    unfolding firstRefusal unless if wrongLength wrongVersion wrongFlags wrongCascade wrongNode wrongNodes wrongCount wrongEnd wrongBase wrongInput sharedBit oneTooMany
+    unfolding structureRules firstRefusal unless if wrongLength wrongVersion wrongFlags wrongCascade wrongNode wrongNodes wrongCount wrongEnd wrongBase wrongInput sharedBit oneTooMany
     passed-over =
         from-35 (rw h) (rw h) (ht-no s (unknown s h 19 (omega arith) (omega arith)))
         (rw (

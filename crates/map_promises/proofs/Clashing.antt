@@ -11,11 +11,12 @@ use Rattle.words.specs.declared.Verdict.{Verdict}
 use Rattle.words.specs.declared.Verdict.the-variants.{Sound, Refused}
 use Rattle.words.proofs.Verdicts.{first-kept}
 use Rattle.clashes.specs.Search.{firstClash, firstLone}
+use Rattle.clashes.specs.Told.{atLater, atBoth, spotted}
 use Rattle.clashes.specs.declared.Claim.{Claim}
 use Rattle.clashes.specs.declared.Pair.the-variants.{None}
 use Rattle.lines.specs.Says.{Said, says}
 use Rattle.lines.specs.Claims.{claims}
-use Rattle.lines.specs.Rules.{tooMany, atLater, atBoth, ruleClash, spotted, rangesKept, rule51, rule52, rule53, rule54, rulesTo43, rulesFrom51, mapRules, firstBroken}
+use Rattle.lines.specs.Rules.{tooMany, ruleClash, rangesKept, rule51, rule52, rule53, rule54, rulesTo43, rulesFrom51, mapRules, firstBroken}
 use Rattle.lines.specs.declared.Map.{Map}
 use Rattle.lines.specs.declared.Places.{Places}
 use Rattle.map_promises.specs.Structures.{Structure, Placed}

@@ -27,3 +27,4 @@ pub mod Rising
 pub mod WalkKeepsBooks
 pub mod WalkInTableOrder
 pub mod NormalMapsEqual
+pub mod Fields

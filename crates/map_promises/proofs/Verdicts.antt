@@ -17,7 +17,8 @@ use Rattle.clashes.specs.declared.Pair.the-variants.{Two, None}
 use Rattle.clashes.proofs.Logic.{or-neither}
 use Rattle.lines.specs.Says.{Said}
 use Rattle.lines.specs.Routes.{bridge, arrival}
-use Rattle.lines.specs.Rules.{atLater, atBoth, spotted, rule40, noBridge, lost, rulesTo43, rulesFrom51, mapRules}
+use Rattle.clashes.specs.Told.{atLater, atBoth, spotted}
+use Rattle.lines.specs.Rules.{rule40, noBridge, lost, rulesTo43, rulesFrom51, mapRules}
 use Rattle.lines.specs.declared.Places.{Places}
 
 -- ---- a rule that two structures break, one place or both told, and one that a structure breaks by itself

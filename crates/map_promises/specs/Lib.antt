@@ -5,3 +5,4 @@ pub mod Statements
 pub mod Examples
 pub mod Routing
 pub mod Walks
+pub mod Fields

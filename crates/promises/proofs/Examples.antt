@@ -22,11 +22,12 @@ use Rattle.kinds.specs.Used.{usedHalf, saidLio, saidLpc}
 use Rattle.clashes.specs.Folds.{fold}
 use Rattle.clashes.specs.Rules.{clash}
 use Rattle.clashes.specs.Search.{sooner, nearer, partner, better, firstClash, lonelier, firstLone}
+use Rattle.clashes.specs.Told.{atLater, atBoth, spotted}
 use Rattle.parts.specs.Inputs.{hasBit, lesser, hasPin}
 use Rattle.lines.specs.Answers.{routeOf, traceOf}
 use Rattle.lines.specs.Claims.{placed, claims}
 use Rattle.lines.specs.Routes.{lioArrival, through, bridge, pinArrival, bioOwner, owner, arrivalOf, arrival}
-use Rattle.lines.specs.Rules.{atLater, atBoth, spotted, eiosFit, biosFit, msisFit, rangesKept, noBridge, lost, rulesTo43, rulesFrom51, mapRules, firstBroken, keepsRules}
+use Rattle.lines.specs.Rules.{eiosFit, biosFit, msisFit, rangesKept, noBridge, lost, rulesTo43, rulesFrom51, mapRules, firstBroken, keepsRules}
 use Rattle.lines.specs.Traces.{slotTold, isBridge, isLpcPin, pinTold, landed, eioTraced, traced}
 use Rattle.madt.specs.Pieces.{pieceAt, piecesFrom, pieces, structures}
 use Rattle.madt.specs.Rules.{isType, isKnown, lengthOf, wrongLength as wrongStructureLength, wrongVersion as wrongStructureVersion, isHt, wrongFlags as reservedFlags, wrongCascade, wrongNode, wrongNodes, wrongCount as noSlots, wrongEnd, wrongBase, wrongInput, sharedBit, oneTooMany, structureRules}

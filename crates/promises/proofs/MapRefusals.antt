@@ -11,6 +11,7 @@ use lib.ListN.{length}
 use Rattle.kinds.proofs.Used.{lio-present, lpc-present}
 use Rattle.clashes.specs.Rules.{lone}
 use Rattle.clashes.specs.Search.{sooner, firstClash, lonelier, firstLone}
+use Rattle.clashes.specs.Told.{atLater, atBoth, spotted}
 use Rattle.clashes.specs.declared.Claim.{Claim}
 use Rattle.clashes.specs.declared.Spot.{Spot}
 use Rattle.clashes.specs.declared.Spot.the-variants.{At, Nowhere}
@@ -19,7 +20,7 @@ use Rattle.clashes.specs.declared.Pair.the-variants.{Two, None}
 use Rattle.lines.specs.Says.{Said, says}
 use Rattle.lines.specs.Claims.{claims}
 use Rattle.lines.specs.Routes.{bridge}
-use Rattle.lines.specs.Rules.{atLater, atBoth, spotted, rule40, noBridge, rulesTo43, rulesFrom51, mapRules}
+use Rattle.lines.specs.Rules.{rule40, noBridge, rulesTo43, rulesFrom51, mapRules}
 use Rattle.lines.specs.declared.Map.{Map}
 use Rattle.lines.specs.declared.Places.{Places}
 use Rattle.lines.specs.declared.Bridge.{Bridge}

@@ -45,8 +45,8 @@ or-else-requires-4 c κs = search needs
 first-lone-requires : tie.Need-first-lone-requires
 first-lone-requires c κs = c .before .before .before .before .before .before .before .before .before .before .before .before .pre
 
-spot-verdict-requires : tie.Need-spot-verdict-requires
-spot-verdict-requires c κs = search needs
+at-spot-requires : tie.Need-at-spot-requires
+at-spot-requires c κs = search needs
 
 or-else-requires-5 : tie.Need-or-else-requires-5
 or-else-requires-5 c κs = search needs
@@ -76,7 +76,7 @@ returns c =
       c .before .before .before .at-later .ensures,
       c .before .before .before .before .first-clash4 .ensures,
       c .before .before .before .before .before .or-else5 .ensures,
-      c .before .before .before .before .before .before .spot-verdict .ensures,
+      c .before .before .before .before .before .before .at-spot .ensures,
       c .before .before .before .before .before .before .before .first-lone .ensures,
       c .before .before .before .before .before .before .before .before .or-else4 .ensures,
       c .before .before .before .before .before .before .before .before .before .rule-43 .ensures,
@@ -110,7 +110,7 @@ first-by-search-spec =
     rule-43-requires
     or-else-requires-4
     first-lone-requires
-    spot-verdict-requires
+    at-spot-requires
     or-else-requires-5
     first-clash-requires-4
     at-later-requires

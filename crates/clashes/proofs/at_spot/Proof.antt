@@ -1,8 +1,8 @@
--- `rules::spot_verdict` names the structure at a spot.
+-- `at_spot` names the structure at a spot.
 use borrow.Author.Needs.{needs}
-use Rattle.lines.specs.Rules.{spotted}
-use Rattle.lines.proofs.rules.spot_verdict.Statement.{statement}
-use Rattle.lines.proofs.rules.spot_verdict.Tie as tie
+use Rattle.clashes.specs.Told.{spotted}
+use Rattle.clashes.proofs.at_spot.Statement.{statement}
+use Rattle.clashes.proofs.at_spot.Tie as tie
 
 enum-known-spot : tie.Need-enum-known-spot
 enum-known-spot c = search needs
@@ -21,6 +21,6 @@ returns-2 : tie.Need-returns-2
 unfolding spotted
 returns-2 c = rw (c .before .before .spot .given .1, c .refuse .ensures)
 
-pub spot-verdict-spec : {M : Type 1} → statement M
-spot-verdict-spec =
+pub at-spot-spec : {M : Type 1} → statement M
+at-spot-spec =
     tie.close (tie.spec enum-known-spot enum-told returns refuse-requires returns-2)

@@ -1,8 +1,8 @@
--- `rules::at_later` names the later of two structures that clash.
+-- `at_later` names the later of two structures that clash.
 use borrow.Author.Needs.{needs}
-use Rattle.lines.specs.Rules.{atLater}
-use Rattle.lines.proofs.rules.at_later.Statement.{statement}
-use Rattle.lines.proofs.rules.at_later.Tie as tie
+use Rattle.clashes.specs.Told.{atLater}
+use Rattle.clashes.proofs.at_later.Statement.{statement}
+use Rattle.clashes.proofs.at_later.Tie as tie
 
 enum-known-pair : tie.Need-enum-known-pair
 enum-known-pair c = search needs

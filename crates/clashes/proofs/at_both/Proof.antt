@@ -1,8 +1,8 @@
--- `rules::at_both` names two structures that clash.
+-- `at_both` names two structures that clash.
 use borrow.Author.Needs.{needs}
-use Rattle.lines.specs.Rules.{atBoth}
-use Rattle.lines.proofs.rules.at_both.Statement.{statement}
-use Rattle.lines.proofs.rules.at_both.Tie as tie
+use Rattle.clashes.specs.Told.{atBoth}
+use Rattle.clashes.proofs.at_both.Statement.{statement}
+use Rattle.clashes.proofs.at_both.Tie as tie
 
 enum-known-pair : tie.Need-enum-known-pair
 enum-known-pair c = search needs

@@ -1,0 +1,289 @@
+-- Each of 71 to 77 is told of a structure exactly where its field is the first that is out of its range.
+use Prim.Native.Nat.{ℕ, _+_, _<_, _≤_}
+use native.Mathlib.Omega.{arith}
+use mathlib.Core.Path.{_≡_, refl, sym, _∙_, ap}
+use mathlib.Core.Logic.{_⊎_, inl, inr, ⊎-elim}
+use mathlib.Core.List.{List, [], _∷_}
+use mathlib.Core.Bool.{Bool, true, false, _&&_}
+use borrow.Author.Tests.{leb-true, leb-false, eqb-true, eqb-false}
+use lib.Dec.{eqb, leb}
+use Rattle.words.specs.Choice.{if}
+use Rattle.words.specs.Refusals.{refused, rule, unless, firstRefusal}
+use Rattle.words.specs.declared.Refusal.{Refusal}
+use Rattle.words.specs.declared.Verdict.{Verdict}
+use Rattle.words.specs.declared.Verdict.the-variants.{Refused}
+use Rattle.words.proofs.Verdicts.{not-sound, same-refusal, first-broken, first-kept}
+use Rattle.kinds.specs.Makers.{lioOf, eioOf, msiOf, bioOf, lpcOf}
+use Rattle.kinds.specs.Ranges.{halfFits, halvesFit, lioField, eioField, msiField, bioField, lpcField, bitInBoth}
+use Rattle.kinds.specs.declared.Half.{Half}
+use Rattle.kinds.specs.declared.Lio.{Lio}
+use Rattle.kinds.specs.declared.Eio.{Eio}
+use Rattle.kinds.specs.declared.Msi.{Msi}
+use Rattle.kinds.specs.declared.Bio.{Bio}
+use Rattle.kinds.specs.declared.Lpc.{Lpc}
+use Rattle.madt.specs.Rules.{oneTooMany, structureRules}
+use Rattle.madt.proofs.Checks.{fieldRule, for-lio, for-eio, for-msi, for-bio, for-lpc}
+use Rattle.map_promises.specs.Fields.{Iff, Outside, HalfWrong, LioWrong, LioTold, EioTold, MsiTold, BioTold, LpcTold, RefusedThere, FieldsExactly}
+
+-- ---- a test of a field, and what it says in numbers
+abbrev Tested : Bool → Type 0 → Type 0 → Type 0
+Tested test fits wrong = ((test ≡ true) × fits) ⊎ ((test ≡ false) × wrong)
+
+most : (n high : ℕ) → Tested (leb n high) (n ≤ high) (high < n)
+most n high = go (leb n high) refl
+  where
+    go : (b : Bool) → leb n high ≡ b → Tested (leb n high) (n ≤ high) (high < n)
+    go true e = inl (e, leb-true n high e)
+    go false e = inr (e, leb-false n high e)
+
+between : (low high n : ℕ) → Tested (leb low n && leb n high) ((low ≤ n) × (n ≤ high)) (Outside low high n)
+between low high n =
+    ⊎-elim
+    (λ a. ⊎-elim (λ b. inl (rw (a .0, b .0), (a .1, b .1))) (λ b. inr (rw (a .0, b .0), inr (b .1))) (most n high))
+    (λ a. inr (rw (a .0), inl (a .1)))
+    (most low n)
+
+zero-or-not : (n : ℕ) → Tested (eqb n 0) (n ≡ 0) (n ≡ 0 → ⊥)
+zero-or-not n = go (eqb n 0) refl
+  where
+    go : (b : Bool) → eqb n 0 ≡ b → Tested (eqb n 0) (n ≡ 0) (n ≡ 0 → ⊥)
+    go true e = inl (e, eqb-true n 0 e)
+    go false e = inr (e, eqb-false n 0 e)
+
+inside : {low high n : ℕ} → (low ≤ n) × (n ≤ high) → Outside low high n → ⊥
+inside f (inl l) = omega (arith, f .0)
+inside f (inr l) = omega (arith, f .1)
+
+half-tested : (half : Half) → Tested (halfFits half) (HalfWrong half → ⊥) (HalfWrong half)
+half-tested half =
+    ⊎-elim
+    (λ z. inl (rw (z .0), λ w. w .0 (z .1)))
+    (λ z. ⊎-elim (λ c. inl (rw (z .0, c .0), λ w. inside (c .1) (w .1))) (λ c. inr (rw (z .0, c .0), (z .1, c .1))) (between 2 9 (half .cascade)))
+    (zero-or-not (half .mask))
+
+lio-tested : (lio : Lio) → Tested (halvesFit lio) (LioWrong lio → ⊥) (LioWrong lio)
+lio-tested lio =
+    ⊎-elim
+    (λ a. ⊎-elim (λ b. inl (rw (a .0, b .0), λ w. ⊎-elim (a .1) (b .1) w)) (λ b. inr (rw (a .0, b .0), inr (b .1))) (half-tested (lio .high)))
+    (λ a. inr (rw (a .0), inl (a .1)))
+    (half-tested (lio .low))
+
+-- ---- the number of the first field out of its range, for each kind
+told : {f n : ℕ} {B : Type 0} → f ≡ n → B → Iff (f ≡ n) B
+told e b = ((λ h. b), λ h. e)
+
+untold : {f n m : ℕ} {B : Type 0} → f ≡ m → (m ≡ n → ⊥) → (B → ⊥) → Iff (f ≡ n) B
+untold e differ never = ((λ h. absurd (differ (sym e ∙ h))), λ b. absurd (never b))
+
+eio-fields : (x : Eio) → EioTold (λ n. eioField x ≡ n) x
+unfolding eioField if
+eio-fields x =
+    ⊎-elim
+    (λ c. ⊎-elim
+    (λ k. ⊎-elim
+    (λ m.
+    let f : eioField x ≡ 73 = rw (c .0, k .0, m .0) in
+    record {
+      r71 = untold f (λ h. omega arith) (inside (c .1));
+      r72 = untold f (λ h. omega arith) (λ w. omega (arith, w .1, k .1));
+      r73 = told f (inside (c .1), k .1, m .1);
+    })
+    (λ m.
+    let f : eioField x ≡ 0 = rw (c .0, k .0, m .0) in
+    record {
+      r71 = untold f (λ h. omega arith) (inside (c .1));
+      r72 = untold f (λ h. omega arith) (λ w. omega (arith, w .1, k .1));
+      r73 = untold f (λ h. omega arith) (λ w. m .1 (w .2));
+    })
+    (zero-or-not (x .nodes)))
+    (λ k.
+    let f : eioField x ≡ 72 = rw (c .0, k .0) in
+    record {
+      r71 = untold f (λ h. omega arith) (inside (c .1));
+      r72 = told f (inside (c .1), k .1);
+      r73 = untold f (λ h. omega arith) (λ w. omega (arith, w .1, k .1));
+    })
+    (most (x .node) 63))
+    (λ c.
+    let f : eioField x ≡ 71 = rw (c .0) in
+    record {
+      r71 = told f (c .1);
+      r72 = untold f (λ h. omega arith) (λ w. w .0 (c .1));
+      r73 = untold f (λ h. omega arith) (λ w. w .0 (c .1));
+    })
+    (between 2 9 (x .cascade))
+
+msi-fields : (x : Msi) → MsiTold (λ n. msiField x ≡ n) x
+unfolding msiField if
+msi-fields x =
+    ⊎-elim
+    (λ c. ⊎-elim
+    (λ e.
+    let f : msiField x ≡ 0 = rw (c .0, e .0) in
+    record {
+      r74 = untold f (λ h. omega arith) (λ w. omega (arith, c .1));
+      r75 = untold f (λ h. omega arith) (λ w. omega (arith, w .1, e .1));
+    })
+    (λ e.
+    let f : msiField x ≡ 75 = rw (c .0, e .0) in
+    record {
+      r74 = untold f (λ h. omega arith) (λ w. omega (arith, c .1));
+      r75 = told f ((λ z. omega (arith, c .1)), e .1);
+    })
+    (most (x .start + x .count) 256))
+    (λ c.
+    let f : msiField x ≡ 74 = rw (c .0) in
+    record {
+      r74 = told f (omega (arith, c .1));
+      r75 = untold f (λ h. omega arith) (λ w. w .0 (omega (arith, c .1)));
+    })
+    (most 1 (x .count))
+
+bio-fields : (x : Bio) → BioTold (λ n. bioField x ≡ n) x
+unfolding bioField if
+bio-fields x =
+    ⊎-elim
+    (λ k. ⊎-elim
+    (λ b.
+    let f : bioField x ≡ 0 = rw (k .0, b .0) in
+    record {
+      r72 = untold f (λ h. omega arith) (λ w. omega (arith, k .1));
+      r76 = untold f (λ h. omega arith) (λ w. inside (b .1) (w .1));
+    })
+    (λ b.
+    let f : bioField x ≡ 76 = rw (k .0, b .0) in
+    record {
+      r72 = untold f (λ h. omega arith) (λ w. omega (arith, k .1));
+      r76 = told f (k .1, b .1);
+    })
+    (between 64 65472 (x .base)))
+    (λ k.
+    let f : bioField x ≡ 72 = rw (k .0) in
+    record {
+      r72 = told f (k .1);
+      r76 = untold f (λ h. omega arith) (λ w. omega (arith, w .0, k .1));
+    })
+    (most (x .node) 63)
+
+lpc-fields : (x : Lpc) → LpcTold (λ n. lpcField x ≡ n) x
+unfolding lpcField if
+lpc-fields x =
+    ⊎-elim
+    (λ c.
+    let f : lpcField x ≡ 0 = rw (c .0) in
+    record { r77 = untold f (λ h. omega arith) (λ w. omega (arith, c .1)) })
+    (λ c.
+    let f : lpcField x ≡ 77 = rw (c .0) in
+    record { r77 = told f (c .1) })
+    (most (x .cascade) 63)
+
+-- ---- a structure is refused with that number
+chained : {A B C : Type 0} → Iff A B → Iff B C → Iff A C
+chained e g = ((λ a. g .0 (e .0 a)), λ c. e .1 (g .1 c))
+
+number-is : {n m p q : ℕ} → _≡_ {A = Verdict} (Refused (refused n p)) (Refused (refused m q)) → n ≡ m
+number-is h = ap (λ (r : Refusal). r .number) (same-refusal h)
+
+module _ (place : ℕ) where
+  -- a rule of another number does not tell n, and so the rules behind it must
+  passes : (broken : Bool) (m n : ℕ) (later : List Verdict) → (m ≡ n → ⊥) → (firstRefusal later ≡ Refused (refused n place) → ⊥)
+      → firstRefusal (rule broken m place ∷ later) ≡ Refused (refused n place) → ⊥
+  unfolding firstRefusal unless if
+  passes true m n later differ never h = differ (number-is h)
+  passes false m n later differ never h = never h
+
+  none : (n : ℕ) → firstRefusal [] ≡ Refused (refused n place) → ⊥
+  unfolding firstRefusal
+  none n h = not-sound (sym h)
+
+  of-field : (f n : ℕ) (later : List Verdict) → (n ≡ 0 → ⊥) → (firstRefusal later ≡ Refused (refused n place) → ⊥)
+      → Iff (firstRefusal (fieldRule f place ∷ later) ≡ Refused (refused n place)) (f ≡ n)
+  of-field f n later some never =
+      ⊎-elim
+      (λ z.
+      let e : firstRefusal (fieldRule f place ∷ later) ≡ firstRefusal later = first-kept _ _ _ _ (rw (z .0)) refl in
+      ((λ h. absurd (never (sym e ∙ h))), λ h. absurd (some (sym h ∙ z .1))))
+      (λ z.
+      let e : firstRefusal (fieldRule f place ∷ later) ≡ Refused (refused f place) = first-broken _ _ _ _ (rw (z .0)) in
+      ((λ h. number-is (sym e ∙ h)), λ h. e ∙ ap (λ (m : ℕ). Refused (refused m place)) h))
+      (zero-or-not f)
+
+  -- of a LIO, 37 stands between
+  lio-told : (x : Lio) (full : Bool)
+      → LioTold (λ n. firstRefusal (fieldRule (lioField x) place ∷ rule (bitInBoth x) 37 place ∷ rule full 38 place ∷ []) ≡ Refused (refused n place)) x
+  unfolding lioField if
+  lio-told x full =
+      let behind : List Verdict = rule (bitInBoth x) 37 place ∷ rule full 38 place ∷ [] in
+      let field = of-field (lioField x) 71 behind (λ z. omega arith) (passes (bitInBoth x) 37 71 (rule full 38 place ∷ []) (λ z. omega arith) (passes full 38 71 [] (λ z. omega arith) (none 71))) in
+      ⊎-elim
+      (λ c.
+      let f : lioField x ≡ 0 = rw (c .0) in
+      let e : firstRefusal (fieldRule (lioField x) place ∷ behind) ≡ firstRefusal behind = rw f (first-kept false 0 place behind refl refl) in
+      record {
+        r71 = chained field (untold f (λ h. omega arith) (c .1));
+        r37 = ((λ h. (c .1, shared (bitInBoth x) refl (sym e ∙ h))), λ w. e ∙ first-broken _ _ _ _ (w .1));
+      })
+      (λ c.
+      let f : lioField x ≡ 71 = rw (c .0) in
+      record {
+        r71 = chained field (told f (c .1));
+        r37 = ((λ h. absurd (let n : 71 ≡ 37 = number-is (sym (field .1 f) ∙ h) in omega arith)), λ w. absurd (w .0 (c .1)));
+      })
+      (lio-tested x)
+    where
+      shared : (b : Bool) → bitInBoth x ≡ b → firstRefusal (rule (bitInBoth x) 37 place ∷ rule full 38 place ∷ []) ≡ Refused (refused 37 place) → bitInBoth x ≡ true
+      shared true e h = e
+      shared false e h = absurd (passes full 38 37 [] (λ z. omega arith) (none 37) (sym (first-kept _ _ _ _ e refl) ∙ h))
+
+-- THE PROMISE
+module _ (place before : ℕ) (s : List ℕ) where
+  abbrev full : Bool
+  full = oneTooMany before s
+
+  abbrev verdict : Verdict
+  verdict = firstRefusal (structureRules place before s)
+
+  -- a kind whose ranges are all that it has
+  by-field : {f : ℕ} → verdict ≡ firstRefusal (fieldRule f place ∷ rule full 38 place ∷ []) → (n : ℕ) → (n ≡ 0 → ⊥) → (38 ≡ n → ⊥)
+      → Iff (RefusedThere place before s n) (f ≡ n)
+  by-field {f} e n some differ =
+      let field = of-field place f n (rule full 38 place ∷ []) some (passes place full 38 n [] differ (none place n)) in
+      ((λ h. field .0 (sym e ∙ h)), λ h. e ∙ field .1 h)
+
+  pub fields-exactly : FieldsExactly place before s
+  fields-exactly =
+      record {
+        lio = λ o.
+            let e = for-lio place before s (o .r32) (o .r33) refl (o .type) in
+            let l = lio-told place (lioOf s) full in
+            record {
+              r71 = ((λ h. l .r71 .0 (sym e ∙ h)), λ w. e ∙ l .r71 .1 w);
+              r37 = ((λ h. l .r37 .0 (sym e ∙ h)), λ w. e ∙ l .r37 .1 w);
+            };
+        eio = λ o.
+            let e = by-field (for-eio place before s (o .r32) (o .r33) refl (o .type)) in
+            let x = eio-fields (eioOf s) in
+            record {
+              r71 = chained (e 71 (λ z. omega arith) (λ z. omega arith)) (x .r71);
+              r72 = chained (e 72 (λ z. omega arith) (λ z. omega arith)) (x .r72);
+              r73 = chained (e 73 (λ z. omega arith) (λ z. omega arith)) (x .r73);
+            };
+        msi = λ o.
+            let e = by-field (for-msi place before s (o .r32) (o .r33) refl (o .type)) in
+            let x = msi-fields (msiOf s) in
+            record {
+              r74 = chained (e 74 (λ z. omega arith) (λ z. omega arith)) (x .r74);
+              r75 = chained (e 75 (λ z. omega arith) (λ z. omega arith)) (x .r75);
+            };
+        bio = λ o.
+            let e = by-field (for-bio place before s (o .r32) (o .r33) refl (o .type)) in
+            let x = bio-fields (bioOf s) in
+            record {
+              r72 = chained (e 72 (λ z. omega arith) (λ z. omega arith)) (x .r72);
+              r76 = chained (e 76 (λ z. omega arith) (λ z. omega arith)) (x .r76);
+            };
+        lpc = λ o.
+            let e = by-field (for-lpc place before s (o .r32) (o .r33) refl (o .type)) in
+            let x = lpc-fields (lpcOf s) in
+            record { r77 = chained (e 77 (λ z. omega arith) (λ z. omega arith)) (x .r77) };
+      }
