@@ -1,10 +1,10 @@
 #!/usr/bin/env python3
-"""The cases that the program `vectors` runs: what is asked of which capture, and the answer that document 01 fixes.
+"""The cases that the program `vectors` runs: what is asked of which capture, and the answer that the documents fix.
 
 `boards/cases.py` writes crates/vectors/stdin (the questions), crates/vectors/stdout (the answers, one line each), the boards of
 boards/printed.py with what is printed for each, board A as the case of the program `map`, and crates/promises/specs/BoardA.antt
 (board A and three neighbours as lists); `boards/cases.py --check` says whether these files are what these pages make.
-Labels begin with the point that they settle: a refusal number of document 01, or a rule in our words.
+Labels begin with the point that they settle: a refusal number, or a rule in our words.
 """
 import pathlib
 import sys

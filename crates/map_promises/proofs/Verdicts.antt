@@ -1,12 +1,14 @@
 -- What it tells that a rule of a map is kept, or that it is broken.
-use Prim.Native.Nat.{ℕ, zero, suc, _-_, _<_}
+use Prim.Native.Nat.{ℕ, zero, suc, _-_, _<_, _≤_}
+use native.Mathlib.Omega.{arith}
 use mathlib.Core.Path.{_≡_, refl, sym, ap}
-use mathlib.Core.Bool.{not, _||_}
+use mathlib.Core.Logic.{_⊎_, inl, inr}
+use mathlib.Core.Bool.{Bool, not, _||_}
 use borrow.Author.Tests.{eqb-false}
 use lib.Dec.{eqb, ltb}
 use lib.ListN.{length, getD}
 use Rattle.words.specs.Choice.{if}
-use Rattle.words.specs.Refusals.{refusedWith, firstRefusal}
+use Rattle.words.specs.Refusals.{refusedWith, rule, firstRefusal}
 use Rattle.words.specs.declared.Refusal.{Refusal}
 use Rattle.words.specs.declared.Verdict.the-variants.{Sound, Refused}
 use Rattle.words.proofs.Verdicts.{not-sound, same-refusal, rule-kept, rule-told, first-told}
@@ -72,6 +74,10 @@ module _ (n : ℕ) where
       let same = same-refusal h in
       (ap (λ (r : Refusal). r .number) same, sym (ap (λ (r : Refusal). r .second) same), ap (λ (r : Refusal). At (r .place)) same)
 
+-- a rule at a known place tells no second one
+pub one-place : (broken : Bool) (number place n p q : ℕ) → rule broken number place ≡ Refused (refusedWith n p q) → q ≡ 0
+one-place broken number place n p q h = sym (ap (λ (r : Refusal). r .second) (rule-told broken number place h))
+
 -- 40: there is an EIO
 pub eio-there : (said : Said) (madt : ℕ) → rule40 said madt ≡ Sound → length (said .eios) ≡ 0 → ⊥
 eio-there said madt h =
@@ -100,6 +106,19 @@ module _ (said : Said) (places : Places) (madt fadt : ℕ) where
   stands (suc (suc (suc (suc (suc (suc zero)))))) n p q h = ap position (sym (both-told 53 n p q _ h .0))
   stands (suc (suc (suc (suc (suc (suc (suc zero))))))) n p q h = ap positionOf (sym (rule-told (lost (arrival said (said .sci))) 54 fadt h))
   stands (suc (suc (suc (suc (suc (suc (suc (suc k)))))))) n p q h = not-sound (sym h)
+
+  -- and no second place, but for 51 to 53
+  pub seconds : (k n p q : ℕ) → getD (mapRules said places madt fadt) k Sound ≡ Refused (refusedWith n p q) → ((51 ≤ n) × (n ≤ 53)) ⊎ (q ≡ 0)
+  unfolding mapRules rulesTo43 rulesFrom51
+  seconds zero n p q h = inr (one-place (not (said .lio .present) || eqb (length (said .eios)) 0) 40 madt n p q h)
+  seconds (suc zero) n p q h = inr (later-told 41 n p q _ h .1)
+  seconds (suc (suc zero)) n p q h = inr (spotted-told 42 n p q _ h .1)
+  seconds (suc (suc (suc zero))) n p q h = inr (one-place (noBridge (said .lpc .present) (bridge (said .bios))) 43 (places .lpc) n p q h)
+  seconds (suc (suc (suc (suc zero)))) n p q h = let e = both-told 51 n p q _ h .0 in inl (omega arith, omega arith)
+  seconds (suc (suc (suc (suc (suc zero))))) n p q h = let e = both-told 52 n p q _ h .0 in inl (omega arith, omega arith)
+  seconds (suc (suc (suc (suc (suc (suc zero)))))) n p q h = let e = both-told 53 n p q _ h .0 in inl (omega arith, omega arith)
+  seconds (suc (suc (suc (suc (suc (suc (suc zero))))))) n p q h = inr (one-place (lost (arrival said (said .sci))) 54 fadt n p q h)
+  seconds (suc (suc (suc (suc (suc (suc (suc (suc k)))))))) n p q h = not-sound (sym h)
 
   -- the number that is told is that of the first broken rule
   pub told-at : (n p q : ℕ) → firstRefusal (mapRules said places madt fadt) ≡ Refused (refusedWith n p q)

@@ -155,6 +155,10 @@ RefusedWith map places madt fadt n p q = firstBroken map places madt fadt ≡ Re
 abbrev pub Exactly : (ℕ → ℕ → Type 0) → Type 0 → (ℕ → ℕ → Type 0) → Type 0
 Exactly told broken named = ((p q : ℕ) → told p q → broken × named p q) × (broken → (p : ℕ) × (q : ℕ) × told p q)
 
+-- "all others carry 0": only 51 to 53 tell a second place (any map)
+abbrev pub OthersCarryNone : Map → Places → ℕ → ℕ → Type 0
+OthersCarryNone map places madt fadt = (n p q : ℕ) → RefusedWith map places madt fadt n p q → ((51 ≤ n) × (n ≤ 53)) ⊎ (q ≡ 0)
+
 -- 41: exactly when two EIO have one node; the later is named, and it alone
 abbrev pub NodeExactly : Map → Places → ℕ → ℕ → Type 0
 NodeExactly map places madt fadt =

@@ -1,5 +1,5 @@
 // Asks the questions that come on standard input, and prints one line for each answer. boards/cases.py writes the questions
-// beside the answers that document 01 fixes; the gate compares.
+// beside the answers that the documents fix; the gate compares.
 //
 // A question is a head of 92 bytes and then the capture. The head: a label in 64 bytes, the kind of question (32 bits), the
 // capture's length (32 bits), two numbers of 64 bits that some kinds ask about, and the label's length (32 bits).
