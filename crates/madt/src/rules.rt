@@ -62,9 +62,10 @@ fn check_core(core: Core, full: bool, place: u32) -> Verdict
         return Verdict::Refused(words::refuse(35, place));
     }
     if full {
-        return Verdict::Refused(words::refuse(38, place));
+        Verdict::Refused(words::refuse(38, place))
+    } else {
+        Verdict::Sound
     }
-    Verdict::Sound
 }
 
 // Refusals 71 to 77 and 38 of a kind that has ranges, by the first field that is out of its own.
@@ -75,9 +76,10 @@ fn check_field(field: u8, full: bool, place: u32) -> Verdict
         return Verdict::Refused(words::refuse(field, place));
     }
     if full {
-        return Verdict::Refused(words::refuse(38, place));
+        Verdict::Refused(words::refuse(38, place))
+    } else {
+        Verdict::Sound
     }
-    Verdict::Sound
 }
 
 // Refusals 71, 37 and 38 of a LIO.
@@ -93,9 +95,10 @@ fn check_lio(lio: Lio, full: bool, place: u32) -> Verdict
         return Verdict::Refused(words::refuse(37, place));
     }
     if full {
-        return Verdict::Refused(words::refuse(38, place));
+        Verdict::Refused(words::refuse(38, place))
+    } else {
+        Verdict::Sound
     }
-    Verdict::Sound
 }
 
 // The refusals of a structure at a place, behind those that made a map and so many CORE. Types other than 17 to 23 are passed
