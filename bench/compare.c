@@ -35,9 +35,9 @@
 enum {
     DEFAULT_SEED = 1,
     DEFAULT_COUNT = 24000,
-    LEAST_HITS = 20,       /* of every refusal ... */
-    LEAST_CLASHES = 60,    /* ... and of 51, 52 and 53 */
-    PRINTED_OF_OTHERS = 3, /* captures of a refusal for ./map to print; of a clash it is as many as there must be */
+    LEAST_HITS = 20,       /* of every refusal */
+    PRINTED_CLASHES = 60,  /* captures of each of 51, 52 and 53 for ./map to print ... */
+    PRINTED_OTHERS = 3,    /* ... and of every other refusal */
     DIFFERENCES_TOLD = 5,  /* then it ends */
     LIST_ROOM = 8 * CORES_MAX + 64,
     MARGIN = 64,           /* bytes before the list that must stay */
@@ -307,7 +307,7 @@ static struct reference_refusal check_judgement(const struct test *test, const u
 /* Writes a refused capture for ./map to print, unless there are enough of its number. */
 static void keep_for_map(const struct test *test, struct reference_refusal refusal)
 {
-    unsigned wanted = is_clash((unsigned)refusal.number) ? LEAST_CLASHES : PRINTED_OF_OTHERS;
+    unsigned wanted = is_clash((unsigned)refusal.number) ? PRINTED_CLASHES : PRINTED_OTHERS;
     char name[64];
 
     if (printed[refusal.number] == wanted)
@@ -479,14 +479,11 @@ static bool hits_suffice(const unsigned *hits)
         printf("%s%4u: %4u", i > 0 && i % 10 == 0 ? "\n       " : "", refusals[i], hits[refusals[i]]);
     }
     printf("\n");
-    for (size_t i = 0; i < REFUSALS; i++) {
-        unsigned least = is_clash(refusals[i]) ? LEAST_CLASHES : LEAST_HITS;
-
-        if (hits[refusals[i]] < least) {
-            printf("compare: refusal %u was given %u times only, and not %u\n", refusals[i], hits[refusals[i]], least);
+    for (size_t i = 0; i < REFUSALS; i++)
+        if (hits[refusals[i]] < LEAST_HITS) {
+            printf("compare: refusal %u was given %u times only, and not %u\n", refusals[i], hits[refusals[i]], LEAST_HITS);
             suffice = false;
         }
-    }
     for (size_t i = 0; i < NUMBERS; i++)
         all += hits[i];
     if (all != known) {

@@ -494,7 +494,7 @@ static const struct refused_example refused_examples[] = {
      {{EIO, {5, 0, 1}}, {EIO, {2, 1, 1}}, {LIO, {2, 5, 0xFF, 0xFF00}}}, "refused 53 at 233 with 207"},
     {"unused LIO half with byte 3, two EIO of cascade 3", A_LIO,
      {{LIO, {2, 3, 0xFF, 0}}, {EIO, {3, 0, 1}}, {EIO, {3, 5, 1}}}, "refused 53 at 243 with 230"},
-    /* All others have no second place, though these have a partner too. */
+    /* All others have no second place, though a structure that is one too many, or repeats, has a partner too. */
     {"an HT beside the EIO", A_FADT, {{HT, {0}}}, "refused 34 at 294"},
     {"a second LPC", A_FADT, {{LPC, {20}}}, "refused 38 at 294"},
     {"a second EIO of the node", A_FADT, {{EIO, {4, 0, 1}}}, "refused 41 at 294"},

@@ -167,7 +167,7 @@ static enum kind known_kind(struct random *random)
     return (enum kind)between(random, CORE, LPC);
 }
 
-/* ---- 31 to 38: structures in turn ---- */
+/* ---- 31 to 38 and 71 to 77: structures in turn ---- */
 
 static void one_byte_left(struct random *random, struct board *board)
 {

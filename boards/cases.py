@@ -318,7 +318,7 @@ read("34: HT", plus(ht()), refused(34, 294))
 read("34 before a later 32", made(ht(), b"\x11\2"), refused(34, 162))
 read("in turn: 35 before a later 31", made(core(0, 0, 2), b"\0\1"), refused(35, 162))
 
-# 35 to 38.
+# 35, 71 to 77, 37 and 38.
 read("35: flags 2", put(1, core(1, 1, 2)), refused(35, 177))
 read("35: flags 2^31 + 1", put(0, core(0, 0, 0x80000001)), refused(35, 162))
 read("35: on a disabled CORE", put(2, core(2, 2, 2)), refused(35, 192))

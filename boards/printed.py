@@ -1,4 +1,4 @@
-"""Boards of our own, and what the map program must print for each: worked out by hand from document 01.
+"""Boards of our own, and what the map program must print for each: worked out by hand from the documents.
 
 `boards/cases.py` writes them as boards/NAME.cap and boards/NAME.txt; `boards/check` runs `./map` on them.
 """

@@ -1,4 +1,5 @@
--- What is told of a search's answer: the number of its rule, and one place or two.
+-- What is told of a search's answer: document 01, "Refusals in order", and W-202 of document 02: the number of its rule, and one
+-- place or two.
 use Prim.Native.Nat.{ℕ}
 use Rattle.words.specs.Refusals.{refused, refusedWith}
 use Rattle.words.specs.declared.Verdict.{Verdict}

@@ -1,4 +1,5 @@
--- Document 01, "Ranges (H)", one test for each field, and the first field of a structure that is out of its range.
+-- Document 01, "Ranges (H)", one test for each field; and the first field of a structure that is out of its range, by the number that
+-- W-202 of document 02 gives it.
 use Prim.Native.Nat.{ℕ, _+_}
 use mathlib.Core.Bool.{Bool, not, _&&_, _||_}
 use lib.Bits.{bitAnd}

@@ -1,4 +1,5 @@
--- Document 01, "structures in turn, each through 31 to 38": the map of a MADT, given by its own bytes, or its first refusal.
+-- Document 01, "structures in turn, each through 31 to 38" (71 to 77 stand in 36's place): the map of a MADT, given by its own bytes,
+-- or its first refusal.
 use Prim.Native.Nat.{ℕ, _+_}
 use mathlib.Core.Bool.{true}
 use mathlib.Core.List.{List, [], _∷_, _++_}
@@ -12,7 +13,7 @@ use Rattle.madt.specs.Rules.{structureRules}
 use Rattle.madt.specs.Contents.{howMany, foundIn, nothing}
 use Rattle.madt.specs.declared.Walked.{Walked}
 
--- the rules of some pieces in turn, after the structures before them: 31 of one that is cut, 32 to 38 of a whole one. The MADT
+-- the rules of some pieces in turn, after the structures before them: 31 of one that is cut, `structureRules` of a whole one. The MADT
 -- stands at `base`.
 unfoldable pub rulesInTurn : ℕ → List Whole → List Piece → List Verdict
 rulesInTurn base before [] = []

@@ -87,9 +87,9 @@ fn check_lio(lio: Lio, full: bool, place: u32) -> Verdict
     ensures { λ r. let field = lioField lio in
         ⌜ r ≡ firstRefusal (rule (not (eqb field 0)) field place ∷ rule (bitInBoth lio) 37 place ∷ rule full 38 place ∷ []) ⌝ }
 {
-    let field = ranges::lio_field(lio);
-    if field != 0 {
-        return Verdict::Refused(words::refuse(field, place));
+    let broken = ranges::lio_field(lio);
+    if broken != 0 {
+        return Verdict::Refused(words::refuse(broken, place));
     }
     if ranges::bit_in_both(lio) {
         return Verdict::Refused(words::refuse(37, place));

@@ -1,4 +1,4 @@
-// The MADT's structures in turn, each through refusals 31 to 38 before the next.
+// The MADT's structures in turn, each through refusals 31 to 38, with 71 to 77 in 36's place, before the next.
 use crate::Found;
 use crate::Walked;
 use crate::nothing;
@@ -98,8 +98,8 @@ fn walk_table(table: &[u8], base: u16, sci: u16) -> Walked
     Walked { verdict, found }
 }
 
-// Refusals 31 to 38 of the MADT of a capture, or the map with an SCI number, the places of its structures, and the number of
-// processors.
+// Refusals 31 to 38 and 71 to 77 of the MADT of a capture, or the map with an SCI number, the places of its structures, and the
+// number of processors.
 pub fn walk_madt(capture: &[u8], madt: Table, sci: u16) -> Walked
     ensures { λ r. ⌜ r ≡ walked (partAt (now (capture .entry)) (madt .place) (madt .length)) (madt .place) sci ⌝ }
 {

@@ -1,4 +1,4 @@
--- Each of 41, 42 and 51 to 53 is told of a map exactly where it is the first that is broken, and names what document 01 names.
+-- Each of 41, 42 and 51 to 53 is told of a map exactly where it is the first that is broken, and names what the documents name.
 use Prim.Native.Nat.{ℕ, zero, suc, _<_, _≤_}
 use native.Mathlib.Omega.{arith}
 use mathlib.Core.Path.{_≡_, refl, sym, _∙_}

@@ -4,15 +4,18 @@ use native.Mathlib.Omega.{arith}
 use mathlib.Core.Path.{_≡_, refl, sym, _∙_, ap}
 use mathlib.Core.Logic.{_⊎_, inl, inr, ⊎-elim}
 use mathlib.Core.List.{List, [], _∷_}
-use mathlib.Core.Bool.{Bool, true, false, _&&_}
+use mathlib.Core.Bool.{Bool, true, false, _&&_, _||_}
 use borrow.Author.Tests.{leb-true, leb-false, eqb-true, eqb-false}
 use lib.Dec.{eqb, leb}
+use Rattle.words.specs.Bytes.{byteAt}
 use Rattle.words.specs.Choice.{if}
 use Rattle.words.specs.Refusals.{refused, rule, unless, firstRefusal}
 use Rattle.words.specs.declared.Refusal.{Refusal}
 use Rattle.words.specs.declared.Verdict.{Verdict}
-use Rattle.words.specs.declared.Verdict.the-variants.{Refused}
+use Rattle.words.specs.declared.Verdict.the-variants.{Sound, Refused}
 use Rattle.words.proofs.Verdicts.{not-sound, same-refusal, first-broken, first-kept}
+use Rattle.words.proofs.Tests.{both-left}
+use Rattle.clashes.proofs.Logic.{or-cases}
 use Rattle.kinds.specs.Makers.{lioOf, eioOf, msiOf, bioOf, lpcOf}
 use Rattle.kinds.specs.Ranges.{halfFits, halvesFit, lioField, eioField, msiField, bioField, lpcField, bitInBoth}
 use Rattle.kinds.specs.declared.Half.{Half}
@@ -21,9 +24,9 @@ use Rattle.kinds.specs.declared.Eio.{Eio}
 use Rattle.kinds.specs.declared.Msi.{Msi}
 use Rattle.kinds.specs.declared.Bio.{Bio}
 use Rattle.kinds.specs.declared.Lpc.{Lpc}
-use Rattle.madt.specs.Rules.{oneTooMany, structureRules}
+use Rattle.madt.specs.Rules.{isType, wrongLength, wrongVersion, isHt, wrongFlags, wrongCascade, wrongNode, wrongNodes, wrongCount, wrongEnd, wrongBase, wrongInput, sharedBit, oneTooMany, structureRules}
 use Rattle.madt.proofs.Checks.{fieldRule, for-lio, for-eio, for-msi, for-bio, for-lpc}
-use Rattle.map_promises.specs.Fields.{Iff, Outside, HalfWrong, LioWrong, LioTold, EioTold, MsiTold, BioTold, LpcTold, RefusedThere, FieldsExactly}
+use Rattle.map_promises.specs.Fields.{Iff, Outside, HalfWrong, LioWrong, LioTold, EioTold, MsiTold, BioTold, LpcTold, ToldOfType, RefusedThere, FieldsExactly}
 
 -- ---- a test of a field, and what it says in numbers
 abbrev Tested : Bool → Type 0 → Type 0 → Type 0
@@ -235,6 +238,77 @@ module _ (place : ℕ) where
       shared true e h = e
       shared false e h = absurd (passes full 38 37 [] (λ z. omega arith) (none 37) (sym (first-kept _ _ _ _ e refl) ∙ h))
 
+-- ---- a number that is told is that of a rule that is broken
+-- the test of the rule of a number from 71 to 77, and of 37
+abbrev testOf : List ℕ → ℕ → Bool
+testOf s n =
+    if (eqb n 71) (wrongCascade s)
+    (if (eqb n 72) (wrongNode s)
+    (if (eqb n 73) (wrongNodes s)
+    (if (eqb n 74) (wrongCount s)
+    (if (eqb n 75) (wrongEnd s)
+    (if (eqb n 76) (wrongBase s)
+    (if (eqb n 77) (wrongInput s)
+    (if (eqb n 37) (sharedBit s) true)))))))
+
+own : (broken : Bool) (m place n : ℕ) → rule broken m place ≡ Refused (refused n place) → (m ≡ n) × (broken ≡ true)
+unfolding if
+own true m place n h = (number-is h, refl)
+own false m place n h = not-sound (sym h)
+
+module _ (place before : ℕ) (s : List ℕ) where
+  -- what a verdict tells is broken
+  abbrev Right : Verdict → Type 0
+  Right v = (n : ℕ) → v ≡ Refused (refused n place) → testOf s n ≡ true
+
+  right : (broken : Bool) (m : ℕ) → (broken ≡ true → testOf s m ≡ true) → Right (rule broken m place)
+  right broken m test n h = let w = own broken m place n h in rw (sym (w .0)) (test (w .1))
+
+  first-right : (v : Verdict) (later : List Verdict) → Right v → Right (firstRefusal later) → Right (firstRefusal (v ∷ later))
+  unfolding firstRefusal unless
+  first-right Sound later here after n h = after n h
+  first-right (Refused r) later here after n h = here n h
+
+  told-broken : (n : ℕ) → RefusedThere place before s n → testOf s n ≡ true
+  unfolding structureRules if
+  told-broken =
+      first-right _ _ (right (wrongLength s) 32 (λ t. refl))
+      (first-right _ _ (right (wrongVersion s) 33 (λ t. refl))
+      (first-right _ _ (right (isHt s) 34 (λ t. refl))
+      (first-right _ _ (right (wrongFlags s) 35 (λ t. refl))
+      (first-right _ _ (right (wrongCascade s) 71 (λ t. t))
+      (first-right _ _ (right (wrongNode s) 72 (λ t. t))
+      (first-right _ _ (right (wrongNodes s) 73 (λ t. t))
+      (first-right _ _ (right (wrongCount s) 74 (λ t. t))
+      (first-right _ _ (right (wrongEnd s) 75 (λ t. t))
+      (first-right _ _ (right (wrongBase s) 76 (λ t. t))
+      (first-right _ _ (right (wrongInput s) 77 (λ t. t))
+      (first-right _ _ (right (sharedBit s) 37 (λ t. t))
+      (first-right _ _ (right (oneTooMany before s) 38 (λ t. refl))
+      (λ n h. absurd (none place n h))))))))))))))
+
+  -- and each test is of its types
+  typed : (number : ℕ) (rest : Bool) → (isType number s && rest) ≡ true → byteAt s 0 ≡ number
+  unfolding isType
+  typed number rest h = eqb-true _ _ (both-left (eqb (byteAt s 0) number) rest h)
+
+  either-typed : (n m : ℕ) (p q : Bool) → (isType n s && p || isType m s && q) ≡ true → (byteAt s 0 ≡ n) ⊎ (byteAt s 0 ≡ m)
+  either-typed n m p q h = ⊎-elim (λ a. inl (typed n p a)) (λ a. inr (typed m q a)) (or-cases (isType n s && p) (isType m s && q) h)
+
+  of-type : ToldOfType (RefusedThere place before s) (byteAt s 0)
+  unfolding if wrongCascade wrongNode wrongNodes wrongCount wrongEnd wrongBase wrongInput sharedBit
+  of-type =
+      record {
+        r71 = λ h. either-typed 18 20 _ _ (told-broken 71 h);
+        r72 = λ h. either-typed 20 22 _ _ (told-broken 72 h);
+        r73 = λ h. typed 20 _ (told-broken 73 h);
+        r74 = λ h. typed 21 _ (told-broken 74 h);
+        r75 = λ h. typed 21 _ (told-broken 75 h);
+        r76 = λ h. typed 22 _ (told-broken 76 h);
+        r77 = λ h. typed 23 _ (told-broken 77 h);
+        r37 = λ h. typed 18 _ (told-broken 37 h);
+      }
+
 -- THE PROMISE
 module _ (place before : ℕ) (s : List ℕ) where
   abbrev full : Bool
@@ -253,6 +327,7 @@ module _ (place before : ℕ) (s : List ℕ) where
   pub fields-exactly : FieldsExactly place before s
   fields-exactly =
       record {
+        oftype = of-type place before s;
         lio = λ o.
             let e = for-lio place before s (o .r32) (o .r33) refl (o .type) in
             let l = lio-told place (lioOf s) full in

@@ -56,6 +56,17 @@ pub record BioTold (told : ℕ → Type 0) (bio : Bio) : Type 0 where
 pub record LpcTold (told : ℕ → Type 0) (lpc : Lpc) : Type 0 where
   pub r77 : Iff (told 77) (63 < lpc .cascade)
 
+-- and of which types each number is told at all
+pub record ToldOfType (told : ℕ → Type 0) (type : ℕ) : Type 0 where
+  pub r71 : told 71 → (type ≡ 18) ⊎ (type ≡ 20)
+  pub r72 : told 72 → (type ≡ 20) ⊎ (type ≡ 22)
+  pub r73 : told 73 → type ≡ 20
+  pub r74 : told 74 → type ≡ 21
+  pub r75 : told 75 → type ≡ 21
+  pub r76 : told 76 → type ≡ 22
+  pub r77 : told 77 → type ≡ 23
+  pub r37 : told 37 → type ≡ 18
+
 -- ---- the statement
 -- a structure of a type whose length and version are right
 pub record OfType (number : ℕ) (s : List ℕ) : Type 0 where
@@ -68,6 +79,7 @@ abbrev pub RefusedThere : ℕ → ℕ → List ℕ → ℕ → Type 0
 RefusedThere place before s n = firstRefusal (structureRules place before s) ≡ Refused (refused n place)
 
 pub record FieldsExactly (place before : ℕ) (s : List ℕ) : Type 0 where
+  pub oftype : ToldOfType (RefusedThere place before s) (byteAt s 0)
   pub lio : OfType 18 s → LioTold (RefusedThere place before s) (lioOf s)
   pub eio : OfType 20 s → EioTold (RefusedThere place before s) (eioOf s)
   pub msi : OfType 21 s → MsiTold (RefusedThere place before s) (msiOf s)

@@ -1,4 +1,4 @@
--- "At most 256 CORE": a MADT that goes through 31 to 38 has no more, enabled or not, so no more processors are listed.
+-- "At most 256 CORE": a MADT that breaks no rule of its structures has no more, enabled or not, so no more processors are listed.
 use mathlib.Core.Path.{_≡_, sym}
 use mathlib.Core.List.{List}
 use Prim.Native.Nat.{ℕ, _≤_}

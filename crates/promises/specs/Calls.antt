@@ -31,7 +31,7 @@ SameReading capture list =
 abbrev pub ReadBack : List ℕ → Type 0
 ReadBack list = ((at : ℕ) → getD list at 0 < 2 ^ 32) → (at : ℕ) → numberAt 4 (image list) (4 * at) ≡ getD list at 0
 
--- lent any bytes, it does one of three things. It refuses what breaks a rule from 1 to 54, with the bytes as they were;
+-- lent any bytes, it does one of three things. It refuses what breaks a rule up to 54, with the bytes as they were;
 pub record NotRead (capture list : List ℕ) : Type 0 where
   pub refusal : Refusal
   pub broken : scan capture .verdict ≡ verdicts.Refused refusal

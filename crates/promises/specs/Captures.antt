@@ -30,7 +30,7 @@ use Rattle.reading.specs.Reading.{readingOf}
 use Rattle.reading.specs.declared.Answer.the-variants.{Read, Refused as NotRead}
 
 -- ---- demand 3: "Take any accepted capture"
--- no rule from 1 to 54 is broken
+-- no rule up to 54 is broken
 abbrev pub Accepted : List ℕ → Type 0
 Accepted capture = scan capture .verdict ≡ Sound
 
@@ -79,11 +79,11 @@ abbrev pub AcceptedIsOfMadt : List ℕ → Type 0
 AcceptedIsOfMadt capture = Accepted capture → MapOfMadt capture
 
 -- ---- demand 3, its last sentence
--- "A capture that breaks no earlier rule": none from 1 to 40
+-- "A capture that breaks no earlier rule": none up to 40
 pub record NothingBefore41 (capture : List ℕ) (t : Tables) : Type 0 where
   -- 1 to 30; the tables are t
   pub tables : survey capture ≡ Found t
-  -- 31 to 38, structure by structure
+  -- 31 to 38 and 71 to 77, structure by structure
   pub structures : walkOf capture t .verdict ≡ Sound
   -- no CORE repeats an ID, and one is enabled
   pub r39 : firstRepeat (madtBytes capture (t .madt)) ≡ Nowhere
@@ -91,7 +91,7 @@ pub record NothingBefore41 (capture : List ℕ) (t : Tables) : Type 0 where
   -- the rest of 40, of the map that the walk found
   pub r40 : rule40 (says (walkOf capture t .found .map)) (t .madt .place) ≡ Sound
 
--- none from 1 to 43
+-- none up to 43
 pub record NothingBefore51 (capture : List ℕ) (t : Tables) : Type 0 where
   pub to40 : NothingBefore41 capture t
   -- 41 to 43, of the map that the walk found

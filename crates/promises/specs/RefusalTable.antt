@@ -24,7 +24,7 @@ abbrev pub among : ℕ → ℕ → ℕ → Bool
 among low high n = leb low n && leb n high
 
 -- the numbers that a capture is refused with: 1 to 6 of the capture, 10 to 14 of the RSDP, 20 to 30 of the tables, 31 to 35, 71 to
--- 77 in place of 36, 37 and 38 of a structure, 39 of the processors, 40 to 43 and 51 to 54 of the map, 60 of the list. The
+-- 77 (where 36 was), 37 and 38 of a structure, 39 of the processors, 40 to 43 and 51 to 54 of the map, 60 of the list. The
 -- table's last, 61, is of a map that is asked about by itself.
 abbrev pub isRefusalNumber : ℕ → Bool
 isRefusalNumber n =
@@ -47,8 +47,8 @@ isPlaceless n = among 1 5 n || eqb n 60
 abbrev pub isTwofold : ℕ → Bool
 isTwofold = among 51 53
 
--- "A place is an offset in the capture": every other refusal names one inside it, and not 0. A second place is that of an earlier
--- structure, and not 0 either; "all others carry 0"
+-- "A place is an offset in the capture": every other refusal names one inside it, and not 0. A second place stands before it, and
+-- is not 0 either (that it is the partner's says EachExactly in Captures); "all others carry 0"
 pub record OfTheTable (capture : List ℕ) (refusal : Refusal) : Type 0 where
   pub number : isRefusalNumber (refusal .number) ≡ true
   pub place : ((isPlaceless (refusal .number) ≡ true) × (refusal .place ≡ 0))

@@ -1,4 +1,4 @@
--- Document 01, "Refusals in order": the order of all rules from 1 to 54, and what is found where none is broken.
+-- Document 01, "Refusals in order": the order of all rules up to 54, and what is found where none is broken.
 use Prim.Native.Nat.{ℕ, _+_}
 use mathlib.Core.List.{List, [], _∷_, _++_}
 use lib.Dec.{eqb}
@@ -48,7 +48,7 @@ unfoldable pub processorRule : ℕ → ℕ → Verdict
 processorRule base processors = rule (eqb processors 0) 40 base
 
 -- ---- the order of all rules
--- 31 to 38 of the structures in turn; then 39 and 40 of the processors, "39 after all structures"; then 40 to 43 of the map
+-- 31 to 38 and 71 to 77 of the structures in turn; then 39 and 40 of the processors, "39 after all structures"; then 40 to 43 of the map
 unfoldable pub madtRules : List ℕ → Tables → List Verdict
 madtRules capture t =
     let table = madtBytes capture (t .madt) in

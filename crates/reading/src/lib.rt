@@ -143,7 +143,7 @@ fn scan_tables(capture: &[u8], t: Tables) -> Scan
     }
 }
 
-// All rules from 1 to 54, and what is found where none is broken.
+// All rules up to 54, and what is found where none is broken.
 pub fn scan_capture(capture: &[u8]) -> Scan
     ensures { λ r. ⌜ r ≡ scan (now (capture .entry)) ⌝ }
 {

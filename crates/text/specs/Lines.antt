@@ -1,4 +1,5 @@
--- Document 01, "Board A and its neighbours": the lines of the printed map, kind by kind, and the line of a refusal.
+-- Document 01, "Board A and its neighbours": the lines of the printed map, kind by kind, and the line of a refusal, to which W-202
+-- of document 02 adds the second place.
 use Prim.Native.Nat.{ℕ, _+_, _-_}
 use Prim.Native.Char.{code}
 use mathlib.Core.List.{List, [], _∷_, _++_}

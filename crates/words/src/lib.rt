@@ -6,7 +6,7 @@ ghost use lib.ListN.{length};
 ghost use Rattle.words.specs.Bytes.{byteAt, numberAt, partAt, byteSum};
 ghost use Rattle.words.specs.Refusals.{refused, refusedWith};
 
-// Why a capture or a map is turned away: document 01's number for the rule that is broken, where in the capture, and the second
+// Why a capture or a map is turned away: the documents' number for the rule that is broken, where in the capture, and the second
 // place: of a clash, where the earliest structure stands that the one at `place` clashes with. A refusal that tells no second
 // place has 0 there.
 pub struct Refusal {

@@ -1,4 +1,4 @@
--- `check` asks 32 to 38 in their order, by the structure's own kind.
+-- `check` asks a structure's rules in their order, by the structure's own kind.
 use denote.Ref.{now}
 use mathlib.Core.Path.{ap, sym, _∙_}
 use Rattle.words.specs.declared.Verdict.the-variants.{Refused}
