@@ -285,19 +285,26 @@ static void eio_node_and_map(struct random *random, struct board *board)
     put_u64(eio + EIO_NODE_MAP, 0);
 }
 
-static void bio_hardware_id(struct random *random, struct board *board)
+/* A field of two bytes that is not below its limit: just there, or anywhere above. */
+static void put_past(struct random *random, uint8_t *field, uint16_t limit)
 {
-    uint8_t *bio = some(random, board, BIO);
-
-    put_u16(bio + BIO_HARDWARE_ID, (uint16_t)between(random, NODES, one_in(random, 2) ? NODES : UINT16_MAX));
+    put_u16(field, (uint16_t)between(random, limit, one_in(random, 2) ? limit : UINT16_MAX));
 }
 
-/* With a low byte that would be right. */
+/* One with a low byte that would be right. */
+static void put_high_byte(struct random *random, uint8_t *field)
+{
+    field[1] = (uint8_t)between(random, 1, 255);
+}
+
+static void bio_hardware_id(struct random *random, struct board *board)
+{
+    put_past(random, some(random, board, BIO) + BIO_HARDWARE_ID, NODES);
+}
+
 static void bio_hardware_id_high_byte(struct random *random, struct board *board)
 {
-    uint8_t *bio = some(random, board, BIO);
-
-    bio[BIO_HARDWARE_ID + 1] = (uint8_t)between(random, 1, 255);
+    put_high_byte(random, some(random, board, BIO) + BIO_HARDWARE_ID);
 }
 
 static uint16_t base_out_of_range(struct random *random)
@@ -362,16 +369,12 @@ static void bio_base(struct random *random, struct board *board)
 
 static void lpc_cascade(struct random *random, struct board *board)
 {
-    uint8_t *lpc = some(random, board, LPC);
-
-    put_u16(lpc + LPC_CASCADE, (uint16_t)between(random, PINS, one_in(random, 2) ? PINS : UINT16_MAX));
+    put_past(random, some(random, board, LPC) + LPC_CASCADE, PINS);
 }
 
 static void lpc_cascade_high_byte(struct random *random, struct board *board)
 {
-    uint8_t *lpc = some(random, board, LPC);
-
-    lpc[LPC_CASCADE + 1] = (uint8_t)between(random, 1, 255);
+    put_high_byte(random, some(random, board, LPC) + LPC_CASCADE);
 }
 
 static void masks_share_a_bit(struct random *random, struct board *board)

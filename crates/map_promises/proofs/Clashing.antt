@@ -1,8 +1,8 @@
 -- Each of 41, 42 and 51 to 53 is told of a map exactly where it is the first that is broken, and names what the documents name.
-use Prim.Native.Nat.{ℕ, zero, suc, _<_, _≤_}
+use Prim.Native.Nat.{ℕ, zero, suc, _<_}
 use native.Mathlib.Omega.{arith}
 use mathlib.Core.Path.{_≡_, refl, sym, _∙_}
-use mathlib.Core.Logic.{_⊎_, inr}
+use mathlib.Core.Logic.{inr}
 use mathlib.Core.List.{List, [], _∷_}
 use mathlib.Core.Bool.{true, false}
 use lib.ListN.{getD}
@@ -10,7 +10,7 @@ use Rattle.words.specs.Choice.{if}
 use Rattle.words.specs.Refusals.{refusedWith, rule, unless, firstRefusal}
 use Rattle.words.specs.declared.Verdict.{Verdict}
 use Rattle.words.specs.declared.Verdict.the-variants.{Sound, Refused}
-use Rattle.words.proofs.Verdicts.{first-kept, FirstTold, first-told}
+use Rattle.words.proofs.Verdicts.{first-kept, first-told}
 use Rattle.clashes.specs.Search.{firstClash, firstLone}
 use Rattle.clashes.specs.Told.{atLater, atBoth, spotted}
 use Rattle.clashes.specs.declared.Claim.{Claim}
@@ -26,7 +26,7 @@ use Rattle.map_promises.proofs.Hubs.{bio-hub, names-lone, finds-lone}
 use Rattle.map_promises.proofs.Meetings.{Agrees, names, sharing, no-sharing, finds-two, finds-nothing}
 use Rattle.map_promises.proofs.Sharing.{node-agrees, number-agrees, vector-agrees, core-agrees, number-sharing, sharing-number, vector-sharing, sharing-vector}
 use Rattle.map_promises.proofs.Unused.{lio-said}
-use Rattle.map_promises.proofs.Verdicts.{eio-there, later-kept, both-kept, spotted-kept, later-told, both-told, spotted-told, one-place, position, seconds, told-at}
+use Rattle.map_promises.proofs.Verdicts.{eio-there, later-kept, both-kept, spotted-kept, later-told, both-told, spotted-told, rule-read, position, Second, own, told-at}
 
 module _ (map : Map) (places : Places) (madt fadt : ℕ) where
   abbrev said : Said
@@ -171,19 +171,16 @@ module _ (map : Map) (places : Places) (madt fadt : ℕ) where
           let f = finds-two said places ok cores w in
           (f .0, f .1, from-51 ∙ rw (no-number never, no-vector none, f .2))
 
--- 38 tells the MADT alone, and so on
-seconds-in-turn : (map : Map) (places : Places) (madt fadt n p q : ℕ) → FirstTold (rule (tooMany map) 38 madt ∷ mapRules (says map) places madt fadt) (refusedWith n p q)
-    → ((51 ≤ n) × (n ≤ 53)) ⊎ (q ≡ 0)
-seconds-in-turn map places madt fadt n p q w = go (w .k) (w .told)
-  where
-    go : (k : ℕ) → getD (rule (tooMany map) 38 madt ∷ mapRules (says map) places madt fadt) k Sound ≡ Refused (refusedWith n p q) → ((51 ≤ n) × (n ≤ 53)) ⊎ (q ≡ 0)
-    go zero h = inr (one-place (tooMany map) 38 madt n p q h)
-    go (suc k) h = seconds (says map) places madt fadt k n p q h
+-- 38 tells the MADT alone; then the rules from 40 on
+second-told : (map : Map) (places : Places) (madt fadt k n p q : ℕ)
+    → getD (rule (tooMany map) 38 madt ∷ mapRules (says map) places madt fadt) k Sound ≡ Refused (refusedWith n p q) → Second n q
+second-told map places madt fadt zero n p q h = inr (rule-read (tooMany map) 38 madt n p q h .1)
+second-told map places madt fadt (suc k) n p q h = own (says map) places madt fadt k n p q h .1
 
 -- THE PROMISES
 pub others-carry-none : (map : Map) (places : Places) (madt fadt : ℕ) → OthersCarryNone map places madt fadt
 unfolding firstBroken
-others-carry-none map places madt fadt n p q h = seconds-in-turn map places madt fadt n p q (first-told _ h)
+others-carry-none map places madt fadt n p q h = let w = first-told _ h in second-told map places madt fadt (w .k) n p q (w .told)
 
 pub node-exactly : (map : Map) (places : Places) (madt fadt : ℕ) → NodeExactly map places madt fadt
 node-exactly map places madt fadt ok h = (node-told map places madt fadt ok h, node-tells map places madt fadt ok h)

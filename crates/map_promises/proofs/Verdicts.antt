@@ -74,9 +74,11 @@ module _ (n : ℕ) where
       let same = same-refusal h in
       (ap (λ (r : Refusal). r .number) same, sym (ap (λ (r : Refusal). r .second) same), ap (λ (r : Refusal). At (r .place)) same)
 
--- a rule at a known place tells no second one
-pub one-place : (broken : Bool) (number place n p q : ℕ) → rule broken number place ≡ Refused (refusedWith n p q) → q ≡ 0
-one-place broken number place n p q h = sym (ap (λ (r : Refusal). r .second) (rule-told broken number place h))
+-- a rule at a known place
+pub rule-read : (broken : Bool) (number place n p q : ℕ) → rule broken number place ≡ Refused (refusedWith n p q) → (number ≡ n) × (q ≡ 0)
+rule-read broken number place n p q h =
+    let same = rule-told broken number place h in
+    (ap (λ (r : Refusal). r .number) same, sym (ap (λ (r : Refusal). r .second) same))
 
 -- 40: there is an EIO
 pub eio-there : (said : Said) (madt : ℕ) → rule40 said madt ≡ Sound → length (said .eios) ≡ 0 → ⊥
@@ -90,35 +92,34 @@ eio-there said madt h =
 abbrev pub position : ℕ → ℕ
 position n = if (ltb n 44) (n - 40) (n - 47)
 
-abbrev positionOf : Refusal → ℕ
-positionOf refusal = position (refusal .number)
+-- a second place is told by 51 to 53 alone
+abbrev pub Second : ℕ → ℕ → Type 0
+Second n q = ((51 ≤ n) × (n ≤ 53)) ⊎ (q ≡ 0)
+
+abbrev Own : ℕ → ℕ → ℕ → Type 0
+Own k n q = (position n ≡ k) × Second n q
+
+one : {m n q : ℕ} → m ≡ n → q ≡ 0 → Own (position m) n q
+one e none = (ap position (sym e), inr none)
+
+two : {m n q : ℕ} → 51 ≤ m → m ≤ 53 → m ≡ n → Own (position m) n q
+two low high e = (ap position (sym e), inl (omega arith, omega arith))
 
 module _ (said : Said) (places : Places) (madt fadt : ℕ) where
-  -- a rule that is broken gives its own number
-  stands : (k n p q : ℕ) → getD (mapRules said places madt fadt) k Sound ≡ Refused (refusedWith n p q) → position n ≡ k
+  -- a rule that is broken gives its own number, and no second place but for 51 to 53
+  pub own : (k n p q : ℕ) → getD (mapRules said places madt fadt) k Sound ≡ Refused (refusedWith n p q) → Own k n q
   unfolding mapRules rulesTo43 rulesFrom51 if
-  stands zero n p q h = ap positionOf (sym (rule-told (not (said .lio .present) || eqb (length (said .eios)) 0) 40 madt h))
-  stands (suc zero) n p q h = ap position (sym (later-told 41 n p q _ h .0))
-  stands (suc (suc zero)) n p q h = ap position (sym (spotted-told 42 n p q _ h .0))
-  stands (suc (suc (suc zero))) n p q h = ap positionOf (sym (rule-told (noBridge (said .lpc .present) (bridge (said .bios))) 43 (places .lpc) h))
-  stands (suc (suc (suc (suc zero)))) n p q h = ap position (sym (both-told 51 n p q _ h .0))
-  stands (suc (suc (suc (suc (suc zero))))) n p q h = ap position (sym (both-told 52 n p q _ h .0))
-  stands (suc (suc (suc (suc (suc (suc zero)))))) n p q h = ap position (sym (both-told 53 n p q _ h .0))
-  stands (suc (suc (suc (suc (suc (suc (suc zero))))))) n p q h = ap positionOf (sym (rule-told (lost (arrival said (said .sci))) 54 fadt h))
-  stands (suc (suc (suc (suc (suc (suc (suc (suc k)))))))) n p q h = not-sound (sym h)
-
-  -- and no second place, but for 51 to 53
-  pub seconds : (k n p q : ℕ) → getD (mapRules said places madt fadt) k Sound ≡ Refused (refusedWith n p q) → ((51 ≤ n) × (n ≤ 53)) ⊎ (q ≡ 0)
-  unfolding mapRules rulesTo43 rulesFrom51
-  seconds zero n p q h = inr (one-place (not (said .lio .present) || eqb (length (said .eios)) 0) 40 madt n p q h)
-  seconds (suc zero) n p q h = inr (later-told 41 n p q _ h .1)
-  seconds (suc (suc zero)) n p q h = inr (spotted-told 42 n p q _ h .1)
-  seconds (suc (suc (suc zero))) n p q h = inr (one-place (noBridge (said .lpc .present) (bridge (said .bios))) 43 (places .lpc) n p q h)
-  seconds (suc (suc (suc (suc zero)))) n p q h = let e = both-told 51 n p q _ h .0 in inl (omega arith, omega arith)
-  seconds (suc (suc (suc (suc (suc zero))))) n p q h = let e = both-told 52 n p q _ h .0 in inl (omega arith, omega arith)
-  seconds (suc (suc (suc (suc (suc (suc zero)))))) n p q h = let e = both-told 53 n p q _ h .0 in inl (omega arith, omega arith)
-  seconds (suc (suc (suc (suc (suc (suc (suc zero))))))) n p q h = inr (one-place (lost (arrival said (said .sci))) 54 fadt n p q h)
-  seconds (suc (suc (suc (suc (suc (suc (suc (suc k)))))))) n p q h = not-sound (sym h)
+  own zero n p q h = let w = rule-read (not (said .lio .present) || eqb (length (said .eios)) 0) 40 madt n p q h in one (w .0) (w .1)
+  own (suc zero) n p q h = let w = later-told 41 n p q _ h in one (w .0) (w .1)
+  own (suc (suc zero)) n p q h = let w = spotted-told 42 n p q _ h in one (w .0) (w .1)
+  own (suc (suc (suc zero))) n p q h =
+      let w = rule-read (noBridge (said .lpc .present) (bridge (said .bios))) 43 (places .lpc) n p q h in
+      one (w .0) (w .1)
+  own (suc (suc (suc (suc zero)))) n p q h = two (omega arith) (omega arith) (both-told 51 n p q _ h .0)
+  own (suc (suc (suc (suc (suc zero))))) n p q h = two (omega arith) (omega arith) (both-told 52 n p q _ h .0)
+  own (suc (suc (suc (suc (suc (suc zero)))))) n p q h = two (omega arith) (omega arith) (both-told 53 n p q _ h .0)
+  own (suc (suc (suc (suc (suc (suc (suc zero))))))) n p q h = let w = rule-read (lost (arrival said (said .sci))) 54 fadt n p q h in one (w .0) (w .1)
+  own (suc (suc (suc (suc (suc (suc (suc (suc k)))))))) n p q h = not-sound (sym h)
 
   -- the number that is told is that of the first broken rule
   pub told-at : (n p q : ℕ) → firstRefusal (mapRules said places madt fadt) ≡ Refused (refusedWith n p q)
@@ -126,4 +127,4 @@ module _ (said : Said) (places : Places) (madt fadt : ℕ) where
       × ((i : ℕ) → i < position n → getD (mapRules said places madt fadt) i Sound ≡ Sound)
   told-at n p q h =
       let w = first-told (mapRules said places madt fadt) h in
-      rw (stands (w .k) n p q (w .told)) (w .told, w .before)
+      rw (own (w .k) n p q (w .told) .0) (w .told, w .before)
