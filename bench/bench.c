@@ -181,6 +181,21 @@ static void make_one_table_named_often(struct random *random, struct capture *ca
     lay_out(&board, capture);
 }
 
+/* Each of the four tables runs across four segments, and all sixteen touch (W-206). */
+static void make_touching_segments(struct random *random, struct capture *capture)
+{
+    const size_t parts = SEGMENTS_MAX / OTHERS;
+
+    start_like_board_a(random, &board, 2);
+    settle_lengths(&board);
+    for (size_t table = RSDP; table < OTHERS; table++) {
+        board.table[table].opens_segment = true;
+        for (size_t part = 1; part < parts; part++)
+            cut_table(&board, table, board.table[table].length * part / parts, 0);
+    }
+    lay_out(&board, capture);
+}
+
 /* ---- Time ---- */
 
 enum { ROUNDS = 15 };
@@ -400,12 +415,13 @@ static bool all_answer(const struct row *row)
 
 int main(int argc, char **argv)
 {
-    static struct capture a, large_tables, many_processors, one_table_often;
+    static struct capture a, large_tables, many_processors, one_table_often, touching_segments;
     const struct row rows[] = {
         {"board A", READ, &a},
         {"large tables that are passed over", READ, &large_tables},
         {"256 processors", READ, &many_processors},
         {"32 XSDT entries, 30 of them naming one large table", READ, &one_table_often},
+        {"a board like A, each table across 4 of 16 segments", READ, &touching_segments},
         {"one route (board A, 72)", ROUTE, &a},
         {"one trace (board A, vector 3, number 64)", TRACE, &a},
     };
@@ -422,6 +438,7 @@ int main(int argc, char **argv)
     make_large_tables(&random, &large_tables);
     make_many_processors(&random, &many_processors);
     make_one_table_named_often(&random, &one_table_often);
+    make_touching_segments(&random, &touching_segments);
     for (size_t i = 0; i < count; i++)
         if (!all_answer(&rows[i]))
             return 2;

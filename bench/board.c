@@ -157,7 +157,7 @@ void start_board(struct random *random, struct board *board)
 {
     board->filling = any(random);
     board->tables = board->entries = board->structures = 0;
-    board->xsdt_tail = board->madt_cut = board->tail = board->cut_table = board->cut_at = 0;
+    board->xsdt_tail = board->madt_cut = board->tail = board->cuts = 0;
     board->madt_flags = 0;
     board->sci = 0;
     board->base = UINT64_C(0x90000000);
@@ -202,8 +202,7 @@ void remove_kind(struct board *board, enum kind kind)
     board->structures = kept;
 }
 
-/* The lengths that follow from what a table holds. */
-static void settle_lengths(struct board *board)
+void settle_lengths(struct board *board)
 {
     size_t madt = MADT_HEADER;
 
@@ -213,20 +212,39 @@ static void settle_lengths(struct board *board)
     board->table[MADT].length = board->madt_cut != 0 ? board->madt_cut : madt;
 }
 
-/* Whether a segment ends inside this table. A table may have become too short for its cut. */
-static bool is_cut(const struct board *board, size_t table)
+void cut_table(struct board *board, size_t table, size_t at, uint64_t distance)
 {
-    return board->cut_at != 0 && board->cut_table == table && board->cut_at < board->table[table].length;
+    size_t number = 0;
+
+    while (number < board->cuts && (board->cut[number].table != table || board->cut[number].at < at))
+        number++;
+    if (number == board->cuts || board->cut[number].at != at) {
+        assert(board->cuts < CUTS_ROOM && at > 0);
+        memmove(&board->cut[number + 1], &board->cut[number], (board->cuts - number) * sizeof board->cut[0]);
+        board->cuts++;
+    }
+    board->cut[number] = (struct cut){table, at, distance};
+}
+
+void remove_cut(struct board *board, size_t number)
+{
+    board->cuts--;
+    memmove(&board->cut[number], &board->cut[number + 1], (board->cuts - number) * sizeof board->cut[0]);
+}
+
+static bool is_inside(const struct board *board, const struct cut *cut)
+{
+    return cut->at < board->table[cut->table].length;
 }
 
 size_t count_segments(const struct board *board)
 {
     size_t count = 1;
 
-    for (size_t i = 0; i < board->tables; i++) {
-        count += i > 0 && board->table[board->order[i]].opens_segment;
-        count += is_cut(board, i);
-    }
+    for (size_t i = 1; i < board->tables; i++)
+        count += board->table[board->order[i]].opens_segment;
+    for (size_t i = 0; i < board->cuts; i++)
+        count += is_inside(board, &board->cut[i]);
     return count;
 }
 
@@ -275,8 +293,9 @@ static size_t divide(const struct board *board, size_t *offset_of, struct segmen
             segment[segments++] = (struct segment){.offset = offset, .distance = table->distance};
         offset += table->gap;
         offset_of[number] = offset;
-        if (is_cut(board, number))
-            segment[segments++] = (struct segment){.offset = offset + board->cut_at};
+        for (const struct cut *cut = board->cut; cut < board->cut + board->cuts; cut++)
+            if (cut->table == number && is_inside(board, cut))
+                segment[segments++] = (struct segment){.offset = offset + cut->at, .distance = cut->distance};
         offset += table->length;
     }
     offset += board->tail;
@@ -395,7 +414,7 @@ static void write_capture_header(struct capture *capture, const struct segment *
 
 void lay_out(struct board *board, struct capture *capture)
 {
-    struct segment segment[TABLES_ROOM + 1];
+    struct segment segment[TABLES_ROOM + CUTS_ROOM];
     size_t offset_of[TABLES_ROOM];
 
     capture->length = capture_length(board);

@@ -23,6 +23,7 @@ enum {
     ENTRIES_ROOM = 48,
     TABLES_ROOM = 40,
     STRUCTURES_ROOM = 640,
+    CUTS_ROOM = 32,
     RSDP_LENGTH = 36,
     TABLE_HEADER = 36,
     MADT_HEADER = 44,
@@ -98,6 +99,12 @@ struct table {
     uint64_t distance;  /* ... this far behind the one before; 0: they touch */
 };
 
+/* Where a segment ends inside a table. A table may become too short for its cut, which is then none. */
+struct cut {
+    size_t table, at;  /* so many bytes of the table lie before the cut */
+    uint64_t distance; /* how far behind it the next segment begins; 0: they touch */
+};
+
 struct board {
     uint64_t filling; /* the seed of all bytes that mean nothing */
     size_t tables;
@@ -114,7 +121,8 @@ struct board {
     uint64_t base; /* the address of the first segment */
     bool at_top;   /* the last segment ends at 2^64, whatever base says */
     size_t tail;   /* free bytes behind the last table */
-    size_t cut_table, cut_at; /* cut_at not 0: a segment ends inside this table, and the next touches it */
+    size_t cuts;
+    struct cut cut[CUTS_ROOM]; /* those of one table stand in order */
 };
 
 /* An empty board: RSDP, XSDT, MADT and FADT in this order in one segment, no structures. */
@@ -128,9 +136,15 @@ void append_structure(struct board *board, struct structure structure);
 size_t count_kind(const struct board *board, enum kind kind);
 void remove_kind(struct board *board, enum kind kind);
 
+/* Cuts the memory inside a table. A cut that is there already gets the new distance. */
+void cut_table(struct board *board, size_t table, size_t at, uint64_t distance);
+void remove_cut(struct board *board, size_t number);
+
+/* Sets the lengths of XSDT and MADT, which follow from what they hold. Segments are counted by the lengths set last. */
+void settle_lengths(struct board *board);
 size_t count_segments(const struct board *board);
 
-/* The length of the capture that lay_out() will make. It sets the lengths of XSDT and MADT, which follow from what they hold. */
+/* The length of the capture that lay_out() will make. It settles the lengths. */
 size_t capture_length(struct board *board);
 
 /* Keeps the capture within its greatest length with so many bytes more: the longest table that is passed over gives way. */

@@ -1,6 +1,6 @@
 /*
- * Board A and its neighbours, the five errors that look right, the refusals of request W-202, and the captures of boards/:
- * see examples.h.
+ * Board A and its neighbours, the five errors that look right, the refusals of request W-202, board A cut into segments for
+ * request W-206, and the captures of boards/: see examples.h.
  */
 #define _DEFAULT_SOURCE /* opendir */
 
@@ -41,6 +41,7 @@ static void expect(struct tally *tally, const struct reader *reader, uint64_t re
 /* The places of "Board A and its neighbours". */
 enum {
     A_LENGTH = 538,
+    A_MEMORY = 508,
     A_DESCRIPTOR = 18,
     A_RSDP = 30,
     A_XSDT = 66,
@@ -52,6 +53,11 @@ enum {
     A_LPC = 279,
     A_FADT = 294,
 };
+
+static const uint64_t A_ADDRESS = UINT64_C(0x90000000);
+
+static const char A_PRINTED[] =
+    "map 1\ncore 0 0\ncore 1 1\nlio 2 16777215\neio 0 3 1\nbio 0 64 127\nmsi 64 255\nlpc 0 19\nsci 75 3 11\n";
 
 static void load_board_a(const char *boards, struct capture *a)
 {
@@ -424,9 +430,10 @@ static void expect_printed(const struct talk *talk, char *printed)
 static void ask_board_a(struct tally *tally, const struct reader *reader, const char *boards)
 {
     static struct capture a;
-    char printed[] = "map 1\ncore 0 0\ncore 1 1\nlio 2 16777215\neio 0 3 1\nbio 0 64 127\nmsi 64 255\nlpc 0 19\nsci 75 3 11\n";
+    char printed[sizeof A_PRINTED];
 
     load_board_a(boards, &a);
+    memcpy(printed, A_PRINTED, sizeof printed);
     expect_printed(&(struct talk){tally, reader, "board A", a.bytes, a.length}, printed);
 }
 
@@ -522,6 +529,166 @@ static void ask_refused(struct tally *tally, const struct reader *reader, const 
     }
 }
 
+/* ---- Board A in several segments ---- */
+
+/*
+ * Board A's memory, cut at places of board A into segments. Each starts at the end of the one before it, except that memory
+ * may have a gap at one of the cuts: what lies behind it lies so much further on, and is named by its new address.
+ */
+struct cut_example {
+    const char *what;
+    size_t first, cuts, step; /* the first cut, how many there are, and how far each is from the one before */
+    size_t gap_at;
+    uint64_t gap;
+    uint64_t below_2_64; /* not 0: the memory starts so many bytes below 2^64, and not where board A's does */
+    bool exchanged;      /* of two segments, the one with the RSDP comes second in the capture */
+    const char *printed;
+};
+
+/*
+ * Each cut adds a descriptor, which moves board A's places by 12. With one cut the RSDP is at 42, its field for the XSDT at
+ * 66, the XSDT at 78, its entries for MADT and FADT at 114 and 122, the MADT at 130 and the FADT at 306; with fifteen cuts
+ * these are 210, 234, 246, 282, 290, 298 and 474.
+ */
+static const struct cut_example cut_examples[] = {
+    /* W-206: segments that touch. */
+    {"RSDP cut at 20", A_RSDP + 20, 1, .printed = A_PRINTED},
+    {"XSDT cut inside its header", A_XSDT + 5, 1, .printed = A_PRINTED},
+    {"XSDT cut inside its second entry", A_XSDT + 48, 1, .printed = A_PRINTED},
+    {"MADT cut inside its header", A_MADT + 6, 1, .printed = A_PRINTED},
+    {"MADT cut at its header's end", A_MADT + 36, 1, .printed = A_PRINTED},
+    {"LIO cut inside its mask", A_LIO + 17, 1, .printed = A_PRINTED},
+    {"MADT cut at the LIO's end", A_EIO, 1, .printed = A_PRINTED},
+    {"FADT cut inside SCI_INT", A_FADT + 47, 1, .printed = A_PRINTED},
+    {"sixteen segments", A_RSDP + 32, 15, 32, .printed = A_PRINTED},
+    {"fifteen bytes of the RSDP, each a segment", A_RSDP + 1, 15, 1, .printed = A_PRINTED},
+    {"fourteen bytes of the MADT's header, each a segment", A_MADT, 15, 1, .printed = A_PRINTED},
+    {"fourteen bytes of the LIO, each a segment", A_LIO + 3, 15, 1, .printed = A_PRINTED},
+    /* A byte is missing between the two: inside a table, or between tables. */
+    {"gap at 1 of the RSDP", A_RSDP + 1, 1, 0, A_RSDP + 1, 1, .printed = "refused 10 at 10"},
+    {"gap at 20 of the RSDP", A_RSDP + 20, 1, 0, A_RSDP + 20, 1, .printed = "refused 10 at 10"},
+    {"gap at 35 of the RSDP", A_RSDP + 35, 1, 0, A_RSDP + 35, 1, .printed = "refused 10 at 10"},
+    {"gap between RSDP and XSDT", A_XSDT, 1, 0, A_XSDT, 1, .printed = A_PRINTED},
+    {"gap at 35 of the XSDT", A_XSDT + 35, 1, 0, A_XSDT + 35, 1, .printed = "refused 20 at 66"},
+    {"gap at 36 of the XSDT", A_XSDT + 36, 1, 0, A_XSDT + 36, 1, .printed = "refused 21 at 78"},
+    {"gap inside the XSDT's second entry", A_XSDT + 48, 1, 0, A_XSDT + 48, 1, .printed = "refused 21 at 78"},
+    {"gap between XSDT and MADT", A_MADT, 1, 0, A_MADT, 1, .printed = A_PRINTED},
+    {"gap at 6 of the MADT", A_MADT + 6, 1, 0, A_MADT + 6, 1, .printed = "refused 20 at 114"},
+    {"gap at 35 of the MADT", A_MADT + 35, 1, 0, A_MADT + 35, 1, .printed = "refused 20 at 114"},
+    {"gap at 36 of the MADT", A_MADT + 36, 1, 0, A_MADT + 36, 1, .printed = "refused 21 at 130"},
+    {"gap inside the LIO's mask", A_LIO + 17, 1, 0, A_LIO + 17, 1, .printed = "refused 21 at 130"},
+    {"gap at the LIO's end", A_EIO, 1, 0, A_EIO, 1, .printed = "refused 21 at 130"},
+    {"gap before the MADT's last byte", A_FADT - 1, 1, 0, A_FADT - 1, 1, .printed = "refused 21 at 130"},
+    {"gap between MADT and FADT", A_FADT, 1, 0, A_FADT, 1, .printed = A_PRINTED},
+    {"gap at 1 of the FADT", A_FADT + 1, 1, 0, A_FADT + 1, 1, .printed = "refused 20 at 122"},
+    {"gap inside SCI_INT", A_FADT + 47, 1, 0, A_FADT + 47, 1, .printed = "refused 21 at 306"},
+    {"gap before the FADT's last byte", A_LENGTH - 1, 1, 0, A_LENGTH - 1, 1, .printed = "refused 21 at 306"},
+    /* A byte is missing at one of fifteen cuts. */
+    {"sixteen segments, gap at 32 of the RSDP", A_RSDP + 32, 15, 32, A_RSDP + 32, 1, .printed = "refused 10 at 10"},
+    {"sixteen segments, gap at 28 of the XSDT", A_RSDP + 32, 15, 32, A_XSDT + 28, 1, .printed = "refused 20 at 234"},
+    {"sixteen segments, gap at 8 of the MADT", A_RSDP + 32, 15, 32, A_MADT + 8, 1, .printed = "refused 20 at 282"},
+    {"sixteen segments, gap at 40 of the MADT", A_RSDP + 32, 15, 32, A_MADT + 40, 1, .printed = "refused 21 at 298"},
+    {"sixteen segments, gap at 168 of the MADT", A_RSDP + 32, 15, 32, A_MADT + 168, 1, .printed = "refused 21 at 298"},
+    {"sixteen segments, gap at 24 of the FADT", A_RSDP + 32, 15, 32, A_FADT + 24, 1, .printed = "refused 20 at 290"},
+    {"sixteen segments, gap at 216 of the FADT", A_RSDP + 32, 15, 32, A_FADT + 216, 1, .printed = "refused 21 at 474"},
+    /* The addresses agree in their low 32 bits. */
+    {"gap of 2^32 in the RSDP", A_RSDP + 20, 1, 0, A_RSDP + 20, UINT64_C(1) << 32, .printed = "refused 10 at 10"},
+    {"gap of 2^32 in the MADT's header", A_MADT + 6, 1, 0, A_MADT + 6, UINT64_C(1) << 32, .printed = "refused 20 at 114"},
+    {"gap of 2^32 in the LIO", A_LIO + 17, 1, 0, A_LIO + 17, UINT64_C(1) << 32, .printed = "refused 21 at 130"},
+    /*
+     * Up to 2^64. Address 0 does not follow: a segment there stands first in the capture, or breaks rule 6. The RSDP then
+     * stands behind it: at 42 + 414 with the MADT cut at 6, which puts its entry at 528, and at 42 + 314 with the MADT cut
+     * at 106, which puts the MADT at 444.
+     */
+    {"up to 2^64", A_FADT + 200, 1, .below_2_64 = A_MEMORY, .printed = A_PRINTED},
+    {"sixteen segments up to 2^64", A_RSDP + 32, 15, 32, .below_2_64 = A_MEMORY, .printed = A_PRINTED},
+    {"up to 2^64, gap in the FADT", A_FADT + 200, 1, 0, A_FADT + 200, 1, A_MEMORY + 1, .printed = "refused 21 at 306"},
+    {"RSDP from 2^64 - 20 on, its rest at 0", A_RSDP + 20, 1, .below_2_64 = 20, .printed = "refused 6 at 30"},
+    {"RSDP from 2^64 - 20 on, its rest at 0 and first", A_RSDP + 20, 1, .below_2_64 = 20, .exchanged = true,
+     .printed = "refused 10 at 10"},
+    {"MADT from 2^64 - 6 on, its rest at 0 and first", A_MADT + 6, 1, .below_2_64 = 94, .exchanged = true,
+     .printed = "refused 20 at 528"},
+    {"MADT from 2^64 - 106 on, its rest at 0 and first", A_MADT + 106, 1, .below_2_64 = 194, .exchanged = true,
+     .printed = "refused 21 at 444"},
+    /* Segments whose addresses touch, in the other order. */
+    {"MADT cut, its end first", A_MADT + 106, 1, .exchanged = true, .printed = "refused 6 at 30"},
+};
+
+enum { CUT_EXAMPLES = sizeof cut_examples / sizeof cut_examples[0] };
+
+/* The place of board A at which a segment of the example starts, or the end of all. */
+static size_t start_of_segment(const struct cut_example *example, size_t number)
+{
+    if (number == 0)
+        return A_RSDP;
+    return number > example->cuts ? A_LENGTH : example->first + (number - 1) * example->step;
+}
+
+/* The address that the example gives to what stands at a place of board A. */
+static uint64_t address_in_example(const struct cut_example *example, size_t place)
+{
+    uint64_t first = example->below_2_64 != 0 ? 0 - example->below_2_64 : A_ADDRESS;
+
+    return first + (place - A_RSDP) + (place >= example->gap_at ? example->gap : 0);
+}
+
+static void exchange_two_segments(struct capture *capture)
+{
+    uint8_t *memory = capture->bytes + HEADER_LENGTH + 2 * DESCRIPTOR_LENGTH;
+    uint64_t address = segment_address(capture, 0);
+    uint32_t length = segment_length(capture, 0);
+    uint8_t bytes[A_LENGTH];
+
+    memcpy(bytes, memory, length);
+    memmove(memory, memory + length, segment_length(capture, 1));
+    memcpy(memory + segment_length(capture, 1), bytes, length);
+    set_segment_address(capture, 0, segment_address(capture, 1));
+    set_segment_length(capture, 0, segment_length(capture, 1));
+    set_segment_address(capture, 1, address);
+    set_segment_length(capture, 1, length);
+}
+
+static void make_cut(const char *boards, const struct cut_example *example, struct capture *capture)
+{
+    size_t more = DESCRIPTOR_LENGTH * example->cuts;
+
+    load_board_a(boards, capture);
+    memmove(capture->bytes + A_RSDP + more, capture->bytes + A_RSDP, A_LENGTH - A_RSDP);
+    for (size_t table = 0; table < capture->tables; table++)
+        capture->place[table] += more;
+    capture->length += more;
+    set_total(capture, capture->length);
+    capture->segments = example->cuts + 1;
+    capture->bytes[5] = (uint8_t)capture->segments;
+    for (size_t i = 0; i < capture->segments; i++) {
+        size_t start = start_of_segment(example, i);
+
+        set_segment_address(capture, i, address_in_example(example, start));
+        set_segment_length(capture, i, (uint32_t)(start_of_segment(example, i + 1) - start));
+    }
+    put_u64(capture->bytes + 10, address_in_example(example, A_RSDP));
+    put_u64(capture->bytes + capture->place[RSDP] + 24, address_in_example(example, A_XSDT));
+    put_u64(capture->bytes + capture->place[XSDT] + TABLE_HEADER, address_in_example(example, A_MADT));
+    put_u64(capture->bytes + capture->place[XSDT] + TABLE_HEADER + 8, address_in_example(example, A_FADT));
+    make_sums_good(capture);
+    if (example->exchanged)
+        exchange_two_segments(capture);
+}
+
+static void ask_cut(struct tally *tally, const struct reader *reader, const char *boards)
+{
+    static struct capture capture;
+    char printed[sizeof A_PRINTED];
+
+    for (size_t i = 0; i < CUT_EXAMPLES; i++) {
+        make_cut(boards, &cut_examples[i], &capture);
+        snprintf(printed, sizeof printed, "%s", cut_examples[i].printed);
+        expect_printed(&(struct talk){tally, reader, cut_examples[i].what, capture.bytes, capture.length}, printed);
+    }
+}
+
+/* ---- All of it ---- */
+
 void save_examples_for_map(const char *boards, const char *folder)
 {
     static struct capture capture;
@@ -532,9 +699,14 @@ void save_examples_for_map(const char *boards, const char *folder)
         snprintf(name, sizeof name, "example-%zu", i + 1);
         save_for_map(folder, name, capture.bytes, capture.length, refused_examples[i].printed);
     }
+    for (size_t i = 0; i < CUT_EXAMPLES; i++) {
+        if (cut_examples[i].printed == A_PRINTED)
+            continue;
+        make_cut(boards, &cut_examples[i], &capture);
+        snprintf(name, sizeof name, "cut-example-%zu", i + 1);
+        save_for_map(folder, name, capture.bytes, capture.length, cut_examples[i].printed);
+    }
 }
-
-/* ---- All of it ---- */
 
 /* Each NAME.cap of boards/real with its NAME.txt. */
 static void ask_real_captures(struct tally *tally, const struct reader *reader, const char *boards)
@@ -574,6 +746,7 @@ struct tally ask_examples(const struct reader *reader, const char *boards)
     ask_board_a(&tally, reader, boards);
     ask_neighbours(&tally, reader, boards);
     ask_refused(&tally, reader, boards);
+    ask_cut(&tally, reader, boards);
     ask_real_captures(&tally, reader, boards);
     return tally;
 }

@@ -1,6 +1,6 @@
 /*
- * The reference: document 01 and request W-202 of document 02 written down in plain C, from the documents alone, without
- * a look at the proved reader, so that an error would have to be made twice to go unseen.
+ * The reference: document 01 and requests W-202 and W-206 of document 02 written down in plain C, from the documents
+ * alone, without a look at the proved reader, so that an error would have to be made twice to go unseen.
  *
  * Titles in quotation marks are sections of document 01; the numbers given to refuse() are those of its table
  * "Refusals in order", where W-202 puts 71 to 77 in the place of 36: after 35 and before 37.
@@ -69,7 +69,7 @@ struct segment {
 struct capture {
     const uint8_t *bytes;
     size_t segments;
-    struct segment segment[SEGMENTS_MAX];
+    struct segment segment[SEGMENTS_MAX]; /* in an open capture those that touch are joined */
 };
 
 /* Rule 6, segments in turn. An end may be 2^64, so the comparisons use the last byte of a segment. */
@@ -88,6 +88,27 @@ static uint64_t check_segments(const struct capture *capture)
         last_of_previous = segment->address + (segment->length - 1);
     }
     return 0;
+}
+
+/*
+ * W-206: where a segment starts exactly at the end of the one before it, a stretch may run across the two, or across
+ * several such. Their bytes follow one another in the capture as well, so they are as good as one segment, and become one.
+ * By rule 6 no segment starts below the one before it: the distance between the two does not wrap.
+ */
+static void join_touching(struct capture *capture)
+{
+    size_t joined = 0; /* the number of the segment that the next one may be joined to */
+
+    for (size_t i = 1; i < capture->segments; i++) {
+        const struct segment *next = &capture->segment[i];
+        struct segment *before = &capture->segment[joined];
+
+        if (next->address - before->address == before->length)
+            before->length += next->length;
+        else
+            capture->segment[++joined] = *next;
+    }
+    capture->segments = joined + 1;
 }
 
 /* Rules 1 to 6. */
@@ -120,10 +141,15 @@ static uint64_t open_capture(struct capture *capture, const uint8_t *bytes, size
     }
     if (place != length)
         return refuse(5, 0);
-    return check_segments(capture);
+
+    uint64_t refusal = check_segments(capture);
+
+    if (refusal == 0)
+        join_touching(capture);
+    return refusal;
 }
 
-/* Finds the place of a stretch of memory: it is present if it lies wholly inside one segment. */
+/* Finds the place of a stretch of memory: it is present if it lies wholly inside one segment, or across some that touch. */
 static bool locate(const struct capture *capture, uint64_t address, uint64_t length, uint64_t *place)
 {
     for (size_t i = 0; i < capture->segments; i++) {

@@ -1,6 +1,6 @@
 /*
  * Random boards that keep every rule of document 01: see valid.h. They are varied on purpose in what the rules do not
- * fix: the order of structures and tables, the segments, the free bytes.
+ * fix: the order of structures and tables, the segments, what runs across segments that touch, the free bytes.
  */
 #include "valid.h"
 
@@ -298,6 +298,76 @@ static void add_large_table(struct random *random, struct board *board)
     add_entry(board, below(random, board->entries + 1), add_table(board, "SSDT", length));
 }
 
+/* ---- Tables that run across segments ---- */
+
+/* The offset in the MADT of one of its structures, which is the end of the one before. */
+static size_t start_of_structure(struct random *random, const struct board *board)
+{
+    size_t before = below(random, board->structures);
+    size_t at = MADT_HEADER;
+
+    for (size_t i = 0; i < before; i++)
+        at += board->structure[i].length;
+    return at;
+}
+
+/* An offset in a table to cut it at: next to its ends, inside its header, at the end of a structure, or anywhere. */
+static size_t random_cut(struct random *random, const struct board *board, size_t table)
+{
+    size_t last = board->table[table].length - 1;
+
+    switch (below(random, 6)) {
+    case 0:
+        return one_in(random, 2) ? 1 : last;
+    case 1:
+        return between(random, 1, TABLE_HEADER - 1);
+    case 2: case 3:
+        if (table == MADT && board->structures > 0)
+            return start_of_structure(random, board);
+        break;
+    default:
+        break;
+    }
+    return between(random, 1, last);
+}
+
+void cut_at_random(struct random *random, struct board *board, size_t table, size_t cuts)
+{
+    for (; cuts > 0 && count_segments(board) < SEGMENTS_MAX; cuts--)
+        cut_table(board, table, random_cut(random, board, table), 0);
+}
+
+/* Cuts a table again and again at one distance, as page ends do; a distance of one byte makes segments of one byte. */
+static void cut_evenly(struct random *random, struct board *board, size_t table)
+{
+    size_t length = board->table[table].length;
+    size_t step = between(random, 1, one_in(random, 2) ? 4 : length / 2);
+
+    for (size_t at = between(random, 1, step); at < length && count_segments(board) < SEGMENTS_MAX; at += step)
+        cut_table(board, table, at, 0);
+}
+
+/* Segments that touch hold a table as one does (W-206). One table may take all that there are, or many have a few. */
+static void cut_tables(struct random *random, struct board *board)
+{
+    size_t table = one_in(random, 2) ? below(random, OTHERS) : below(random, board->tables);
+
+    settle_lengths(board);
+    switch (below(random, 4)) {
+    case 0:
+        cut_evenly(random, board, table);
+        break;
+    case 1:
+        cut_at_random(random, board, table, between(random, 1, SEGMENTS_MAX - 1));
+        break;
+    default:
+        for (size_t i = 0; i < board->tables; i++)
+            cut_at_random(random, board, i, below(random, 4));
+        break;
+    }
+    make_room(board, 0);
+}
+
 void make_valid_board(struct random *random, struct board *board)
 {
     start_board(random, board);
@@ -309,4 +379,6 @@ void make_valid_board(struct random *random, struct board *board)
     scatter_over_memory(random, board);
     if (board->entries < ENTRIES_MAX && one_in(random, 100))
         add_large_table(random, board);
+    if (one_in(random, 2))
+        cut_tables(random, board);
 }

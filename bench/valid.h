@@ -1,5 +1,5 @@
 /*
- * Random boards that keep every rule of document 01.
+ * Random boards that keep every rule of document 01, with the meaning that W-206 gives to a stretch that is present.
  */
 #ifndef VALID_H
 #define VALID_H
@@ -20,5 +20,8 @@ uint16_t free_base(struct random *random, const struct board *board);
 
 /* A structure of a type that is passed over, of any length that fits. */
 struct structure passed_over_structure(struct random *random);
+
+/* Cuts a table of settled length at random, up to so many times: the segments touch, and are no more than a capture may have. */
+void cut_at_random(struct random *random, struct board *board, size_t table, size_t cuts);
 
 #endif

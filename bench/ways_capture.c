@@ -7,6 +7,8 @@
 
 #include <string.h>
 
+#include "valid.h"
+
 /* ---- 1 to 6: the capture ---- */
 
 static void too_short(struct random *random, struct capture *capture)
@@ -157,27 +159,40 @@ static void segments_out_of_order(struct random *random, struct capture *capture
 
 /* ---- 10 to 14: the RSDP ---- */
 
+static uint64_t end_of_segment(const struct capture *capture, size_t number)
+{
+    return segment_address(capture, number) + segment_length(capture, number);
+}
+
+/* The last of the segments that touch one another from this one on. */
+static size_t last_touching(const struct capture *capture, size_t number)
+{
+    while (number + 1 < capture->segments && segment_address(capture, number + 1) == end_of_segment(capture, number))
+        number++;
+    return number;
+}
+
 /* An address at which no 36 bytes are present. */
-static uint64_t absent_address(struct random *random, struct capture *capture)
+static uint64_t absent_address(struct random *random, const struct capture *capture)
 {
     uint64_t first = segment_address(capture, 0);
-    size_t last = capture->segments - 1;
     size_t number = below(random, capture->segments);
-    uint64_t length = segment_length(capture, number);
+    size_t last = last_touching(capture, number);
+    uint64_t end = end_of_segment(capture, last), present = end - segment_address(capture, number);
 
     switch (below(random, 6)) {
     case 0: /* before all segments */
         if (first > 0)
             return below(random, first);
         break;
-    case 1: /* behind all segments, perhaps round the end of memory */
-        return segment_address(capture, last) + segment_length(capture, last) + below(random, 64);
+    case 1: /* in the gap behind a segment, or behind all of them, perhaps round the end of memory */
+        return end + below(random, last + 1 < capture->segments ? segment_address(capture, last + 1) - end : 64);
     case 2: /* 36 bytes from here reach over the end of memory */
         return 0 - between(random, 1, 35);
     default:
         break;
     }
-    return segment_address(capture, number) + length - between(random, 1, length < 35 ? length : 35);
+    return end - between(random, 1, present < 35 ? present : 35);
 }
 
 static void rsdp_absent(struct random *random, const struct board *board, struct capture *capture)
@@ -186,19 +201,50 @@ static void rsdp_absent(struct random *random, const struct board *board, struct
     put_u64(capture->bytes + 10, absent_address(random, capture));
 }
 
-/* A segment ends inside a table and the next one touches it. Touching segments do not join. */
-static void cut(struct board *board, size_t table, size_t at)
+/* How much memory is missing: often one byte, and sometimes so much that the addresses around it agree in their low bits. */
+static uint64_t random_gap(struct random *random)
 {
-    board->cut_at = 0;
-    for (size_t i = 1; i < board->tables && count_segments(board) == SEGMENTS_MAX; i++)
-        board->table[board->order[i]].opens_segment = false;
-    board->cut_table = table;
-    board->cut_at = at;
+    switch (below(random, 4)) {
+    case 0:
+        return between(random, 2, 64);
+    case 1:
+        return UINT64_C(1) << below(random, 41);
+    default:
+        return 1;
+    }
 }
 
-static void rsdp_cut(struct random *random, struct board *board)
+/*
+ * A segment ends inside a table and the next one does not touch it. What lies behind lies so much further on, and is named
+ * by its new address, so that this table alone is not present. Other segments of the table may touch.
+ */
+static void open_gap(struct random *random, struct board *board, size_t table, size_t at)
 {
-    cut(board, RSDP, between(random, 1, RSDP_LENGTH - 1));
+    settle_lengths(board);
+    cut_at_random(random, board, table, below(random, 4));
+    while (board->cuts > 0 && count_segments(board) >= SEGMENTS_MAX)
+        remove_cut(board, below(random, board->cuts));
+    for (size_t i = 1; i < board->tables && count_segments(board) >= SEGMENTS_MAX; i++)
+        board->table[board->order[i]].opens_segment = false;
+    cut_table(board, table, at, random_gap(random));
+}
+
+/* An offset from first to last, often one of the two. */
+static size_t offset_between(struct random *random, size_t first, size_t last)
+{
+    switch (below(random, 4)) {
+    case 0:
+        return first;
+    case 1:
+        return last;
+    default:
+        return between(random, first, last);
+    }
+}
+
+static void gap_in_rsdp(struct random *random, struct board *board)
+{
+    open_gap(random, board, RSDP, offset_between(random, 1, RSDP_LENGTH - 1));
 }
 
 static void rsdp_signature(struct random *random, const struct board *board, struct capture *capture)
@@ -260,11 +306,11 @@ static void table_absent(struct random *random, const struct board *board, struc
     put_u64(capture->bytes + field, absent_address(random, capture));
 }
 
-static void header_cut(struct random *random, struct board *board)
+static void gap_in_header(struct random *random, struct board *board)
 {
     size_t table = named_table(random, board);
 
-    cut(board, table, between(random, 1, TABLE_HEADER - 1));
+    open_gap(random, board, table, offset_between(random, 1, TABLE_HEADER - 1));
 }
 
 static void set_table_length(struct capture *capture, size_t table, uint64_t length)
@@ -279,30 +325,38 @@ static void table_under_36(struct random *random, const struct board *board, str
     set_table_length(capture, table, below(random, TABLE_HEADER));
 }
 
-static void table_past_segment(struct random *random, const struct board *board, struct capture *capture)
+/* How many bytes are present from a table's start on. */
+static uint64_t present_from(const struct capture *capture, size_t table)
 {
-    size_t table = named_table(random, board);
-    uint64_t end = HEADER_LENGTH + DESCRIPTOR_LENGTH * capture->segments;
+    size_t number = 0;
+    uint64_t end = HEADER_LENGTH + DESCRIPTOR_LENGTH * capture->segments + segment_length(capture, 0);
 
-    for (size_t i = 0; end <= capture->place[table]; i++)
-        end += segment_length(capture, i);
-
-    uint64_t left = end - capture->place[table];
-
-    set_table_length(capture, table, between(random, left + 1, one_in(random, 2) ? left + 8 : UINT32_MAX));
+    while (end <= capture->place[table])
+        end += segment_length(capture, ++number);
+    for (size_t last = last_touching(capture, number); number < last;)
+        end += segment_length(capture, ++number);
+    return end - capture->place[table];
 }
 
-static void body_cut(struct random *random, struct board *board)
+static void table_past_what_is_present(struct random *random, const struct board *board, struct capture *capture)
+{
+    size_t table = named_table(random, board);
+    uint64_t least = present_from(capture, table) + 1;
+
+    set_table_length(capture, table, between(random, least, one_in(random, 2) ? least + 7 : UINT32_MAX));
+}
+
+static void gap_in_body(struct random *random, struct board *board)
 {
     size_t table = named_table(random, board);
 
-    make_room(board, DESCRIPTOR_LENGTH);
+    make_room(board, DESCRIPTOR_LENGTH * SEGMENTS_MAX); /* then more segments will not shorten the table */
     if (board->table[table].length == TABLE_HEADER) /* it has no body, the FADT of a sound board does */
         table = FADT;
 
-    size_t body = board->table[table].length - TABLE_HEADER;
+    size_t length = board->table[table].length;
 
-    cut(board, table, body == 0 ? 1 : TABLE_HEADER + below(random, body));
+    open_gap(random, board, table, length == TABLE_HEADER ? 1 : offset_between(random, TABLE_HEADER, length - 1));
 }
 
 static void table_sum(struct random *random, const struct board *board, struct capture *capture)
@@ -439,16 +493,16 @@ const struct way capture_ways[] = {
     {6, "overlapping segments", .in_capture = segments_overlap},
     {6, "segments out of order", .in_capture = segments_out_of_order},
     {10, "RSDP absent", .in_tables = rsdp_absent},
-    {10, "RSDP cut", .in_board = rsdp_cut},
+    {10, "gap inside the RSDP", .in_board = gap_in_rsdp},
     {11, "RSDP signature", .in_tables = rsdp_signature},
     {12, "RSDP revision", .in_tables = rsdp_revision},
     {13, "RSDP length", .in_tables = rsdp_length},
     {14, "RSDP sums", .in_capture = rsdp_sums},
     {20, "table absent", .in_tables = table_absent},
-    {20, "table header cut", .in_board = header_cut},
+    {20, "gap inside a table's header", .in_board = gap_in_header},
     {21, "table under 36 bytes", .in_tables = table_under_36},
-    {21, "table past its segment", .in_tables = table_past_segment},
-    {21, "table body cut", .in_board = body_cut},
+    {21, "table past what is present", .in_tables = table_past_what_is_present},
+    {21, "gap inside a table's body", .in_board = gap_in_body},
     {22, "table sum", .in_tables = table_sum},
     {23, "XSDT signature", .in_board = xsdt_signature},
     {24, "XSDT revision", .in_board = xsdt_revision},

@@ -38,6 +38,13 @@ def capture(segments, rsdp=None, mark=b"TBC", version=1, count=None, total=None,
     return head + le(total, 4) + le(segments[0][0] if rsdp is None else rsdp, 8) + body
 
 
+def cut(memory, *at, gap=0, base=BASE):
+    """A capture of memory that is cut at offsets into touching segments; what is behind the last cut may lie a gap further on."""
+    pieces = [memory[a:b] for a, b in zip((0, *at), (*at, len(memory)))]
+    starts = [base + a + (gap if a == at[-1] else 0) for a in (0, *at)]
+    return capture(list(zip(starts, pieces)))
+
+
 # The tables.
 
 

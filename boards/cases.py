@@ -10,8 +10,8 @@ import pathlib
 import sys
 
 import listed
-from board import A, BASE, STRUCTURES_OF_A, bio, board, capture, core, eio, fadt, ht, image, lay, le, lio, lpc, madt, msi, rsdp
-from board import structure, summed, table
+from board import A, BASE, STRUCTURES_OF_A, bio, board, capture, core, cut, eio, fadt, ht, image, lay, le, lio, lpc, madt, msi
+from board import rsdp, structure, summed, table
 from printed import PRINTED
 
 # The kinds of question that crates/vectors/src/main.rt knows.
@@ -114,11 +114,12 @@ check("6: third overlaps the first only", zeros((BASE, 8), (BASE + 4096, 8), (BA
 check("6: broken in the 16th", zeros(*[(BASE + 8 * k, 8) for k in range(15)], (BASE, 8)), refused(6, 198))
 check("6: first segment at address 0", zeros((0, 8)), "sound")
 
-# A stretch is present if it lies wholly inside one segment: if the segment of its first byte has room for it.
+# A stretch is present if it lies wholly inside one segment, or runs across several that touch: if there is room for it from its first
+# byte on, as far as segments touch.
 PAIR = zeros((BASE, 508), (BASE + 508, 100), (BASE + 700, 10))
-reach("first byte", PAIR, BASE, "at 54, room 508")
-reach("within the first segment", PAIR, BASE + 472, "at 526, room 36")
-reach("last byte", PAIR, BASE + 507, "at 561, room 1")
+reach("first byte", PAIR, BASE, "at 54, room 608")
+reach("within the first segment", PAIR, BASE + 472, "at 526, room 136")
+reach("last byte of the first segment", PAIR, BASE + 507, "at 561, room 101")
 reach("one byte before the first", PAIR, BASE - 1, "nowhere")
 reach("first byte of a touching segment", PAIR, BASE + 508, "at 562, room 100")
 reach("last byte before a gap", PAIR, BASE + 607, "at 661, room 1")
@@ -127,11 +128,27 @@ reach("in the gap", PAIR, BASE + 650, "nowhere")
 reach("within the third segment", PAIR, BASE + 704, "at 666, room 6")
 reach("past the last byte", PAIR, BASE + 710, "nowhere")
 reach("address 0, and no segment there", PAIR, 0, "nowhere")
+ONE_APART = zeros((BASE, 8), (BASE + 9, 8))
+reach("a gap of one byte, from before it", ONE_APART, BASE, "at 42, room 8")
+reach("a gap of one byte", ONE_APART, BASE + 8, "nowhere")
+reach("a gap of one byte, from behind it", ONE_APART, BASE + 9, "at 50, room 8")
+RUNS = zeros((BASE, 4), (BASE + 4, 5), (BASE + 100, 6), (BASE + 106, 7), (BASE + 113, 1))
+reach("two runs: second segment of the first", RUNS, BASE + 5, "at 83, room 4")
+reach("two runs: first segment of the second", RUNS, BASE + 101, "at 88, room 13")
+reach("two runs: second segment of the second", RUNS, BASE + 106, "at 93, room 8")
+SIXTEEN = zeros(*[(BASE + 8 * k, 8) for k in range(16)])
+reach("sixteen that touch, from the first byte", SIXTEEN, BASE, "at 210, room 128")
+reach("sixteen that touch, from the eighth", SIXTEEN, BASE + 60, "at 270, room 68")
+reach("sixteen that touch, last byte", SIXTEEN, BASE + 127, "at 337, room 1")
+reach("sixteen that touch, past the last byte", SIXTEEN, BASE + 128, "nowhere")
 TOPMOST = zeros((0, 16), (TOP - 16, 16))
 reach("address 0 of a segment", TOPMOST, 0, "at 42, room 16")
 reach("the end of a segment", TOPMOST, 16, "nowhere")
 reach("last byte of memory", TOPMOST, TOP - 1, "at 73, room 1")
 reach("up to 2^64, with 16 bytes at 0", TOPMOST, TOP - 8, "at 66, room 8")
+reach("a run that ends at 2^64", zeros((TOP - 24, 8), (TOP - 16, 16)), TOP - 20, "at 46, room 20")
+reach("any bytes: an end at 2^64 touches nothing", zeros((TOP - 1, 1), (0, 508)), TOP - 1, "at 42, room 1")
+reach("any bytes: one that touches, in another order", zeros((BASE + 8, 8), (BASE, 8)), BASE, "at 50, room 8")
 reach("any bytes: 255 segments of no capture", b"\xff" * 40, BASE, "nowhere")
 reach("any bytes: none at all", b"", BASE, "nowhere")
 
@@ -140,8 +157,16 @@ find_rsdp("10: board A", A, "RSDP at 30")
 find_rsdp("10: 36 bytes at the segment's end", capture([(BASE, bytes(100))], BASE + 64), "RSDP at 94")
 find_rsdp("10: 35 bytes to the segment's end", capture([(BASE, bytes(100))], BASE + 65), refused(10, 10))
 find_rsdp("10: an ACPI 1 RSDP of 20 bytes", capture([(BASE, bytes(100))], BASE + 80), refused(10, 10))
-find_rsdp("10: RSDP cut at 10 between touching segments",
-          capture([(BASE, image()[:10]), (BASE + 10, image()[10:])]), refused(10, 10))
+find_rsdp("10: RSDP cut at 20", cut(image(), 20), "RSDP at 42")
+find_rsdp("10: RSDP cut at 20 and a gap of one byte", cut(image(), 20, gap=1), refused(10, 10))
+find_rsdp("10: RSDP in sixteen segments", cut(image(), *range(2, 32, 2)), "RSDP at 210")
+find_rsdp("10: RSDP in sixteen, the last after a gap", cut(image(), *range(2, 32, 2), gap=1), refused(10, 10))
+find_rsdp("10: RSDP in the second and third of three",
+          capture([(BASE, bytes(50)), (BASE + 50, bytes(20)), (BASE + 70, bytes(30))], BASE + 60), "RSDP at 114")
+find_rsdp("10: 35 bytes to the end of two that touch", capture([(BASE, bytes(20)), (BASE + 20, bytes(15))]), refused(10, 10))
+find_rsdp("10: across two, up to 2^64", capture([(TOP - 36, bytes(16)), (TOP - 20, bytes(20))]), "RSDP at 42")
+find_rsdp("10: after 6, touching in another order",
+          capture([(BASE + 20, image()[20:]), (BASE, image()[:20])], BASE), refused(6, 30))
 find_rsdp("10: RSDP address 2^64 - 16", capture([(BASE, image())], TOP - 16), refused(10, 10))
 find_rsdp("10: RSDP address 2^64 - 16, with bytes at 0", capture([(0, bytes(64))], TOP - 16), refused(10, 10))
 find_rsdp("10: RSDP address 0", capture([(BASE, image())], 0), refused(10, 10))
@@ -231,10 +256,32 @@ survey("FADT revision is not looked at", one(lay([M, summed(changed(F, 8, b"\xff
 survey("SCI 65,535", one(lay([M, fadt(65535)])), found(118, 176, 294, 244, 65535))
 survey("SCI 4,660", one(lay([M, fadt(4660)])), found(118, 176, 294, 244, 4660))
 
-# Touching segments do not join.
-survey("21: MADT cut at 100", capture([(BASE, image()[:188]), (BASE + 188, image()[188:])]), refused(21, 130))
-survey("20: MADT cut at 10", capture([(BASE, image()[:98]), (BASE + 98, image()[98:])]), refused(20, 114))
-survey("cut between two tables", capture([(BASE, image()[:88]), (BASE + 88, image()[88:])]), found(130, 176, 306, 244, 75))
+# Touching segments: of board A's memory the RSDP stands at 0, the XSDT at 36, the MADT at 88 with its first structure at 132, the FADT
+# at 264. Each descriptor more moves all places by 12.
+survey("20: XSDT cut at 14", cut(image(), 50), found(130, 176, 306, 244, 75))
+survey("20: XSDT cut at 14 and a gap of one byte", cut(image(), 50, gap=1), refused(20, 66))
+survey("21: XSDT cut at 44", cut(image(), 80), found(130, 176, 306, 244, 75))
+survey("21: XSDT cut at 44 and a gap of one byte", cut(image(), 80, gap=1), refused(21, 78))
+survey("cut between two tables", cut(image(), 88), found(130, 176, 306, 244, 75))
+survey("20: a gap of one byte between two tables", cut(image(), 88, gap=1), refused(20, 114))
+survey("20: MADT cut at 10", cut(image(), 98), found(130, 176, 306, 244, 75))
+survey("20: MADT cut at 10 and a gap of one byte", cut(image(), 98, gap=1), refused(20, 114))
+survey("21: MADT cut at its header's end", cut(image(), 124), found(130, 176, 306, 244, 75))
+survey("21: MADT cut there and a gap of one byte", cut(image(), 124, gap=1), refused(21, 130))
+survey("21: MADT cut at 100", cut(image(), 188), found(130, 176, 306, 244, 75))
+survey("21: MADT cut at 100 and a gap of one byte", cut(image(), 188, gap=1), refused(21, 130))
+survey("21: MADT cut at 100 and a gap of a page", cut(image(), 188, gap=4096), refused(21, 130))
+survey("21: MADT's last byte behind a gap", cut(image(), 263, gap=1), refused(21, 130))
+survey("21: MADT in three segments", cut(image(), 100, 200), found(142, 176, 318, 244, 75))
+survey("21: MADT in three, the third after a gap", cut(image(), 100, 200, gap=1), refused(21, 142))
+survey("21: MADT begins in the second of three", cut(image(), 80, 140), found(142, 176, 318, 244, 75))
+survey("21: MADT in sixteen segments", cut(image(), *range(92, 242, 10)), found(298, 176, 474, 244, 75))
+survey("21: MADT in sixteen, the last after a gap", cut(image(), *range(92, 242, 10), gap=1), refused(21, 298))
+survey("21: segments of one byte", cut(image(), *range(130, 145)), found(298, 176, 474, 244, 75))
+survey("21: FADT cut at 100 and a gap of one byte", cut(image(), 364, gap=1), refused(21, 306))
+survey("21: a table longer than all that touch", capture([(BASE, changed(image(), 40, le(473, 4))[:300]), (BASE + 300, image()[300:])]),
+       refused(21, 78))
+survey("a run that ends at 2^64", cut(image(base=TOP - 508), 100, 300, base=TOP - 508), found(142, 176, 318, 244, 75))
 survey("after 6", zeros((BASE, 8), (BASE, 8)), refused(6, 30))
 survey("after 10", capture([(BASE, image())], 0), refused(10, 10))
 
@@ -243,7 +290,7 @@ REAL = pathlib.Path(__file__).resolve().parent / "real"
 for name, answer in [
     ("qemu111-smp4", refused(30, 5331)),
     ("edk2-qemu111-smp4-tables", refused(30, 690)),
-    ("qemu111-smp256-pages", refused(21, 31159)),
+    ("qemu111-smp256-pages", refused(30, 31159)),
     ("p3-flags-lio-lpc-tables", found(670, 191, 861, 268, 0)),
     ("p5-flags-lio-lpc14", found(16414, 190, 20510, 268, 0)),
     ("a6-vector4", found(6062, 611, 5063, 268, 0)),
@@ -296,6 +343,9 @@ def made(*structures, sci=26):
 C, L = core(0, 0), lio(2, 0, 0xFFFFFF, 0)
 
 read("board A", A, TWO)
+for label, at in (("inside a structure", [140]), ("at a structure's end", [147]), ("sixteen times", range(32, 512, 32))):
+    read("board A cut " + label, cut(image(), *at), TWO)
+    route("board A cut " + label + ", route", cut(image(), *at), 72, "kind 0 3 8")
 read("refusals of the tables come first", with_root(revision=0), refused(12, 30))
 
 # 31 to 34: structures in turn.
@@ -479,7 +529,7 @@ trace("refused as the reading is", b"", 3, 19, refused(1, 0))
 for name, answer in [
     ("qemu111-smp4", refused(30, 5331)),
     ("edk2-qemu111-smp4-tables", refused(30, 690)),
-    ("qemu111-smp256-pages", refused(21, 31159)),
+    ("qemu111-smp256-pages", refused(30, 31159)),
     ("p3-flags-lio-lpc-tables", "read 4 0 0 1 1 2 2 3 3"),
     ("p5-flags-lio-lpc14", refused(32, 16590)),
     ("a6-vector4", "read 1 1 0"),

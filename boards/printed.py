@@ -2,7 +2,7 @@
 
 `boards/cases.py` writes them as boards/NAME.cap and boards/NAME.txt; `boards/check` runs `./map` on them.
 """
-from board import A, BASE, STRUCTURES_OF_A, bio, board, capture, core, eio, fadt, lay, le, lio, lpc, madt, msi, table
+from board import A, BASE, STRUCTURES_OF_A, bio, board, capture, core, cut, eio, fadt, image, lay, le, lio, lpc, madt, msi, table
 
 EVERY_NODE = (1 << 64) - 1
 
@@ -15,9 +15,8 @@ def refused_behind(padding):
     return capture([(BASE, lay(tables))])
 
 
-PRINTED = {
-    # document 01's example
-    "A": (A, """\
+# document 01's example
+LINES_OF_A = """\
 map 1
 core 0 0
 core 1 1
@@ -27,7 +26,12 @@ bio 0 64 127
 msi 64 255
 lpc 0 19
 sci 75 3 11
-"""),
+"""
+
+PRINTED = {
+    "A": (A, LINES_OF_A),
+    # its memory in as many segments as there can be, each touching the one before it
+    "sixteen-segments": (cut(image(), *range(32, 512, 32)), LINES_OF_A),
     # a line for each used half, low first; the SCI is input 16 of the LIO, in the high half
     "two-halves": (board([core(0, 0), lio(9, 5, 0x0000FFFF, 0x00FF0000), EIO, MSI, BIO, LPC], 32), """\
 map 1
@@ -130,6 +134,8 @@ sci 75 3 11
     "empty": (b"", "refused 1 at 0\n"),
     "refused-2-at-0": (b"tbc" + A[3:], "refused 2 at 0\n"),
     "refused-3-at-0": (A[:3] + le(257, 2) + A[5:], "refused 3 at 0\n"),
+    # the MADT in two segments with a gap of one byte between them
+    "refused-21-at-130": (cut(image(), 188, gap=1), "refused 21 at 130\n"),
     "refused-6-at-18": (capture([((1 << 64) - 4, bytes(8))]), "refused 6 at 18\n"),
     "refused-53-at-230": (board([core(0, 0), core(1, 1), core(2, 2, 0), LIO, eio(2, 0), MSI, BIO, LPC]), "refused 53 at 230 with 207\n"),
     # document 02's example

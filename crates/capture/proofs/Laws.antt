@@ -2,15 +2,17 @@
 use mathlib.Core.Bool.{true, false, _&&_}
 use mathlib.Core.Path.{_≡_}
 use mathlib.Core.List.{List}
+use mathlib.Core.Logic.{⊎-elim}
 use Prim.Native.Nat.{ℕ, zero, suc, _+_, _-_, _*_, _≤_, _<_}
+use native.Mathlib.Nat.{eq-or-lt-of-le, le-of-suc-le-suc}
 use native.Mathlib.Numerals.{add-one}
 use native.Mathlib.Omega.{arith}
 use lib.Dec.{ltb, leb}
-use borrow.Author.Tests.{le-ltb, leb-true}
+use borrow.Author.Tests.{le-ltb, ltb-true, leb-true}
 use Rattle.words.proofs.Tests.{both-left, both-right}
-use Rattle.capture.specs.Fields.{descriptor, segmentAddress, segmentLength, segments, lengths, segmentPlace}
+use Rattle.capture.specs.Fields.{headerSize, descriptor, descriptorsEnd, segmentAddress, segmentLength, segmentEnd, hasAddress, segments, lengths, segmentPlace}
 use Rattle.capture.specs.Rules.{endBefore, startsEarly, segmentBroken, segmentRules}
-use Rattle.capture.specs.Presence.{holds, placeIn}
+use Rattle.capture.specs.Presence.{runEnd, holds, placeIn}
 use Rattle.capture.specs.Reach.{reachIn}
 use Rattle.words.specs.Bytes.{AllBytes}
 use Rattle.words.specs.Lists.{first}
@@ -49,38 +51,49 @@ later-early capture (suc i) h =
     let before : suc i - 1 ≡ i = omega arith in
     rw before
 
--- a stretch that a segment holds starts and ends in it
+-- a segment's bytes lie among those of the segments up to it
+pub lengths-within : (capture : List ℕ) (i n : ℕ) → i < n → lengths capture i + segmentLength capture i ≤ lengths capture n
+unfolding lengths
+lengths-within capture i zero h = absurd (omega arith)
+lengths-within capture i (suc n) h =
+    ⊎-elim (λ (e : i ≡ n). rw e (omega arith)) (λ (l : i < n). let r = lengths-within capture i n l in omega arith)
+    (eq-or-lt-of-le (le-of-suc-le-suc h))
+
+-- a stretch that a run holds starts and ends in it
 pub holds-start : (capture : List ℕ) (address size i : ℕ) → holds capture address size i ≡ true → segmentAddress capture i ≤ address
 unfolding holds
-holds-start capture address size i h =
-    leb-true (segmentAddress capture i) address (both-left _ (leb (address + size) (segmentAddress capture i + segmentLength capture i)) h)
+holds-start capture address size i h = leb-true (segmentAddress capture i) address (both-left _ (leb (address + size) (runEnd capture i)) h)
 
-pub holds-end : (capture : List ℕ) (address size i : ℕ) → holds capture address size i ≡ true
-    → address + size ≤ segmentAddress capture i + segmentLength capture i
+pub holds-end : (capture : List ℕ) (address size i : ℕ) → holds capture address size i ≡ true → address + size ≤ runEnd capture i
 unfolding holds
 holds-end capture address size i h = leb-true _ _ (both-right (leb (segmentAddress capture i) address) _ h)
 
--- a segment that has the address, by its descriptor
-pub has-start-and-end : (address start size : ℕ) → (leb start address && leb (address + 1) (start + size)) ≡ true
-    → (start ≤ address) × (address < start + size)
-has-start-and-end address start size h =
-    let ends : address + 1 ≤ start + size = leb-true _ _ (both-right (leb start address) _ h) in
-    (leb-true start address (both-left _ (leb (address + 1) (start + size)) h), omega arith)
+-- an address that lies from a start to before an end; so that of a segment
+pub between : (address start end : ℕ) → (leb start address && ltb address end) ≡ true → (start ≤ address) × (address < end)
+between address start end h =
+    (leb-true start address (both-left _ (ltb address end) h), ltb-true address end (both-right (leb start address) _ h))
 
--- what a segment that has the address gives, by its descriptor and its place
-pub reach-told : (capture : List ℕ) (address i : ℕ) {place start size : ℕ} → place ≡ segmentPlace capture i
-    → start ≡ segmentAddress capture i → size ≡ segmentLength capture i → start ≤ address
-    → record { place = place + (address - start); room = size - (address - start) } ≡ reachIn capture address i
+pub has-bounds : (capture : List ℕ) (address i : ℕ) → hasAddress capture address i ≡ true
+    → (segmentAddress capture i ≤ address) × (address < segmentEnd capture i)
+unfolding hasAddress
+has-bounds capture address i h = between address (segmentAddress capture i) (segmentEnd capture i) h
+
+-- what a segment that has the address gives, by its descriptor, its place and the end of its run
+pub reach-told : (capture : List ℕ) (address i : ℕ) {place start room : ℕ} → place ≡ segmentPlace capture i
+    → start ≡ segmentAddress capture i → room ≡ runEnd capture i - address
+    → record { place = place + (address - start); room = room } ≡ reachIn capture address i
 unfolding reachIn placeIn
-reach-told capture address i {place} {start} {size} here begins long low =
-    let stands : place + (address - start) ≡ segmentPlace capture i + (address - segmentAddress capture i) = omega arith in
-    let left : size - (address - start) ≡ segmentAddress capture i + segmentLength capture i - address = omega arith in
-    rw (stands, left)
+reach-told capture address i here begins left = rw (here, begins, left)
 
 -- one segment more stands behind the one before it
 pub place-next : (capture : List ℕ) (i : ℕ) → segmentPlace capture (i + 1) ≡ segmentPlace capture i + segmentLength capture i
 unfolding segmentPlace
 place-next capture i = omega (arith, lengths-next capture i)
+
+-- all places are behind the header
+pub place-behind : (capture : List ℕ) (address i : ℕ) → 18 ≤ placeIn capture address i
+unfolding placeIn segmentPlace descriptorsEnd descriptor headerSize
+place-behind capture address i = omega arith
 
 -- 6, as a search for the first broken segment
 pub segments-first : (capture : List ℕ)

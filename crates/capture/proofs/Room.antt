@@ -1,104 +1,120 @@
 -- In a sound capture the room at an address says which stretches from there are present: the theorems `room-present` and
--- `room-absent`. Segments share no byte, so only one of them has the address.
-use mathlib.Core.Bool.{true}
+-- `room-absent`. Segments share no byte, so only one of them has the address; and the byte behind the room is missing.
+use mathlib.Core.Bool.{Bool, true, false, true≢false}
 use mathlib.Core.List.{List}
 use mathlib.Core.Path.{_≡_, refl, sym, ap, _∙_}
-use Prim.Native.Nat.{ℕ, _+_, _-_, _≤_, _<_}
+use Prim.Native.Nat.{ℕ, zero, suc, _+_, _-_, _≤_, _<_}
+use native.Mathlib.Nat.{add-zero}
 use native.Mathlib.Omega.{arith}
 use borrow.Author.Tests.{le-leb}
-use Rattle.words.specs.Lists.{first, numbersBelow}
+use Rattle.words.specs.Lists.{numbersBelow}
 use Rattle.words.specs.Choice.{if}
 use Rattle.words.specs.Refusals.{refused, unless, firstRefusal}
 use Rattle.words.proofs.Searches.{Hit, search-found, search-none}
-use Rattle.capture.specs.Fields.{segmentCount, rsdpAddress, segmentAddress, segmentLength, segments}
-use Rattle.capture.specs.Presence.{Stretch, Present, Absent, holds, placeIn, isPresent, placeOf, located, rsdpSize, rsdpStretch, presenceRules, rsdpPlace}
+use Rattle.capture.specs.Fields.{segmentCount, rsdpAddress, segmentAddress, hasAddress, segments}
+use Rattle.capture.specs.Presence.{Stretch, Present, Absent, runEnd, holds, placeIn, isPresent, placeOf, located, rsdpSize, rsdpStretch, presenceRules, rsdpPlace}
 use Rattle.capture.specs.Reach.{reachIn, reached}
+use Rattle.capture.specs.Memory.{Stands, Missing}
 use Rattle.capture.specs.declared.Reach.{Reach}
 use Rattle.capture.specs.declared.Root.{Root}
 use Rattle.capture.specs.declared.Root.the-variants as roots
-use Rattle.capture.proofs.Laws.{holds-start, holds-end}
+use Rattle.capture.proofs.Laws.{holds-start, holds-end, has-bounds, place-behind}
+use Rattle.capture.proofs.Runs.{run-reaches, covered}
 use Rattle.capture.proofs.Within.{Sound, located-held, within-small}
-use Rattle.capture.proofs.Apart.{one-segment}
-
--- a segment holds what starts and ends in it
-held : (capture : List ℕ) (address size i : ℕ) → segmentAddress capture i ≤ address → address + size ≤ segmentAddress capture i + segmentLength capture i
-    → holds capture address size i ≡ true
-unfolding holds
-held capture address size i low high =
-    rw (le-leb (segmentAddress capture i) address low, le-leb (address + size) (segmentAddress capture i + segmentLength capture i) high)
+use Rattle.capture.proofs.Apart.{one-segment, first-byte, one-byte, run-missing}
 
 -- no room
 abbrev none : Reach
 none = record { place = 0; room = 0 }
 
 module _ (capture : List ℕ) (sound : Sound capture) (address : ℕ) where
-  -- a search for the segment that holds a stretch of at least a byte ends at that segment
-  only : {R : Type 0} (found : ℕ → R) (none : R) (size i : ℕ) → 0 < size → i < segmentCount capture → holds capture address size i ≡ true
-      → ((k : ℕ) → holds capture address size k ≡ true → found k ≡ none → ⊥)
-      → first (holds capture address size) found none (segments capture) ≡ found i
-  unfolding segments numbersBelow
-  only found none size i some counted taken other = sym (hit .told) ∙ ap found same
-    where
-      -- it does not end without an answer
-      missed : none ≡ first (holds capture address size) found none (segments capture) → ⊥
-      missed e =
-          let left = search-none (holds capture address size) found none none 0 (segmentCount capture) i (sym e) other (omega arith) (omega arith) in
-          let z : _≡_ {A = ℕ} 0 1 = cc in
-          omega arith
-
-      hit : Hit (holds capture address size) found (first (holds capture address size) found none (segments capture)) 0 (segmentCount capture)
-      hit =
-          search-found (holds capture address size) found none (first (holds capture address size) found none (segments capture)) 0
-          (segmentCount capture)
-          (segmentCount capture)
-          (omega arith)
-          refl
-          missed
-
-      same : hit .at ≡ i
-      same =
-          one-segment capture sound (hit .at) i address size size (hit .counted) counted some some
-          (holds-start capture address size (hit .at) (hit .taken))
-          (holds-end capture address size (hit .at) (hit .taken))
-          (holds-start capture address size i taken)
-          (holds-end capture address size i taken)
-
   -- the segment that has the address, where there is room
-  has-room : 0 < reached capture address .room → Hit (holds capture address 1) (reachIn capture address) (reached capture address) 0 (segmentCount capture)
+  has-room : 0 < reached capture address .room → Hit (hasAddress capture address) (reachIn capture address) (reached capture address) 0 (segmentCount capture)
   unfolding reached segments numbersBelow
   has-room some =
-      search-found (holds capture address 1) (reachIn capture address) none (reached capture address) 0 (segmentCount capture)
+      search-found (hasAddress capture address) (reachIn capture address) none (reached capture address) 0 (segmentCount capture)
       (segmentCount capture)
       (omega arith)
       refl
       (λ e. let empty : 0 ≡ reached capture address .room = ap (λ (r : Reach). r .room) e in omega arith)
 
-  -- a stretch of at least a byte that fits in the room is present, at the address's place
+  -- where a segment has it, the search for one ends at that segment
+  reached-in : (i : ℕ) → i < segmentCount capture → hasAddress capture address i ≡ true → reached capture address ≡ reachIn capture address i
+  unfolding reached reachIn segments numbersBelow
+  reached-in i counted has = sym (hit .told) ∙ ap (reachIn capture address) (one-segment capture sound address (hit .at) i (hit .counted) counted (hit .taken) has)
+    where
+      -- it does not end without an answer, since an answer has a place
+      missed : none ≡ reached capture address → ⊥
+      missed e =
+          let left =
+          search-none (hasAddress capture address) (reachIn capture address) none none 0 (segmentCount capture) i (sym e)
+          (λ k t g. let nowhere : placeIn capture address k ≡ 0 = ap (λ (r : Reach). r .place) g in omega (arith, place-behind capture address k))
+          (omega arith)
+          (omega arith)
+          in
+          true≢false (sym has ∙ left)
+
+      hit : Hit (hasAddress capture address) (reachIn capture address) (reached capture address) 0 (segmentCount capture)
+      hit =
+          search-found (hasAddress capture address) (reachIn capture address) none (reached capture address) 0 (segmentCount capture)
+          (segmentCount capture)
+          (omega arith)
+          refl
+          missed
+
+  room-in : (i : ℕ) → i < segmentCount capture → hasAddress capture address i ≡ true → reached capture address .room ≡ runEnd capture i - address
+  unfolding reachIn
+  room-in i counted has = ap (λ (r : Reach). r .room) (reached-in i counted has)
+
+  -- a stretch from the address to the end of its run at most is held by that run
+  held : (size i : ℕ) → hasAddress capture address i ≡ true → address + size ≤ runEnd capture i → holds capture address size i ≡ true
+  unfolding holds
+  held size i has fits =
+      rw (le-leb (segmentAddress capture i) address (has-bounds capture address i has .0), le-leb (address + size) (runEnd capture i) fits)
+
+  -- and so is not absent
+  not-absent : (size i : ℕ) → i < segmentCount capture → holds capture address size i ≡ true → located capture address size ≡ Absent → ⊥
+  unfolding located segments numbersBelow
+  not-absent size i counted taken e =
+      let left =
+      search-none (holds capture address size) (λ (k : ℕ). Present (placeIn capture address k)) Absent Absent 0 (segmentCount capture) i e
+      (λ k t g. let z : _≡_ {A = ℕ} 0 1 = cc in omega arith)
+      (omega arith)
+      (omega arith)
+      in
+      true≢false (sym taken ∙ left)
+
+  -- but present at the address's place
+  pub located-in : (size i : ℕ) → i < segmentCount capture → hasAddress capture address i ≡ true → 0 < size → address + size ≤ runEnd capture i
+      → located capture address size ≡ Present (placeIn capture address i)
+  located-in size i counted has some fits = go (located capture address size) refl
+    where
+      here : Stands capture address (placeIn capture address i)
+      here = record { segment = i; counted = counted; has = has; there = refl }
+
+      go : (s : Stretch) → located capture address size ≡ s → located capture address size ≡ Present (placeIn capture address i)
+      go Absent e = absurd (not-absent size i counted (held size i has fits) e)
+      go (Present place) e = e ∙ ap Present (one-byte capture sound address place _ (first-byte capture address size place some e) here)
+
+  -- one of at least a byte that fits in the room is
   pub room-present : (size : ℕ) → 0 < size → size ≤ reached capture address .room
       → located capture address size ≡ Present (reached capture address .place)
-  unfolding located reachIn
+  unfolding reachIn
   room-present size some fits =
       let h = has-room (omega arith) in
-      let room : segmentAddress capture (h .at) + segmentLength capture (h .at) - address ≡ reached capture address .room = ap (λ (r : Reach). r .room) (h .told) in
+      let room : runEnd capture (h .at) - address ≡ reached capture address .room = ap (λ (r : Reach). r .room) (h .told) in
       let place : placeIn capture address (h .at) ≡ reached capture address .place = ap (λ (r : Reach). r .place) (h .told) in
-      only (λ (i : ℕ). Present (placeIn capture address i)) Absent size (h .at) some (h .counted)
-      (held capture address size (h .at) (holds-start capture address 1 (h .at) (h .taken)) (omega arith))
-      (λ k t e. let z : _≡_ {A = ℕ} 0 1 = cc in omega arith)
-      ∙ ap Present place
+      located-in size (h .at) (h .counted) (h .taken) some (omega arith) ∙ ap Present place
 
   -- what is present fits in the room
   present-fits : (size place : ℕ) → 0 < size → located capture address size ≡ Present place → size ≤ reached capture address .room
-  unfolding reached reachIn
   present-fits size place some e =
       let h = located-held capture address size place e in
       let low = holds-start capture address size (h .at) (h .taken) in
       let high = holds-end capture address size (h .at) (h .taken) in
-      let here : reached capture address ≡ reachIn capture address (h .at) =
-      only (reachIn capture address) none 1 (h .at) (omega arith) (h .counted) (held capture address 1 (h .at) low (omega arith))
-      (λ k t g. let empty : segmentAddress capture k + segmentLength capture k - address ≡ 0 = ap (λ (r : Reach). r .room) g in omega (arith, holds-end capture address 1 k t))
-      in
-      let room : reached capture address .room ≡ segmentAddress capture (h .at) + segmentLength capture (h .at) - address = ap (λ (r : Reach). r .room) here in
-      omega arith
+      let c = covered capture address (h .at) (h .counted) low (omega arith) in
+      let run = c .run in
+      omega (arith, room-in (c .at) (c .counted) (c .has))
 
   -- so one that does not fit is absent
   pub room-absent : (size : ℕ) → reached capture address .room < size → located capture address size ≡ Absent
@@ -107,6 +123,30 @@ module _ (capture : List ℕ) (sound : Sound capture) (address : ℕ) where
       go : (s : Stretch) → located capture address size ≡ s → located capture address size ≡ Absent
       go Absent e = e
       go (Present place) e = absurd (let fits = present-fits size place (omega arith) e in omega arith)
+
+  -- the byte behind the room is missing
+  pub room-missing : Missing capture (address + reached capture address .room)
+  room-missing = go (reached capture address .room) refl
+    where
+      -- no segment has an address that has no room
+      nowhere : reached capture address .room ≡ 0 → Missing capture address
+      nowhere e i counted = go (hasAddress capture address i) refl
+        where
+          go : (b : Bool) → hasAddress capture address i ≡ b → hasAddress capture address i ≡ false
+          go false h = h
+          go true h =
+              let b = has-bounds capture address i h in
+              absurd (omega (arith, room-in i counted h, run-reaches capture i counted))
+
+      go : (room : ℕ) → reached capture address .room ≡ room → Missing capture (address + reached capture address .room)
+      go zero e = rw (e, add-zero address) (nowhere e)
+      go (suc room) e =
+          let h = has-room (omega arith) in
+          let b = has-bounds capture address (h .at) (h .taken) in
+          let ends : address + reached capture address .room ≡ runEnd capture (h .at) =
+          omega (arith, room-in (h .at) (h .counted) (h .taken), run-reaches capture (h .at) (h .counted))
+          in
+          rw ends (run-missing capture sound (h .at) (h .counted))
 
 -- the answers for the RSDP, by the room at its address
 module _ (capture : List ℕ) (sound : Sound capture) {reach : Reach} (h : reach ≡ reached capture (rsdpAddress capture)) where

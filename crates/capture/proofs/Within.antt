@@ -1,10 +1,8 @@
 -- What is located in a sound capture lies inside the capture: the theorem `within`, and what upper crates need beside it.
 use mathlib.Core.Bool.{true, false, not, _||_, true≢false}
 use mathlib.Core.List.{List, _++_}
-use mathlib.Core.Logic.{⊎-elim}
 use mathlib.Core.Path.{_≡_, refl, sym, ap, _∙_}
-use Prim.Native.Nat.{ℕ, zero, suc, _+_, _≤_, _<_}
-use native.Mathlib.Nat.{eq-or-lt-of-le, le-of-suc-le-suc}
+use Prim.Native.Nat.{ℕ, _+_, _≤_}
 use native.Mathlib.Omega.{arith}
 use lib.Dec.{eqb, ltb}
 use lib.ListN.{length}
@@ -21,7 +19,8 @@ use Rattle.words.specs.declared.Verdict.{Verdict}
 use Rattle.words.specs.declared.Verdict.the-variants as verdicts
 use Rattle.capture.specs.declared.Root.{Root}
 use Rattle.capture.specs.declared.Root.the-variants as roots
-use Rattle.capture.proofs.Laws.{holds-start, holds-end}
+use Rattle.capture.proofs.Laws.{holds-start, holds-end, place-behind}
+use Rattle.capture.proofs.Runs.{run-fits}
 
 -- a capture that no rule refuses
 abbrev pub Sound : List ℕ → Type 0
@@ -59,15 +58,7 @@ sound-length capture h =
     _
     (sound-rest capture h .0)))
 
--- a segment's bytes lie among those of the segments up to it
-lengths-within : (capture : List ℕ) (i n : ℕ) → i < n → lengths capture i + segmentLength capture i ≤ lengths capture n
-unfolding lengths
-lengths-within capture i zero h = absurd (omega arith)
-lengths-within capture i (suc n) h =
-    ⊎-elim (λ (e : i ≡ n). rw e (omega arith)) (λ (l : i < n). let r = lengths-within capture i n l in omega arith)
-    (eq-or-lt-of-le (le-of-suc-le-suc h))
-
--- a stretch that was located is held by one of the segments
+-- a stretch that was located is held by the run from one of the segments on
 abbrev pub Held : List ℕ → ℕ → ℕ → ℕ → Type 0
 Held capture address size place =
     Hit (holds capture address size) (λ (i : ℕ). Present (placeIn capture address i)) (Present place) 0 (segmentCount capture)
@@ -92,7 +83,7 @@ within capture address size place sound h =
     let s = located-held capture address size place h in
     let there = held-place capture address size place s in
     let whole = sound-length capture sound in
-    let before = lengths-within capture (s .at) (segmentCount capture) (s .counted) in
+    let before = run-fits capture (s .at) (s .counted) in
     let start = holds-start capture address size (s .at) (s .taken) in
     let end = holds-end capture address size (s .at) (s .taken) in
     omega arith
@@ -106,11 +97,10 @@ within-small capture address size place sound h =
 
 -- and behind the header
 pub behind : (capture : List ℕ) (address size place : ℕ) → located capture address size ≡ Present place → 18 ≤ place
-unfolding placeIn segmentPlace descriptorsEnd descriptor headerSize
 behind capture address size place h =
     let s = located-held capture address size place h in
     let there = held-place capture address size place s in
-    omega arith
+    omega (arith, place-behind capture address (s .at))
 
 -- a stretch that is present stands at its place, and so does the RSDP where 10 is kept
 pub present-at : (s : Stretch) → isPresent s ≡ true → s ≡ Present (placeOf s)

@@ -1,6 +1,8 @@
 -- Document 01, "The capture": what stands where.
 use Prim.Native.Nat.{ℕ, zero, suc, _+_, _*_}
+use mathlib.Core.Bool.{Bool, _&&_}
 use mathlib.Core.List.{List}
+use lib.Dec.{ltb, leb}
 use Rattle.words.specs.Bytes.{byteAt, numberAt}
 use Rattle.words.specs.Lists.{numbersBelow}
 
@@ -39,6 +41,14 @@ segmentAddress capture i = numberAt 8 capture (descriptor capture i)
 -- and its "length 32 bits"
 unfoldable pub segmentLength : List ℕ → ℕ → ℕ
 segmentLength capture i = numberAt 4 capture (descriptor capture i + 8)
+
+-- the end of segment i: the address behind its last byte
+abbrev pub segmentEnd : List ℕ → ℕ → ℕ
+segmentEnd capture i = segmentAddress capture i + segmentLength capture i
+
+-- segment i has the byte of memory at an address
+unfoldable pub hasAddress : List ℕ → ℕ → ℕ → Bool
+hasAddress capture address i = leb (segmentAddress capture i) address && ltb address (segmentEnd capture i)
 
 -- the segments, by their number
 unfoldable pub segments : List ℕ → List ℕ

@@ -2,3 +2,4 @@ pub mod Fields
 pub mod Rules
 pub mod Presence
 pub mod Reach
+pub mod Memory

@@ -1,11 +1,12 @@
--- Document 01, "The capture": where a stretch of memory stands in the capture; and refusal 10, the RSDP's presence.
+-- Document 01, "The capture", as W-206 of document 02 changed it: where a stretch of memory stands in the capture; and refusal 10, the
+-- RSDP's presence. What presence means byte by byte is said, and proved of these definitions, in Memory.
 use Prim.Native.Nat.{ℕ, _+_, _-_}
 use mathlib.Core.Bool.{Bool, true, false, not, _&&_}
 use mathlib.Core.List.{List, [], _∷_, _++_}
-use lib.Dec.{leb}
-use Rattle.words.specs.Lists.{first}
+use lib.Dec.{eqb, ltb, leb}
+use Rattle.words.specs.Lists.{first, numbersFrom}
 use Rattle.words.specs.Refusals.{rule, unless, firstRefusal}
-use Rattle.capture.specs.Fields.{rsdpAddress, segmentAddress, segmentLength, segmentPlace, segments}
+use Rattle.capture.specs.Fields.{segmentCount, rsdpAddress, segmentAddress, segmentEnd, segmentPlace, segments}
 use Rattle.capture.specs.Rules.{containerRules}
 use Rattle.words.specs.declared.Verdict.{Verdict}
 use Rattle.capture.specs.declared.Root.{Root}
@@ -25,16 +26,24 @@ unfoldable pub placeOf : Stretch → ℕ
 placeOf (Present place) = place
 placeOf Absent = 0
 
--- the stretch "lies wholly inside" segment i
-unfoldable pub holds : List ℕ → ℕ → ℕ → ℕ → Bool
-holds capture address size i =
-    leb (segmentAddress capture i) address && leb (address + size) (segmentAddress capture i + segmentLength capture i)
+-- "Where a segment starts exactly at the end of the one before it": behind segment i one does
+unfoldable pub goesOn : List ℕ → ℕ → Bool
+goesOn capture i = ltb (i + 1) (segmentCount capture) && eqb (segmentAddress capture (i + 1)) (segmentEnd capture i)
 
--- the place of an address of segment i
+-- "across the two, or across several such": the run of segments from segment i on, up to the first behind which none goes on; where it
+-- ends. (Behind the last segment none does, so that one is found.)
+unfoldable pub runEnd : List ℕ → ℕ → ℕ
+runEnd capture i = first (λ j. not (goesOn capture j)) (segmentEnd capture) 0 (numbersFrom i (segmentCount capture - i))
+
+-- the stretch lies wholly inside the run from segment i on
+unfoldable pub holds : List ℕ → ℕ → ℕ → ℕ → Bool
+holds capture address size i = leb (segmentAddress capture i) address && leb (address + size) (runEnd capture i)
+
+-- the place of an address of the run from segment i on, whose bytes stand one after another in the capture as they do in memory
 unfoldable pub placeIn : List ℕ → ℕ → ℕ → ℕ
 placeIn capture address i = segmentPlace capture i + (address - segmentAddress capture i)
 
--- "A stretch of memory is present if it lies wholly inside one segment."
+-- "A stretch of memory is present if it lies wholly inside one segment", or inside several that touch
 unfoldable pub located : List ℕ → ℕ → ℕ → Stretch
 located capture address size = first (holds capture address size) (λ i. Present (placeIn capture address i)) Absent (segments capture)
 

@@ -1,19 +1,18 @@
--- A shortcut of the program, and no line of document 01: where an address stands, and how many bytes its segment has from there on.
--- In a sound capture this room tells of every size whether a stretch from the address is present: proofs/Room, so that no answer
--- changes.
-use Prim.Native.Nat.{ℕ, _+_, _-_}
+-- A shortcut of the program, and no line of document 01: where an address stands, and how many bytes there are from there on, as far
+-- as segments touch. In a sound capture this room tells of every size whether a stretch from the address is present: proofs/Room,
+-- so that no answer changes.
+use Prim.Native.Nat.{ℕ, _-_}
 use mathlib.Core.List.{List}
 use Rattle.words.specs.Lists.{first}
-use Rattle.capture.specs.Fields.{segmentAddress, segmentLength, segments}
-use Rattle.capture.specs.Presence.{holds, placeIn}
+use Rattle.capture.specs.Fields.{hasAddress, segments}
+use Rattle.capture.specs.Presence.{runEnd, placeIn}
 use Rattle.capture.specs.declared.Reach.{Reach}
 
 -- an address of segment i
 unfoldable pub reachIn : List ℕ → ℕ → ℕ → Reach
-reachIn capture address i =
-    record { place = placeIn capture address i; room = segmentAddress capture i + segmentLength capture i - address }
+reachIn capture address i = record { place = placeIn capture address i; room = runEnd capture i - address }
 
 -- an address of the first segment that has it; no room where none has it
 unfoldable pub reached : List ℕ → ℕ → Reach
 reached capture address =
-    first (holds capture address 1) (reachIn capture address) (record { place = 0; room = 0 }) (segments capture)
+    first (hasAddress capture address) (reachIn capture address) (record { place = 0; room = 0 }) (segments capture)

@@ -7,7 +7,7 @@ use lib.Dec.{eqb, ltb}
 use lib.ListN.{length}
 use Rattle.words.specs.Bytes.{byteAt}
 use Rattle.words.specs.Refusals.{rule, firstRefusal}
-use Rattle.capture.specs.Fields.{version, segmentCount, totalLength, headerSize, descriptor, descriptorsEnd, segmentAddress, segmentLength, segments, lengths}
+use Rattle.capture.specs.Fields.{version, segmentCount, totalLength, headerSize, descriptor, descriptorsEnd, segmentAddress, segmentLength, segmentEnd, segments, lengths}
 use Rattle.words.specs.declared.Verdict.{Verdict}
 
 -- 1: "capture under 18 or over 65,536 bytes"
@@ -40,12 +40,12 @@ emptySegment capture i = eqb (segmentLength capture i) 0
 
 -- 6: "end at or below 2^64"
 unfoldable pub endsPastMemory : List ℕ → ℕ → Bool
-endsPastMemory capture i = ltb (2 ^ 64) (segmentAddress capture i + segmentLength capture i)
+endsPastMemory capture i = ltb (2 ^ 64) (segmentEnd capture i)
 
 -- the end of the segment before segment i; nothing ends before the first
 unfoldable pub endBefore : List ℕ → ℕ → ℕ
 endBefore capture zero = 0
-endBefore capture (suc i) = segmentAddress capture i + segmentLength capture i
+endBefore capture (suc i) = segmentEnd capture i
 
 -- 6: "none starts before the end of the one before it"
 unfoldable pub startsEarly : List ℕ → ℕ → Bool

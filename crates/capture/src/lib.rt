@@ -2,17 +2,17 @@
 // and whether the RSDP is there (refusal 10). Every function answers for any bytes.
 ghost use mathlib.Core.Path.{_≡_};
 ghost use mathlib.Core.Bool.{_&&_};
-ghost use Prim.Native.Nat.{_+_, _^_};
-ghost use lib.Dec.{ltb, leb};
-ghost use Rattle.capture.specs.Fields.{version, segmentCount, rsdpAddress, headerSize, descriptor, descriptorsEnd, segmentAddress, segmentLength, lengths};
+ghost use Prim.Native.Nat.{_+_, _-_, _^_, _<_};
+ghost use lib.Dec.{eqb, ltb, leb};
+ghost use Rattle.capture.specs.Fields.{version, segmentCount, rsdpAddress, headerSize, descriptor, descriptorsEnd, segmentAddress, segmentLength, segmentEnd, lengths};
 ghost use Rattle.capture.specs.Rules.{wrongSize, wrongMark, wrongVersion, wrongCount, wrongTotal, startsEarly, segmentBroken, segmentRules, verdict};
-ghost use Rattle.capture.specs.Presence.{presenceRules, rsdpPlace, rsdp};
+ghost use Rattle.capture.specs.Presence.{runEnd, presenceRules, rsdpPlace, rsdp};
 ghost use Rattle.capture.specs.Reach.{reached};
 ghost use Rattle.words.specs.Refusals.{unless, firstRefusal};
 use words::Refusal;
 use words::Verdict;
 
-// The place of an address, and the bytes of its segment from there on.
+// The place of an address, and how many bytes there are from there on, as far as segments touch.
 pub struct Reach {
     pub place: usize,
     pub room: u64,
@@ -229,13 +229,42 @@ pub fn check(capture: &[u8]) -> Verdict
 
 // Whether a segment has an address.
 fn has_address(start: u64, length: u32, address: u64) -> bool
-    ensures { λ r. ⌜ r ≡ (leb start address && leb (address + 1) (start + length)) ⌝ }
+    ensures { λ r. ⌜ r ≡ (leb start address && ltb address (start + length)) ⌝ }
 {
     (start <= address) & before_end(address, start, length)
 }
 
-// Where an address stands, and how many bytes its segment has from there on; no room where no segment has the address. In a
-// sound capture a stretch from the address is present exactly if the room is enough: one look answers for every size.
+// Whether a segment starts exactly at the end of the one before it, `room` bytes behind an address. The end may be 2^64, where
+// none starts: differences are compared.
+fn starts_at(start: u64, address: u64, room: u64) -> bool
+    ensures { λ r. ⌜ r ≡ eqb start (address + room) ⌝ }
+{
+    if start < address {
+        return false;
+    }
+    start - address == room
+}
+
+// How many bytes there are from an address of segment i on, as far as segments touch. Up to the end of segment i it is `room`.
+fn room_of_run(capture: &[u8], address: u64, i: u8, room: u64) -> u64
+    requires { ⌜ (i < segmentCount (now capture)) × (address + room ≡ segmentEnd (now capture) i) × (room < 2 ^ 32) ⌝ }
+    ensures { λ r. ⌜ r ≡ runEnd (now (capture .entry)) i - address ⌝ }
+{
+    let n = segment_count(capture);
+    let mut sum = room;
+    let mut next = i + 1;
+    while next < n {
+        if !starts_at(segment_address(capture, next), address, sum) {
+            return sum;
+        }
+        sum += segment_length(capture, next) as u64;
+        next += 1;
+    }
+    sum
+}
+
+// Where an address stands, and how many bytes there are from there on; no room where no segment has the address. In a sound
+// capture a stretch from the address is present exactly if the room is enough: one look at the descriptors answers for every size.
 pub fn reach_of(capture: &[u8], address: u64) -> Reach
     ensures { λ r. ⌜ r ≡ reached (now (capture .entry)) address ⌝ }
 {
@@ -249,7 +278,7 @@ pub fn reach_of(capture: &[u8], address: u64) -> Reach
             let ahead = address - start;
             return Reach {
                 place: (place + ahead) as usize,
-                room: (length as u64) - ahead,
+                room: room_of_run(capture, address, i, (length as u64) - ahead),
             };
         }
         place += length as u64;

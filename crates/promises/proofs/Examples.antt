@@ -8,7 +8,7 @@ use Rattle.words.specs.Refusals.{unless, firstRefusal, inEach, isSound}
 use Rattle.words.specs.Bytes.{numberAt, spelled, total, byteSum}
 use Rattle.words.specs.Lists.{first, every, those, numbersFrom, numbersBelow}
 use Rattle.capture.specs.Fields.{version, segmentCount, totalLength, rsdpAddress, headerSize, descriptor, descriptorsEnd, segmentAddress, segmentLength, segments, lengths, segmentPlace}
-use Rattle.capture.specs.Presence.{isPresent, placeOf, holds, placeIn, located, rsdpStretch, rsdpPlace, presenceRules}
+use Rattle.capture.specs.Presence.{isPresent, placeOf, goesOn, runEnd, holds, placeIn, located, rsdpStretch, rsdpPlace, presenceRules}
 use Rattle.capture.specs.Rules.{wrongSize, wrongMark, wrongVersion, wrongCount, wrongTotal, emptySegment, endsPastMemory, endBefore, startsEarly, segmentBroken, segmentRules, containerRules}
 use Rattle.tables.specs.Finder.{names, namedFrom, firstNamed, namedAfter, secondNamed}
 use Rattle.tables.specs.Rsdp.{rsdPtr, wrongSignature, wrongRevision, wrongLength, wrongSums, rsdpRules, xsdtField}
@@ -47,7 +47,7 @@ use Rattle.promises.specs.Examples.{told, twelve, TwelveExamples, BoardA
 
 -- the scan, with all that it and the answers are computed by
 unfoldable computed : List ℕ → Scan
-unfolding if unless firstRefusal inEach first every fold numberAt spelled total byteSum numbersFrom numbersBelow version segmentCount totalLength rsdpAddress headerSize descriptor descriptorsEnd segmentAddress segmentLength segments lengths segmentPlace isPresent placeOf holds placeIn located rsdpStretch rsdpPlace presenceRules wrongSize wrongMark wrongVersion wrongCount wrongTotal emptySegment endsPastMemory endBefore startsEarly segmentBroken segmentRules containerRules names namedFrom firstNamed namedAfter secondNamed rsdPtr wrongSignature wrongRevision wrongLength wrongSums rsdpRules xsdtField structureLength brokenAt stepAt apic facp isNowhere earlier secondRule nameRules wrongMadtRevision wrongFlags bodyRules sciNumber withSci tableOfEntry madtOf fadtOf tablesFrom xsdtOf tablesOf surveyRules signature tableLength revision addressAt headerAt tableNamed cutShort wrongSum tableRules xsdtSignature notXsdt wrongXsdtRevision entryCount wrongBody xsdtRules entryField entries entryRules coreOf lioOf htOf eioOf msiOf bioOf lpcOf lioField eioField msiField bioField lpcField usedHalf saidLio saidLpc clash sooner nearer partner better firstClash lonelier firstLone hasBit lesser hasPin routeOf traceOf placed claims lioArrival through bridge pinArrival bioOwner owner arrivalOf arrival atLater atBoth spotted eiosFit biosFit msisFit rangesKept noBridge lost rulesTo43 rulesFrom51 mapRules firstBroken isSound keepsRules slotTold isBridge isLpcPin pinTold landed eioTraced traced pieceAt piecesFrom pieces structures those isType isKnown lengthOf wrongStructureLength wrongStructureVersion isHt reservedFlags wrongCascade wrongNode wrongNodes noSlots wrongEnd wrongBase wrongInput sharedBit oneTooMany structureRules ofType made standing mapOf placesOf enabledIn foundIn rulesInTurn walkRules turnedAway walked isEnabledCore entriesOf entriesIn processors countOf countIn count hasRoom written filled twins earlierTwin hasTwin repeats spot firstRepeat withoutMap answered madtFound readingOf listAfter madtBytes emptyMap turnedDown repeatRule processorRule madtRules lineRules rulesBefore51 allRules accepted scan
+unfolding if unless firstRefusal inEach first every fold numberAt spelled total byteSum numbersFrom numbersBelow version segmentCount totalLength rsdpAddress headerSize descriptor descriptorsEnd segmentAddress segmentLength segments lengths segmentPlace isPresent placeOf goesOn runEnd holds placeIn located rsdpStretch rsdpPlace presenceRules wrongSize wrongMark wrongVersion wrongCount wrongTotal emptySegment endsPastMemory endBefore startsEarly segmentBroken segmentRules containerRules names namedFrom firstNamed namedAfter secondNamed rsdPtr wrongSignature wrongRevision wrongLength wrongSums rsdpRules xsdtField structureLength brokenAt stepAt apic facp isNowhere earlier secondRule nameRules wrongMadtRevision wrongFlags bodyRules sciNumber withSci tableOfEntry madtOf fadtOf tablesFrom xsdtOf tablesOf surveyRules signature tableLength revision addressAt headerAt tableNamed cutShort wrongSum tableRules xsdtSignature notXsdt wrongXsdtRevision entryCount wrongBody xsdtRules entryField entries entryRules coreOf lioOf htOf eioOf msiOf bioOf lpcOf lioField eioField msiField bioField lpcField usedHalf saidLio saidLpc clash sooner nearer partner better firstClash lonelier firstLone hasBit lesser hasPin routeOf traceOf placed claims lioArrival through bridge pinArrival bioOwner owner arrivalOf arrival atLater atBoth spotted eiosFit biosFit msisFit rangesKept noBridge lost rulesTo43 rulesFrom51 mapRules firstBroken isSound keepsRules slotTold isBridge isLpcPin pinTold landed eioTraced traced pieceAt piecesFrom pieces structures those isType isKnown lengthOf wrongStructureLength wrongStructureVersion isHt reservedFlags wrongCascade wrongNode wrongNodes noSlots wrongEnd wrongBase wrongInput sharedBit oneTooMany structureRules ofType made standing mapOf placesOf enabledIn foundIn rulesInTurn walkRules turnedAway walked isEnabledCore entriesOf entriesIn processors countOf countIn count hasRoom written filled twins earlierTwin hasTwin repeats spot firstRepeat withoutMap answered madtFound readingOf listAfter madtBytes emptyMap turnedDown repeatRule processorRule madtRules lineRules rulesBefore51 allRules accepted scan
 computed capture = scan capture
 
 -- THE PROMISES

@@ -14,3 +14,4 @@ pub mod ReadForC
 pub mod EveryResult
 pub mod RulesInOrder
 pub mod MapOfMadt
+pub mod Memory

@@ -1,4 +1,5 @@
 pub mod Captures
+pub mod Memory
 pub mod RefusalTable
 pub mod Calls
 pub mod OneAnswer

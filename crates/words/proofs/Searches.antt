@@ -110,3 +110,12 @@ module _ {R : Type 0} (test : ℕ → Bool) (found : ℕ → R) (none answer : R
           → test j ≡ false
       go true t g later = absurd (other from t g)
       go false t g later = ⊎-elim (λ (e : from ≡ j). rw (← e) t) (λ (l : from < j). later g (omega arith)) (eq-or-lt-of-le low)
+
+-- two searches of numbers whose tests agree on them give one answer
+pub first-same : {R : Type 0} (test other : ℕ → Bool) (found : ℕ → R) (none : R) (from k : ℕ)
+    → ((i : ℕ) → from ≤ i → i < from + k → test i ≡ other i)
+    → first test found none (numbersFrom from k) ≡ first other found none (numbersFrom from k)
+unfolding first numbersFrom
+first-same test other found none from zero agree = refl
+first-same test other found none from (suc k) agree =
+    rw (agree from (omega arith) (omega arith), first-same test other found none (from + 1) k (λ i low high. agree i (omega arith) (omega arith)))

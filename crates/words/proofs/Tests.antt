@@ -2,8 +2,8 @@
 use mathlib.Core.Bool.{Bool, true, false, _&&_, _||_}
 use mathlib.Core.Path.{_≡_, refl, sym}
 use Prim.Native.Nat.{ℕ, _≤_, _<_}
-use lib.Dec.{ltb, leb}
-use borrow.Author.Tests.{lt-ltb, le-ltb, le-leb, lt-leb}
+use lib.Dec.{eqb, ltb, leb}
+use borrow.Author.Tests.{lt-ltb, le-ltb, le-leb, lt-leb, eq-eqb, ne-eqb}
 
 -- a flag that holds exactly when one number is below, or at most, another is the test of the two
 pub is-ltb : (flag : Bool) (a b : ℕ) → (flag ≡ true → a < b) → (flag ≡ false → b ≤ a) → flag ≡ ltb a b
@@ -13,6 +13,11 @@ is-ltb false a b holds fails = sym (le-ltb a b (fails refl))
 pub is-leb : (flag : Bool) (a b : ℕ) → (flag ≡ true → a ≤ b) → (flag ≡ false → b < a) → flag ≡ leb a b
 is-leb true a b holds fails = sym (le-leb a b (holds refl))
 is-leb false a b holds fails = sym (lt-leb a b (fails refl))
+
+-- or that they are equal
+pub is-eqb : (flag : Bool) (a b : ℕ) → (flag ≡ true → a ≡ b) → (flag ≡ false → a ≡ b → ⊥) → flag ≡ eqb a b
+is-eqb true a b holds fails = sym (eq-eqb a b (holds refl))
+is-eqb false a b holds fails = sym (ne-eqb a b (fails refl))
 
 -- what a test of two things tells of each
 pub both-left : (p q : Bool) → (p && q) ≡ true → p ≡ true

@@ -1,5 +1,4 @@
 -- `capture::has_address` compares with both ends.
-use native.Mathlib.Numerals.{add-one}
 use borrow.Author.Needs.{needs}
 use Rattle.capture.proofs.has_address.Statement.{statement}
 use Rattle.capture.proofs.has_address.Tie as tie
@@ -8,7 +7,7 @@ before-end-requires : tie.Need-before-end-requires
 before-end-requires c κs = search needs
 
 returns : tie.Need-returns
-returns c = rw (c .before-end .ensures, add-one)
+returns c = rw (c .before-end .ensures)
 
 pub has-address-spec : {M : Type 1} → statement M
 has-address-spec = tie.close (tie.spec before-end-requires returns)

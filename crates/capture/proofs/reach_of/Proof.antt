@@ -4,10 +4,9 @@ use Prim.Native.Nat.{ℕ, _+_, _-_, _*_, _≤_, _<_}
 use native.Mathlib.Omega.{arith}
 use Rattle.words.specs.Lists.{numbersFrom}
 use Rattle.words.proofs.Searches.{search-start, Searching, search-hit, search-miss, search-over, next-number, no-number}
-use Rattle.capture.specs.Fields.{lengths, segmentPlace, segments}
-use Rattle.capture.specs.Presence.{holds}
+use Rattle.capture.specs.Fields.{hasAddress, lengths, segmentPlace, segments}
 use Rattle.capture.specs.Reach.{reachIn, reached}
-use Rattle.capture.proofs.Laws.{has-start-and-end, reach-told, place-next}
+use Rattle.capture.proofs.Laws.{between, reach-told, place-next}
 use borrow.Author.Needs.{needs}
 use Rattle.capture.proofs.reach_of.Statement.{statement}
 use Rattle.capture.proofs.reach_of.Tie as tie
@@ -16,7 +15,7 @@ abbrev Inv-loop : tie.InvT-loop
 Inv-loop capture address n place₀ i₀ place i =
     (place ≤ 65536 + 4294967296 * i)
     × (place ≡ segmentPlace capture i)
-    × Searching (holds capture address 1) (reachIn capture address) (record { place = 0; room = 0 }) (reached capture address) (numbersFrom i (n - i))
+    × Searching (hasAddress capture address) (reachIn capture address) (record { place = 0; room = 0 }) (reached capture address) (numbersFrom i (n - i))
 
 abbrev μ-loop : tie.MeasureT-loop
 μ-loop capture address n place₀ i₀ place i = n - i
@@ -32,7 +31,7 @@ abbrev address : tie.Then1 Inv-loop μ-loop → ℕ
 address c = c .before .before .before .before .before .before .before .before .before .args .address
 
 has : (c : tie.Then1 Inv-loop μ-loop) → (start c ≤ address c) × (address c < start c + size c)
-has c = has-start-and-end (address c) (start c) (size c) (sym (c .before .has-address .ensures) ∙ c .if1 .taken)
+has c = between (address c) (start c) (start c + size c) (sym (c .before .has-address .ensures) ∙ c .if1 .taken)
 
 segment-count-requires : tie.Need-segment-count-requires Inv-loop μ-loop
 segment-count-requires c κs = search needs
@@ -62,17 +61,20 @@ sub-ahead c = omega (arith, has c)
 add-t12 : tie.Need-add-t12 Inv-loop μ-loop
 add-t12 c = omega (arith, has c)
 
-cast-t14 : tie.Need-cast-t14 Inv-loop μ-loop
-cast-t14 c = search needs
+cast-room-of-run : tie.Need-cast-room-of-run Inv-loop μ-loop
+cast-room-of-run c = search needs
 
-sub-t15 : tie.Need-sub-t15 Inv-loop μ-loop
-sub-t15 c = omega (arith, has c)
+sub-room-of-run : tie.Need-sub-room-of-run Inv-loop μ-loop
+sub-room-of-run c = omega (arith, has c)
+
+room-of-run-requires : tie.Need-room-of-run-requires Inv-loop μ-loop
+room-of-run-requires c κs = (omega arith, omega (arith, has c), omega (arith, has c))
 
 returns : tie.Need-returns Inv-loop μ-loop
 returns c =
-    let l = c .before .before .before .before .before in
-    reach-told _ _ _ (l .loop .inv .1) (c .before .before .before .segment-address .ensures) (c .before .before .segment-length .ensures) (has c .0)
-    ∙ search-hit (l .loop .inv .2) (next-number _ _ (omega arith)) (unfold holds in cc)
+    let l = c .before .before .before .before .before .before in
+    reach-told _ _ _ (l .loop .inv .1) (c .before .before .before .before .segment-address .ensures) (c .room-of-run .ensures)
+    ∙ search-hit (l .loop .inv .2) (next-number _ _ (omega arith)) (unfold hasAddress in cc)
 
 cast-place-2 : tie.Need-cast-place-2 Inv-loop μ-loop
 cast-place-2 c = search needs
@@ -89,7 +91,7 @@ loop-less c = search needs
 loop-again : tie.Need-loop-again Inv-loop μ-loop
 loop-again c =
     let l = c .before .before .before .before .before in
-    (search needs, rw place-next (cc), search-miss (l .loop .inv .2) (next-number _ _ (omega arith)) (unfold holds in cc))
+    (search needs, rw place-next (cc), search-miss (l .loop .inv .2) (next-number _ _ (omega arith)) (unfold hasAddress in cc))
 
 returns-2 : tie.Need-returns-2 Inv-loop μ-loop
 returns-2 c = search-over (c .before .loop .inv .2) (no-number _ _ (c .loop-test .left))
@@ -109,8 +111,9 @@ reach-of-spec =
     has-address-requires
     sub-ahead
     add-t12
-    cast-t14
-    sub-t15
+    cast-room-of-run
+    sub-room-of-run
+    room-of-run-requires
     returns
     cast-place-2
     add-place
