@@ -1,23 +1,25 @@
 -- Laws of the capture's definitions.
-use mathlib.Core.Bool.{true, false, _&&_}
-use mathlib.Core.Path.{_≡_}
+use mathlib.Core.Bool.{true, false, not, _&&_, _||_}
+use mathlib.Core.Path.{_≡_, refl}
 use mathlib.Core.List.{List}
 use mathlib.Core.Logic.{⊎-elim}
-use Prim.Native.Nat.{ℕ, zero, suc, _+_, _-_, _*_, _≤_, _<_}
+use Prim.Native.Nat.{ℕ, zero, suc, _+_, _-_, _*_, _^_, _≤_, _<_}
 use native.Mathlib.Nat.{eq-or-lt-of-le, le-of-suc-le-suc}
 use native.Mathlib.Numerals.{add-one}
 use native.Mathlib.Omega.{arith}
-use lib.Dec.{ltb, leb}
-use borrow.Author.Tests.{le-ltb, ltb-true, leb-true}
-use Rattle.words.proofs.Tests.{both-left, both-right}
-use Rattle.capture.specs.Fields.{headerSize, descriptor, descriptorsEnd, segmentAddress, segmentLength, segmentEnd, hasAddress, segments, lengths, segmentPlace}
-use Rattle.capture.specs.Rules.{endBefore, startsEarly, segmentBroken, segmentRules}
+use lib.Dec.{eqb, ltb, leb}
+use lib.ListN.{length}
+use borrow.Author.Tests.{lt-ltb, le-ltb, ltb-true, ltb-false, leb-true}
+use Rattle.words.proofs.Tests.{both-left, both-right, neither-left}
+use Rattle.capture.specs.Fields.{segmentCount, totalLength, headerSize, descriptor, descriptorsEnd, segmentAddress, segmentLength, segmentEnd, hasAddress, segments, lengths, segmentPlace}
+use Rattle.capture.specs.Rules.{wrongTotal, emptySegment, endsPastMemory, endBefore, startsEarly, segmentBroken, segmentRules}
 use Rattle.capture.specs.Presence.{runEnd, holds, placeIn}
-use Rattle.capture.specs.Reach.{reachIn}
+use Rattle.capture.specs.Reach.{reachIn, nowhere, reached}
 use Rattle.words.specs.Bytes.{AllBytes}
 use Rattle.words.specs.Lists.{first}
 use Rattle.words.specs.Refusals.{refused, firstRefusal}
 use Rattle.words.specs.declared.Verdict.the-variants.{Sound, Refused}
+use Rattle.words.proofs.Choices.{yes-if, no-if}
 use Rattle.words.proofs.Numbers.{number-small}
 use Rattle.words.proofs.Verdicts.{first-in-turn}
 
@@ -25,6 +27,11 @@ use Rattle.words.proofs.Verdicts.{first-in-turn}
 pub lengths-next : (capture : List ℕ) (i : ℕ) → lengths capture (i + 1) ≡ lengths capture i + segmentLength capture i
 unfolding lengths
 lengths-next capture i = rw add-one
+
+-- a count has 8 bits
+pub count-small : (capture : List ℕ) → AllBytes capture → segmentCount capture < 256
+unfolding segmentCount
+count-small capture bytes = bytes 5
 
 -- a length has 32 bits
 pub length-small : (capture : List ℕ) (i : ℕ) → AllBytes capture → segmentLength capture i < 4294967296
@@ -37,19 +44,33 @@ unfolding lengths
 lengths-small capture zero b = omega arith
 lengths-small capture (suc n) b = omega (arith, lengths-small capture n b, length-small capture n b)
 
--- the first segment starts before no end; a later one is held to the end of the one before it
-pub first-not-early : (capture : List ℕ) (i : ℕ) → i ≡ 0 → startsEarly capture i ≡ false
-unfolding startsEarly endBefore
-first-not-early capture zero h = le-ltb (segmentAddress capture 0) 0 (omega arith)
-first-not-early capture (suc i) h = absurd (omega arith)
+-- where 5 is kept, the descriptors lie inside the capture
+pub total-whole : (capture : List ℕ) → wrongTotal capture ≡ false → descriptorsEnd capture ≤ length capture
+unfolding wrongTotal
+total-whole capture h = ltb-false _ _ (neither-left _ _ (neither-left _ _ h))
 
-pub later-early : (capture : List ℕ) (i : ℕ) → 0 < i
-    → startsEarly capture i ≡ ltb (segmentAddress capture i) (segmentAddress capture (i - 1) + segmentLength capture (i - 1))
-unfolding startsEarly endBefore
-later-early capture zero h = absurd (omega arith)
-later-early capture (suc i) h =
-    let before : suc i - 1 ≡ i = omega arith in
-    rw before
+-- 5, where they do not, and where they do
+pub short-total : (capture : List ℕ) → length capture < descriptorsEnd capture → wrongTotal capture ≡ true
+unfolding wrongTotal
+short-total capture h = rw (lt-ltb (length capture) (descriptorsEnd capture) h)
+
+pub whole-total : (capture : List ℕ) → descriptorsEnd capture ≤ length capture
+    → wrongTotal capture
+    ≡ (not (eqb (totalLength capture) (length capture))
+    || not (eqb (descriptorsEnd capture + lengths capture (segmentCount capture)) (length capture)))
+unfolding wrongTotal
+whole-total capture h = rw (le-ltb (length capture) (descriptorsEnd capture) h)
+
+-- where the segment before the next one ends
+pub end-next : (capture : List ℕ) (i : ℕ) → endBefore capture (i + 1) ≡ segmentEnd capture i
+unfolding endBefore
+end-next capture i = rw add-one
+
+-- 6 of a segment, by what its descriptor says and where the one before it ends
+pub broken-told : (capture : List ℕ) (i : ℕ) {address size end : ℕ} → address ≡ segmentAddress capture i → size ≡ segmentLength capture i
+    → end ≡ endBefore capture i → (eqb size 0 || ltb (2 ^ 64) (address + size) || ltb address end) ≡ segmentBroken capture i
+unfolding segmentBroken emptySegment endsPastMemory startsEarly
+broken-told capture i begins long before = rw (begins, long, before)
 
 -- a segment's bytes lie among those of the segments up to it
 pub lengths-within : (capture : List ℕ) (i n : ℕ) → i < n → lengths capture i + segmentLength capture i ≤ lengths capture n
@@ -84,6 +105,16 @@ pub reach-told : (capture : List ℕ) (address i : ℕ) {place start room : ℕ}
     → record { place = place + (address - start); room = room } ≡ reachIn capture address i
 unfolding reachIn placeIn
 reach-told capture address i here begins left = rw (here, begins, left)
+
+-- where the descriptors run past the end there is no room; elsewhere the segments are searched
+pub reached-short : (capture : List ℕ) (address : ℕ) → length capture < descriptorsEnd capture → reached capture address ≡ nowhere
+unfolding reached
+reached-short capture address h = yes-if _ _ _ (lt-ltb (length capture) (descriptorsEnd capture) h)
+
+pub reached-whole : (capture : List ℕ) (address : ℕ) → descriptorsEnd capture ≤ length capture
+    → reached capture address ≡ first (hasAddress capture address) (reachIn capture address) nowhere (segments capture)
+unfolding reached
+reached-whole capture address h = no-if _ _ _ (le-ltb (length capture) (descriptorsEnd capture) h) refl
 
 -- one segment more stands behind the one before it
 pub place-next : (capture : List ℕ) (i : ℕ) → segmentPlace capture (i + 1) ≡ segmentPlace capture i + segmentLength capture i

@@ -1,14 +1,14 @@
 -- What presence means, byte by byte, and what W-206 of document 02 changed: a theorem for each statement of specs/Memory, of which
 -- `bytes-in-order` and `one-byte` are in Apart.
-use mathlib.Core.Bool.{Bool, true, false, _&&_, true≢false}
+use mathlib.Core.Bool.{Bool, true, false, true≢false}
 use mathlib.Core.List.{List}
-use mathlib.Core.Path.{_≡_, refl, sym, ap, _∙_}
+use mathlib.Core.Path.{_≡_, refl, sym, _∙_}
 use Prim.Native.Nat.{ℕ, _+_, _≤_, _<_}
 use native.Mathlib.Omega.{arith}
 use lib.Dec.{ltb, leb}
 use borrow.Author.Tests.{ltb-true, ltb-false, leb-true}
 use Rattle.words.specs.Lists.{numbersBelow}
-use Rattle.words.proofs.Searches.{Hit, search-found, first-same}
+use Rattle.words.proofs.Searches.{search-found, first-same}
 use Rattle.words.proofs.Tests.{both-left, both-right}
 use Rattle.capture.specs.Fields.{segmentCount, segmentAddress, segmentEnd, segments}
 use Rattle.capture.specs.Presence.{Stretch, Present, Absent, isPresent, holds, placeIn, located}

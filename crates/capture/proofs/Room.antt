@@ -7,48 +7,48 @@ use Prim.Native.Nat.{ℕ, zero, suc, _+_, _-_, _≤_, _<_}
 use native.Mathlib.Nat.{add-zero}
 use native.Mathlib.Omega.{arith}
 use borrow.Author.Tests.{le-leb}
-use Rattle.words.specs.Lists.{numbersBelow}
+use Rattle.words.specs.Lists.{first, numbersBelow}
 use Rattle.words.specs.Choice.{if}
 use Rattle.words.specs.Refusals.{refused, unless, firstRefusal}
 use Rattle.words.proofs.Searches.{Hit, search-found, search-none}
 use Rattle.capture.specs.Fields.{segmentCount, rsdpAddress, segmentAddress, hasAddress, segments}
 use Rattle.capture.specs.Presence.{Stretch, Present, Absent, runEnd, holds, placeIn, isPresent, placeOf, located, rsdpSize, rsdpStretch, presenceRules, rsdpPlace}
-use Rattle.capture.specs.Reach.{reachIn, reached}
+use Rattle.capture.specs.Reach.{reachIn, nowhere, reached}
 use Rattle.capture.specs.Memory.{Stands, Missing}
 use Rattle.capture.specs.declared.Reach.{Reach}
 use Rattle.capture.specs.declared.Root.{Root}
 use Rattle.capture.specs.declared.Root.the-variants as roots
-use Rattle.capture.proofs.Laws.{holds-start, holds-end, has-bounds, place-behind}
+use Rattle.capture.proofs.Laws.{holds-start, holds-end, has-bounds, reached-whole, place-behind}
 use Rattle.capture.proofs.Runs.{run-reaches, covered}
-use Rattle.capture.proofs.Within.{Sound, located-held, within-small}
+use Rattle.capture.proofs.Within.{Sound, sound-length, located-held, within-small}
 use Rattle.capture.proofs.Apart.{one-segment, first-byte, one-byte, run-missing}
 
--- no room
-abbrev none : Reach
-none = record { place = 0; room = 0 }
-
 module _ (capture : List ℕ) (sound : Sound capture) (address : ℕ) where
+  -- the descriptors of a sound capture lie inside it, so that its segments are searched
+  searched : reached capture address ≡ first (hasAddress capture address) (reachIn capture address) nowhere (segments capture)
+  searched = reached-whole capture address (omega (arith, sound-length capture sound))
+
   -- the segment that has the address, where there is room
   has-room : 0 < reached capture address .room → Hit (hasAddress capture address) (reachIn capture address) (reached capture address) 0 (segmentCount capture)
-  unfolding reached segments numbersBelow
+  unfolding segments numbersBelow
   has-room some =
-      search-found (hasAddress capture address) (reachIn capture address) none (reached capture address) 0 (segmentCount capture)
+      search-found (hasAddress capture address) (reachIn capture address) nowhere (reached capture address) 0 (segmentCount capture)
       (segmentCount capture)
       (omega arith)
-      refl
+      (sym searched)
       (λ e. let empty : 0 ≡ reached capture address .room = ap (λ (r : Reach). r .room) e in omega arith)
 
   -- where a segment has it, the search for one ends at that segment
   reached-in : (i : ℕ) → i < segmentCount capture → hasAddress capture address i ≡ true → reached capture address ≡ reachIn capture address i
-  unfolding reached reachIn segments numbersBelow
+  unfolding reachIn segments numbersBelow
   reached-in i counted has = sym (hit .told) ∙ ap (reachIn capture address) (one-segment capture sound address (hit .at) i (hit .counted) counted (hit .taken) has)
     where
       -- it does not end without an answer, since an answer has a place
-      missed : none ≡ reached capture address → ⊥
+      missed : nowhere ≡ reached capture address → ⊥
       missed e =
           let left =
-          search-none (hasAddress capture address) (reachIn capture address) none none 0 (segmentCount capture) i (sym e)
-          (λ k t g. let nowhere : placeIn capture address k ≡ 0 = ap (λ (r : Reach). r .place) g in omega (arith, place-behind capture address k))
+          search-none (hasAddress capture address) (reachIn capture address) nowhere nowhere 0 (segmentCount capture) i (sym searched ∙ sym e)
+          (λ k t g. let start : placeIn capture address k ≡ 0 = ap (λ (r : Reach). r .place) g in omega (arith, place-behind capture address k))
           (omega arith)
           (omega arith)
           in
@@ -56,10 +56,10 @@ module _ (capture : List ℕ) (sound : Sound capture) (address : ℕ) where
 
       hit : Hit (hasAddress capture address) (reachIn capture address) (reached capture address) 0 (segmentCount capture)
       hit =
-          search-found (hasAddress capture address) (reachIn capture address) none (reached capture address) 0 (segmentCount capture)
+          search-found (hasAddress capture address) (reachIn capture address) nowhere (reached capture address) 0 (segmentCount capture)
           (segmentCount capture)
           (omega arith)
-          refl
+          (sym searched)
           missed
 
   room-in : (i : ℕ) → i < segmentCount capture → hasAddress capture address i ≡ true → reached capture address .room ≡ runEnd capture i - address
@@ -129,8 +129,8 @@ module _ (capture : List ℕ) (sound : Sound capture) (address : ℕ) where
   room-missing = go (reached capture address .room) refl
     where
       -- no segment has an address that has no room
-      nowhere : reached capture address .room ≡ 0 → Missing capture address
-      nowhere e i counted = go (hasAddress capture address i) refl
+      without : reached capture address .room ≡ 0 → Missing capture address
+      without e i counted = go (hasAddress capture address i) refl
         where
           go : (b : Bool) → hasAddress capture address i ≡ b → hasAddress capture address i ≡ false
           go false h = h
@@ -139,7 +139,7 @@ module _ (capture : List ℕ) (sound : Sound capture) (address : ℕ) where
               absurd (omega (arith, room-in i counted h, run-reaches capture i counted))
 
       go : (room : ℕ) → reached capture address .room ≡ room → Missing capture (address + reached capture address .room)
-      go zero e = rw (e, add-zero address) (nowhere e)
+      go zero e = rw (e, add-zero address) (without e)
       go (suc room) e =
           let h = has-room (omega arith) in
           let b = has-bounds capture address (h .at) (h .taken) in

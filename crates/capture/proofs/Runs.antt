@@ -1,20 +1,21 @@
 -- Runs of touching segments, of any bytes: a run stands in the capture as it does in memory, so that each of its addresses lies in a
 -- segment of it, at the place that the run's first segment tells, and all of it lies among the segments' bytes.
-use mathlib.Core.Bool.{Bool, true, false, not, true≢false}
+use mathlib.Core.Bool.{Bool, true, false, true≢false}
 use mathlib.Core.List.{List}
-use mathlib.Core.Path.{_≡_, refl, sym, ap, _∙_}
+use mathlib.Core.Path.{_≡_, refl, sym, _∙_}
 use Prim.Native.Nat.{ℕ, zero, suc, _+_, _-_, _≤_, _<_}
 use native.Mathlib.Numerals.{add-one}
 use native.Mathlib.Omega.{arith}
-use lib.Dec.{eqb, ltb, leb}
+use lib.Dec.{eqb, ltb}
 use borrow.Author.Tests.{ltb-true, ltb-false, lt-ltb, eqb-true, eq-eqb, le-leb}
 use Rattle.words.specs.Choice.{if}
 use Rattle.words.specs.Lists.{first}
 use Rattle.words.proofs.Searches.{next-number}
 use Rattle.words.proofs.Tests.{both-left, both-right}
-use Rattle.capture.specs.Fields.{segmentCount, segmentAddress, segmentLength, segmentEnd, hasAddress, lengths, segmentPlace}
+use Rattle.capture.specs.Fields.{segmentCount, descriptor, segmentAddress, segmentLength, segmentEnd, hasAddress, lengths}
 use Rattle.capture.specs.Presence.{goesOn, runEnd, placeIn}
 use Rattle.capture.proofs.Laws.{lengths-next, lengths-within, place-next}
+use Rattle.capture.proofs.Head.{next-descriptor}
 
 module _ (capture : List ℕ) where
   -- behind a segment that goes on there is one, which starts at its end
@@ -125,50 +126,47 @@ module _ (capture : List ℕ) where
             run = c .run ∙ sym (run-next i h);
           }
 
-  -- going along a run from an address of segment i: `sum` bytes reach to the end of the segment before `next`
-  pub record Along (address i sum next : ℕ) : Type 0 where
+  -- going along a run from an address of segment i: `sum` bytes reach to the end of its segment `last`, and the next one's descriptor
+  -- stands at `at`
+  pub record Along (address i sum at : ℕ) : Type 0 where
     pub last : ℕ
-    pub follows : next ≡ last + 1
+    pub next : at ≡ descriptor capture (last + 1)
     pub counted : last < segmentCount capture
     pub here : address + sum ≡ segmentEnd capture last
     pub same : runEnd capture last ≡ runEnd capture i
 
-  pub along-start : (address i room : ℕ) → i < segmentCount capture → address + room ≡ segmentEnd capture i → Along address i room (i + 1)
-  along-start address i room counted here = record { last = i; follows = refl; counted = counted; here = here; same = refl }
-
-  module _ {address i sum next : ℕ} (a : Along address i sum next) where
+  module _ {address i sum at : ℕ} (a : Along address i sum at) where
     -- the next segment starts there: the run goes on
-    pub along-on : next < segmentCount capture → eqb (segmentAddress capture next) (address + sum) ≡ true → Along address i (sum + segmentLength capture next) (next + 1)
+    pub along-on : a .last + 1 < segmentCount capture → eqb (segmentAddress capture (a .last + 1)) (address + sum) ≡ true
+        → Along address i (sum + segmentLength capture (a .last + 1)) (at + 12)
     unfolding goesOn
-    along-on counted h =
-        let starts : segmentAddress capture next ≡ address + sum = eqb-true _ _ h in
+    along-on more h =
+        let starts : segmentAddress capture (a .last + 1) ≡ address + sum = eqb-true _ _ h in
         let on : goesOn capture (a .last) ≡ true =
-        rw (← a .follows) (rw (lt-ltb next (segmentCount capture) counted, eq-eqb (segmentAddress capture next) (segmentEnd capture (a .last)) (starts ∙ a .here)))
+        rw (lt-ltb (a .last + 1) (segmentCount capture) more, eq-eqb (segmentAddress capture (a .last + 1)) (segmentEnd capture (a .last)) (starts ∙ a .here))
         in
         record {
-          last = next;
-          follows = refl;
-          counted = counted;
+          last = a .last + 1;
+          next = next-descriptor capture (a .last + 1) (a .next);
+          counted = more;
           here = omega (arith, a .here);
-          same = ap (runEnd capture) (a .follows) ∙ sym (run-next (a .last) on) ∙ a .same;
+          same = sym (run-next (a .last) on) ∙ a .same;
         }
 
     ends : goesOn capture (a .last) ≡ false → sum ≡ runEnd capture i - address
     ends over = omega (arith, a .here, a .same, run-last (a .last) (a .counted) over)
 
     -- it does not, or there is none: the run ends
-    pub along-gap : eqb (segmentAddress capture next) (address + sum) ≡ false → sum ≡ runEnd capture i - address
+    pub along-gap : eqb (segmentAddress capture (a .last + 1)) (address + sum) ≡ false → sum ≡ runEnd capture i - address
     along-gap h = ends (go (goesOn capture (a .last)) refl)
       where
         go : (b : Bool) → goesOn capture (a .last) ≡ b → goesOn capture (a .last) ≡ false
         go false e = e
-        go true e =
-            let starts : segmentAddress capture next ≡ address + sum = ap (segmentAddress capture) (a .follows) ∙ next-touches (a .last) e ∙ sym (a .here) in
-            absurd (true≢false (sym (eq-eqb _ _ starts) ∙ h))
+        go true e = absurd (true≢false (sym (eq-eqb _ _ (next-touches (a .last) e ∙ sym (a .here))) ∙ h))
 
-    pub along-end : segmentCount capture ≤ next → sum ≡ runEnd capture i - address
+    pub along-end : segmentCount capture ≤ a .last + 1 → sum ≡ runEnd capture i - address
     along-end out = ends (go (goesOn capture (a .last)) refl)
       where
         go : (b : Bool) → goesOn capture (a .last) ≡ b → goesOn capture (a .last) ≡ false
         go false e = e
-        go true e = absurd (omega (arith, next-counted (a .last) e, a .follows))
+        go true e = absurd (omega (arith, next-counted (a .last) e))

@@ -12,7 +12,7 @@ use Rattle.words.specs.Refusals.{firstRefusal}
 use Rattle.words.proofs.Searches.{Hit, search-found}
 use Rattle.words.proofs.Tests.{neither-right}
 use Rattle.words.proofs.Verdicts.{unless-sound, unless-told, first-sound, joined-kept}
-use Rattle.capture.specs.Fields.{version, headerSize, descriptor, segmentCount, totalLength, rsdpAddress, descriptorsEnd, segmentLength, lengths, segmentPlace, segments}
+use Rattle.capture.specs.Fields.{version, headerSize, segmentCount, totalLength, rsdpAddress, descriptorsEnd, lengths, segmentPlace, segments}
 use Rattle.capture.specs.Rules.{wrongSize, wrongTotal, segmentRules, containerRules, verdict}
 use Rattle.capture.specs.Presence.{Stretch, Present, Absent, isPresent, placeOf, holds, placeIn, located, rsdpSize, rsdpStretch, presenceRules, rsdpPlace, rsdp}
 use Rattle.words.specs.declared.Verdict.{Verdict}

@@ -3,8 +3,11 @@
 -- so that no answer changes.
 use Prim.Native.Nat.{ℕ, _-_}
 use mathlib.Core.List.{List}
+use lib.Dec.{ltb}
+use lib.ListN.{length}
+use Rattle.words.specs.Choice.{if}
 use Rattle.words.specs.Lists.{first}
-use Rattle.capture.specs.Fields.{hasAddress, segments}
+use Rattle.capture.specs.Fields.{descriptorsEnd, hasAddress, segments}
 use Rattle.capture.specs.Presence.{runEnd, placeIn}
 use Rattle.capture.specs.declared.Reach.{Reach}
 
@@ -12,7 +15,12 @@ use Rattle.capture.specs.declared.Reach.{Reach}
 unfoldable pub reachIn : List ℕ → ℕ → ℕ → Reach
 reachIn capture address i = record { place = placeIn capture address i; room = runEnd capture i - address }
 
--- an address of the first segment that has it; no room where none has it
+-- no room
+abbrev pub nowhere : Reach
+nowhere = record { place = 0; room = 0 }
+
+-- an address of the first segment that has it; no room where none has it, or where the descriptors run past the capture's end
 unfoldable pub reached : List ℕ → ℕ → Reach
 reached capture address =
-    first (hasAddress capture address) (reachIn capture address) (record { place = 0; room = 0 }) (segments capture)
+    if (ltb (length capture) (descriptorsEnd capture)) nowhere
+    (first (hasAddress capture address) (reachIn capture address) nowhere (segments capture))

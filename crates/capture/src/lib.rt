@@ -1,11 +1,13 @@
 // The capture: what the bench is handed. Whether it is sound (refusals 1 to 6), where a stretch of memory stands in it,
-// and whether the RSDP is there (refusal 10). Every function answers for any bytes.
+// and whether the RSDP is there (refusal 10). Every public function answers for any bytes.
 ghost use mathlib.Core.Path.{_≡_};
-ghost use mathlib.Core.Bool.{_&&_};
-ghost use Prim.Native.Nat.{_+_, _-_, _^_, _<_};
+ghost use mathlib.Core.Bool.{_&&_, _||_};
+ghost use Prim.Native.Nat.{ℕ, _+_, _-_, _^_, _≤_, _<_};
 ghost use lib.Dec.{eqb, ltb, leb};
-ghost use Rattle.capture.specs.Fields.{version, segmentCount, rsdpAddress, headerSize, descriptor, descriptorsEnd, segmentAddress, segmentLength, segmentEnd, lengths};
-ghost use Rattle.capture.specs.Rules.{wrongSize, wrongMark, wrongVersion, wrongCount, wrongTotal, startsEarly, segmentBroken, segmentRules, verdict};
+ghost use lib.ListN.{length};
+ghost use Rattle.words.specs.Bytes.{numberAt, partAt};
+ghost use Rattle.capture.specs.Fields.{version, segmentCount, rsdpAddress, headerSize, descriptor, descriptorsEnd, segmentEnd, lengths};
+ghost use Rattle.capture.specs.Rules.{wrongSize, wrongMark, wrongVersion, wrongCount, wrongTotal, segmentRules, verdict};
 ghost use Rattle.capture.specs.Presence.{runEnd, presenceRules, rsdpPlace, rsdp};
 ghost use Rattle.capture.specs.Reach.{reached};
 ghost use Rattle.words.specs.Refusals.{unless, firstRefusal};
@@ -24,6 +26,12 @@ pub enum Root {
     Refused(Refusal),
 }
 
+// A segment, by its descriptor.
+struct Segment {
+    address: u64,
+    length: u32,
+}
+
 const VERSION: usize = 3;
 
 const SEGMENT_COUNT: usize = 5;
@@ -32,7 +40,7 @@ const TOTAL_LENGTH: usize = 6;
 
 const RSDP_ADDRESS: usize = 10;
 
-const DESCRIPTOR_SIZE: u16 = 12;
+const DESCRIPTOR_SIZE: usize = 12;
 
 const DESCRIPTOR_LENGTH: usize = 8;
 
@@ -64,44 +72,51 @@ fn header_size(version: u16) -> u8
     18
 }
 
-// The place of descriptor i.
-fn descriptor_at(capture: &[u8], i: u8) -> u16
-    ensures { λ r. ⌜ r ≡ descriptor (now (capture .entry)) i ⌝ }
+// The place of the first descriptor.
+fn descriptors_start(capture: &[u8]) -> u16
+    ensures { λ r. ⌜ r ≡ descriptor (now (capture .entry)) 0 ⌝ }
 {
-    (header_size(version_of(capture)) as u16) + DESCRIPTOR_SIZE * (i as u16)
+    header_size(version_of(capture)) as u16
 }
 
 // The place behind the last descriptor.
 fn descriptors_end(capture: &[u8]) -> u16
     ensures { λ r. ⌜ r ≡ descriptorsEnd (now (capture .entry)) ⌝ }
 {
-    descriptor_at(capture, segment_count(capture))
+    (header_size(version_of(capture)) as u16)
+        + (DESCRIPTOR_SIZE as u16) * (segment_count(capture) as u16)
 }
 
-fn segment_address(capture: &[u8], i: u8) -> u64
-    ensures { λ r. ⌜ r ≡ segmentAddress (now (capture .entry)) i ⌝ }
+// Header and descriptors, or as much of them as there is. Loops over the descriptors read them here: that each lies inside is then
+// plain from the loop's own test, and the compiler does not ask it at each read.
+fn head_of(capture: &[u8]) -> &[u8]
+    ensures { λ r. let c = now (capture .entry) in ⌜ now r ≡ partAt c 0 (descriptorsEnd c) ⌝ }
 {
-    words::u64_at(capture, descriptor_at(capture, i) as usize)
+    words::part(capture, 0, descriptors_end(capture) as usize)
 }
 
-fn segment_length(capture: &[u8], i: u8) -> u32
-    ensures { λ r. ⌜ r ≡ segmentLength (now (capture .entry)) i ⌝ }
+// The segment whose descriptor stands at a place of the head.
+fn segment_at(head: &[u8], at: usize) -> Segment
+    requires { ⌜ at + 12 ≤ length (now head) ⌝ }
+    ensures { λ r. let h = now (head .entry) in ⌜ (r .address ≡ numberAt 8 h at) × (r .length ≡ numberAt 4 h (at + 8)) ⌝ }
 {
-    words::u32_at(
-        capture,
-        descriptor_at(capture, i) as usize + DESCRIPTOR_LENGTH,
-    )
+    Segment {
+        address: words::u64_at(head, at),
+        length: words::u32_at(head, at + DESCRIPTOR_LENGTH),
+    }
 }
 
-// The lengths of the first n segments together.
-fn lengths_of(capture: &[u8], n: u8) -> u64
-    ensures { λ r. ⌜ r ≡ lengths (now (capture .entry)) n ⌝ }
+// The lengths of all segments together.
+fn lengths_of(capture: &[u8]) -> u64
+    requires { ⌜ descriptorsEnd (now capture) ≤ length (now capture) ⌝ }
+    ensures { λ r. let c = now (capture .entry) in ⌜ r ≡ lengths c (segmentCount c) ⌝ }
 {
+    let head = head_of(capture);
     let mut sum: u64 = 0;
-    let mut i: u8 = 0;
-    while i < n {
-        sum += segment_length(capture, i) as u64;
-        i += 1;
+    let mut at = descriptors_start(capture) as usize;
+    while at + DESCRIPTOR_SIZE <= head.len() {
+        sum += segment_at(head, at).length as u64;
+        at += DESCRIPTOR_SIZE;
     }
     sum
 }
@@ -137,15 +152,17 @@ fn wrong_count(capture: &[u8]) -> bool
     (n == 0) | (MOST_SEGMENTS < n)
 }
 
-// Refusal 5.
+// Refusal 5. Where descriptors are missing, no length is added up.
 fn wrong_total(capture: &[u8]) -> bool
     ensures { λ r. ⌜ r ≡ wrongTotal (now (capture .entry)) ⌝ }
 {
     let end = descriptors_end(capture) as u64;
-    let total = words::u32_at(capture, TOTAL_LENGTH) as u64;
-    let needed = end + lengths_of(capture, segment_count(capture));
     let length = capture.len() as u64;
-    (length < end) | !(total == length) | !(needed == length)
+    if length < end {
+        return true;
+    }
+    let total = words::u32_at(capture, TOTAL_LENGTH) as u64;
+    !(total == length) | !(end + lengths_of(capture) == length)
 }
 
 // Whether a stretch ends past 2^64. Its last byte is looked at and not its end, which may be 2^64 itself.
@@ -168,39 +185,34 @@ fn before_end(address: u64, start: u64, length: u32) -> bool
     address - start < length as u64
 }
 
-fn starts_early(capture: &[u8], i: u8) -> bool
-    ensures { λ r. ⌜ r ≡ startsEarly (now (capture .entry)) i ⌝ }
+// Refusal 6, for one segment and the one before it.
+fn segment_broken(segment: Segment, before: Segment) -> bool
+    ensures { λ r. let end = segment .address + segment .length in
+        ⌜ r ≡ (eqb (segment .length) 0 || ltb (2 ^ 64) end || ltb (segment .address) (before .address + before .length)) ⌝ }
 {
-    if i == 0 {
-        return false;
-    }
-    before_end(
-        segment_address(capture, i),
-        segment_address(capture, i - 1),
-        segment_length(capture, i - 1),
-    )
+    (segment.length == 0)
+        | past_memory(segment.address, segment.length)
+        | before_end(segment.address, before.address, before.length)
 }
 
-// Refusal 6, for one segment.
-fn segment_broken(capture: &[u8], i: u8) -> bool
-    ensures { λ r. ⌜ r ≡ segmentBroken (now (capture .entry)) i ⌝ }
-{
-    let address = segment_address(capture, i);
-    let length = segment_length(capture, i);
-    (length == 0) | past_memory(address, length) | starts_early(capture, i)
-}
-
-// Refusal 6, segment by segment.
+// Refusal 6, segment by segment, where 5 is kept. Nothing ends before the first: one of no bytes at 0 stands in for it.
 fn check_segments(capture: &[u8]) -> Verdict
+    requires { ⌜ descriptorsEnd (now capture) ≤ length (now capture) ⌝ }
     ensures { λ r. ⌜ r ≡ firstRefusal (segmentRules (now (capture .entry))) ⌝ }
 {
-    let n = segment_count(capture);
-    let mut i: u8 = 0;
-    while i < n {
-        if segment_broken(capture, i) {
-            return Verdict::Refused(words::refuse(6, descriptor_at(capture, i) as u32));
+    let head = head_of(capture);
+    let mut before = Segment {
+        address: 0,
+        length: 0,
+    };
+    let mut at = descriptors_start(capture) as usize;
+    while at + DESCRIPTOR_SIZE <= head.len() {
+        let segment = segment_at(head, at);
+        if segment_broken(segment, before) {
+            return Verdict::Refused(words::refuse(6, at as u32));
         }
-        i += 1;
+        before = segment;
+        at += DESCRIPTOR_SIZE;
     }
     Verdict::Sound
 }
@@ -228,10 +240,10 @@ pub fn check(capture: &[u8]) -> Verdict
 }
 
 // Whether a segment has an address.
-fn has_address(start: u64, length: u32, address: u64) -> bool
-    ensures { λ r. ⌜ r ≡ (leb start address && ltb address (start + length)) ⌝ }
+fn has_address(segment: Segment, address: u64) -> bool
+    ensures { λ r. ⌜ r ≡ (leb (segment .address) address && ltb address (segment .address + segment .length)) ⌝ }
 {
-    (start <= address) & before_end(address, start, length)
+    (segment.address <= address) & before_end(address, segment.address, segment.length)
 }
 
 // Whether a segment starts exactly at the end of the one before it, `room` bytes behind an address. The end may be 2^64, where
@@ -245,44 +257,50 @@ fn starts_at(start: u64, address: u64, room: u64) -> bool
     start - address == room
 }
 
-// How many bytes there are from an address of segment i on, as far as segments touch. Up to the end of segment i it is `room`.
-fn room_of_run(capture: &[u8], address: u64, i: u8, room: u64) -> u64
-    requires { ⌜ (i < segmentCount (now capture)) × (address + room ≡ segmentEnd (now capture) i) × (room < 2 ^ 32) ⌝ }
-    ensures { λ r. ⌜ r ≡ runEnd (now (capture .entry)) i - address ⌝ }
+// How many bytes there are from an address of segment i on, as far as segments touch. Up to the end of segment i it is `room`; the
+// next segment's descriptor stands at `next`.
+fn room_of_run(capture: &[u8], address: u64, next: usize, room: u64) -> u64
+    requires { let c = now capture in ⌜ ((i : ℕ) × (i < segmentCount c) × (next ≡ descriptor c (i + 1))
+        × (address + room ≡ segmentEnd c i) × (room < 2 ^ 32) × (descriptorsEnd c ≤ length c)) ⌝ }
+    ensures { λ r. ⌜ ((i : ℕ) → next ≡ descriptor (now (capture .entry)) (i + 1) → r ≡ runEnd (now (capture .entry)) i - address) ⌝ }
 {
-    let n = segment_count(capture);
+    let head = head_of(capture);
     let mut sum = room;
-    let mut next = i + 1;
-    while next < n {
-        if !starts_at(segment_address(capture, next), address, sum) {
+    let mut at = next;
+    while at + DESCRIPTOR_SIZE <= head.len() {
+        let segment = segment_at(head, at);
+        if !starts_at(segment.address, address, sum) {
             return sum;
         }
-        sum += segment_length(capture, next) as u64;
-        next += 1;
+        sum += segment.length as u64;
+        at += DESCRIPTOR_SIZE;
     }
     sum
 }
 
-// Where an address stands, and how many bytes there are from there on; no room where no segment has the address. In a sound
-// capture a stretch from the address is present exactly if the room is enough: one look at the descriptors answers for every size.
+// Where an address stands, and how many bytes there are from there on; no room where no segment has the address, or where the
+// descriptors run past the end. In a sound capture a stretch from the address is present exactly if the room is enough: one look at
+// the descriptors answers for every size.
 pub fn reach_of(capture: &[u8], address: u64) -> Reach
     ensures { λ r. ⌜ r ≡ reached (now (capture .entry)) address ⌝ }
 {
-    let n = segment_count(capture);
-    let mut place = descriptors_end(capture) as u64;
-    let mut i: u8 = 0;
-    while i < n {
-        let start = segment_address(capture, i);
-        let length = segment_length(capture, i);
-        if has_address(start, length, address) {
-            let ahead = address - start;
+    if capture.len() < descriptors_end(capture) as usize {
+        return Reach { place: 0, room: 0 };
+    }
+    let head = head_of(capture);
+    let mut place = head.len() as u64;
+    let mut at = descriptors_start(capture) as usize;
+    while at + DESCRIPTOR_SIZE <= head.len() {
+        let segment = segment_at(head, at);
+        at += DESCRIPTOR_SIZE;
+        if has_address(segment, address) {
+            let ahead = address - segment.address;
             return Reach {
                 place: (place + ahead) as usize,
-                room: room_of_run(capture, address, i, (length as u64) - ahead),
+                room: room_of_run(capture, address, at, (segment.length as u64) - ahead),
             };
         }
-        place += length as u64;
-        i += 1;
+        place += segment.length as u64;
     }
     Reach { place: 0, room: 0 }
 }

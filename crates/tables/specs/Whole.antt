@@ -1,5 +1,5 @@
--- A shortcut of the program, and no line of document 01: 21 and 22 of a table whose header is present, by the bytes that its segment
--- has from its place on. In a sound capture they are those of `tableRules`: proofs/Whole, so that no answer changes.
+-- A shortcut of the program, and no line of document 01: 21 and 22 of a table whose header is present, by the room at its place.
+-- In a sound capture they are those of `tableRules`: proofs/Whole, so that no answer changes.
 use Prim.Native.Nat.{ℕ}
 use mathlib.Core.Bool.{_||_}
 use mathlib.Core.List.{List, [], _∷_}

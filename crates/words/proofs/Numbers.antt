@@ -4,7 +4,8 @@ use mathlib.Core.List.{List}
 use Prim.Native.Nat.{ℕ, zero, suc, _+_, _*_, _^_, _≤_, _<_}
 use native.Mathlib.Nat.{add-zero, zero-add, suc-add, one-mul, pow-zero, pow-succ', mul-assoc, mul-add}
 use native.Mathlib.Omega.{arith}
-use lib.ListN.{length, List·getD-eq-default}
+use lib.ListN.{length, take, List·getD-eq-default}
+use lib.Seq.{getD-take}
 use Rattle.words.specs.Bytes.{byteAt, AllBytes, numberAt}
 
 -- past the end every number is 0
@@ -30,3 +31,9 @@ number-small (suc k) bytes at b =
     let low : byteAt bytes at < 256 = b at in
     let high : numberAt k bytes (at + 1) < 256 ^ k = number-small k bytes (at + 1) b in
     rw pow-succ' (omega arith)
+
+-- a number that lies inside the first n bytes is that of all
+pub number-take : (k : ℕ) (bytes : List ℕ) (n at : ℕ) → at + k ≤ n → numberAt k (take n bytes) at ≡ numberAt k bytes at
+unfolding numberAt
+number-take zero bytes n at h = refl
+number-take (suc k) bytes n at h = rw (getD-take n bytes at 0 (omega arith), number-take k bytes n (at + 1) (omega arith))

@@ -3,6 +3,7 @@ use mathlib.Core.Path.{ap, sym, _∙_}
 use Rattle.words.specs.declared.Verdict.the-variants.{Refused}
 use Rattle.words.proofs.Verdicts.{first-broken, first-kept}
 use Rattle.capture.specs.Rules.{containerRules, verdict}
+use Rattle.capture.proofs.Laws.{total-whole}
 use borrow.Author.Needs.{needs}
 use Rattle.capture.proofs.check.Statement.{statement}
 use Rattle.capture.proofs.check.Tie as tie
@@ -68,7 +69,7 @@ returns-5 c =
     (first-broken _ _ _ _ (sym (c .before .before .wrong-total .ensures) ∙ c .before .if5 .taken))))))
 
 check-segments-requires : tie.Need-check-segments-requires
-check-segments-requires c κs = search needs
+check-segments-requires c κs = total-whole _ (sym (c .before .wrong-total .ensures) ∙ c .if5 .left)
 
 returns-6 : tie.Need-returns-6
 unfolding verdict containerRules

@@ -7,7 +7,7 @@ before-end-requires : tie.Need-before-end-requires
 before-end-requires c κs = search needs
 
 returns : tie.Need-returns
-returns c = rw (c .before-end .ensures)
+returns c = cc
 
 pub has-address-spec : {M : Type 1} → statement M
 has-address-spec = tie.close (tie.spec before-end-requires returns)

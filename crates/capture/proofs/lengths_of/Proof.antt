@@ -1,49 +1,80 @@
 -- `capture::lengths_of` adds the lengths up. Each is below 2^32, so that the sum fits.
-use mathlib.Core.Path.{_≡_, ap, _∙_}
-use Prim.Native.Nat.{ℕ, _-_, _≤_}
+use mathlib.Core.Path.{_≡_, refl, ap, _∙_}
+use Prim.Native.Nat.{ℕ, _+_, _-_}
 use native.Mathlib.Omega.{arith}
+use lib.ListN.{length}
+use Rattle.words.specs.Bytes.{AllBytes}
 use Rattle.capture.specs.Fields.{lengths}
-use Rattle.capture.proofs.Laws.{lengths-next, lengths-small}
+use Rattle.capture.proofs.Laws.{count-small, lengths-next, lengths-small}
+use Rattle.capture.proofs.Head.{Standing, next-descriptor, descriptor-small, head-counted, head-segment, head-over}
 use borrow.Author.Needs.{needs}
 use Rattle.capture.proofs.lengths_of.Statement.{statement}
 use Rattle.capture.proofs.lengths_of.Tie as tie
 
 abbrev Inv-loop : tie.InvT-loop
-Inv-loop capture n sum₀ i₀ sum i = (i ≤ n) × (sum ≡ lengths capture i)
+Inv-loop capture head sum₀ at₀ sum at = Standing capture at (λ (i : ℕ). sum ≡ lengths capture i)
 
 abbrev μ-loop : tie.MeasureT-loop
-μ-loop capture n sum₀ i₀ sum i = n - i
+μ-loop capture head sum₀ at₀ sum at = length head - at
+
+head-of-requires : tie.Need-head-of-requires Inv-loop μ-loop
+head-of-requires c κs = search needs
+
+descriptors-start-requires : tie.Need-descriptors-start-requires Inv-loop μ-loop
+descriptors-start-requires c κs = search needs
+
+cast-at : tie.Need-cast-at Inv-loop μ-loop
+cast-at c = search needs
 
 loop-holds : tie.Need-loop-holds Inv-loop μ-loop
 unfolding lengths
-loop-holds c = search needs
+loop-holds c = record { i = 0; here = c .descriptors-start .ensures; counted = omega arith; holds = refl }
 
-segment-length-requires : tie.Need-segment-length-requires Inv-loop μ-loop
-segment-length-requires c κs = search needs
+add-loop : tie.Need-add-loop Inv-loop μ-loop
+add-loop c =
+    let known = c .before .before .before in
+    let s = c .loop .inv in
+    omega (arith, s .here, descriptor-small _ (s .i) (λ (k : ℕ). known .shared-slice-known .given k .fits) (s .counted))
+
+segment-at-requires : tie.Need-segment-at-requires Inv-loop μ-loop
+segment-at-requires c κs = search needs
 
 cast-sum : tie.Need-cast-sum Inv-loop μ-loop
 cast-sum c = search needs
 
 add-sum : tie.Need-add-sum Inv-loop μ-loop
 add-sum c =
-    let l = c .before .before in
-    let known = l .before in
-    omega (arith, lengths-small (known .before .args .capture .now) (l .loop .i) (λ (k : ℕ). known .shared-slice-known .given k .fits))
+    let l = c .before .before .before in
+    let known = l .before .before .before in
+    let s = l .loop .inv in
+    let capture = known .before .args .capture .now in
+    let bytes : AllBytes capture = λ (k : ℕ). known .shared-slice-known .given k .fits in
+    omega (arith, s .holds, s .counted, lengths-small capture (s .i) bytes, count-small capture bytes)
 
-add-i : tie.Need-add-i Inv-loop μ-loop
-add-i c = search needs
+add-at : tie.Need-add-at Inv-loop μ-loop
+add-at c = search needs
 
 loop-less : tie.Need-loop-less Inv-loop μ-loop
 loop-less c = search needs
 
 loop-again : tie.Need-loop-again Inv-loop μ-loop
-loop-again c = rw lengths-next (search needs)
+loop-again c =
+    let l = c .before .before .before in
+    let s = l .loop .inv in
+    let is = l .before .before .head-of .ensures in
+    let whole = l .before .before .before .before .pre in
+    record {
+      i = s .i + 1;
+      here = next-descriptor _ (s .i) (s .here);
+      counted = omega (arith, head-counted _ whole is (s .i) (s .here) (omega arith));
+      holds = omega (arith, s .holds, c .before .segment-at .ensures .1, head-segment _ whole is (s .i) (s .here) (omega arith), lengths-next (l .before .before .before .before .args .capture .now) (s .i));
+    }
 
 returns : tie.Need-returns Inv-loop μ-loop
 returns c =
     let l = c .before in
-    let all : l .loop .i ≡ l .before .before .args .n = omega arith in
-    l .loop .inv .1 ∙ ap (lengths (l .before .before .args .capture .now)) all
+    let s = l .loop .inv in
+    s .holds ∙ ap (lengths _) (head-over _ (l .before .before .before .before .pre) (l .before .before .head-of .ensures) (s .i) (s .here) (s .counted) (omega arith))
 
 pub lengths-of-spec : {M : Type 1} → statement M
 lengths-of-spec =
@@ -51,11 +82,15 @@ lengths-of-spec =
     (tie.spec
     Inv-loop
     μ-loop
+    head-of-requires
+    descriptors-start-requires
+    cast-at
     loop-holds
-    segment-length-requires
+    add-loop
+    segment-at-requires
     cast-sum
     add-sum
-    add-i
+    add-at
     loop-less
     loop-again
     returns)

@@ -1,100 +1,190 @@
 -- `capture::reach_of` names the first segment that has the address. The place of each segment is the sum of what was passed.
-use mathlib.Core.Path.{_≡_, sym, _∙_}
+use mathlib.Core.Path.{_≡_, refl, sym, _∙_}
 use Prim.Native.Nat.{ℕ, _+_, _-_, _*_, _≤_, _<_}
 use native.Mathlib.Omega.{arith}
-use Rattle.words.specs.Lists.{numbersFrom}
+use lib.ListN.{length}
+use Rattle.words.specs.Lists.{first, numbersFrom}
 use Rattle.words.proofs.Searches.{search-start, Searching, search-hit, search-miss, search-over, next-number, no-number}
-use Rattle.capture.specs.Fields.{hasAddress, lengths, segmentPlace, segments}
-use Rattle.capture.specs.Reach.{reachIn, reached}
-use Rattle.capture.proofs.Laws.{between, reach-told, place-next}
+use Rattle.capture.specs.Fields.{segmentCount, descriptorsEnd, segmentAddress, segmentLength, hasAddress, lengths, segmentPlace, segments}
+use Rattle.capture.specs.Reach.{reachIn, nowhere}
+use Rattle.capture.proofs.Laws.{count-small, between, reach-told, reached-short, reached-whole, place-next}
+use Rattle.capture.proofs.Head.{Standing, next-descriptor, descriptor-small, head-length, head-counted, head-address, head-segment, head-over}
 use borrow.Author.Needs.{needs}
 use Rattle.capture.proofs.reach_of.Statement.{statement}
 use Rattle.capture.proofs.reach_of.Tie as tie
 
 abbrev Inv-loop : tie.InvT-loop
-Inv-loop capture address n place₀ i₀ place i =
-    (place ≤ 65536 + 4294967296 * i)
-    × (place ≡ segmentPlace capture i)
-    × Searching (hasAddress capture address) (reachIn capture address) (record { place = 0; room = 0 }) (reached capture address) (numbersFrom i (n - i))
+Inv-loop capture address head place₀ at₀ place at =
+    Standing capture at
+    (λ (i : ℕ).
+    (place ≡ segmentPlace capture i)
+    × (place ≤ 65536 + 4294967296 * i)
+    × Searching (hasAddress capture address) (reachIn capture address) nowhere (first (hasAddress capture address) (reachIn capture address) nowhere (segments capture)) (numbersFrom i (segmentCount capture - i)))
 
 abbrev μ-loop : tie.MeasureT-loop
-μ-loop capture address n place₀ i₀ place i = n - i
+μ-loop capture address head place₀ at₀ place at = length head - at
 
--- the segment starts at or before the address, and ends behind it
-abbrev start : tie.Then1 Inv-loop μ-loop → ℕ
-start c = c .before .before .before .segment-address .result
+-- the descriptors lie inside the capture
+whole : (c : tie.Else1 Inv-loop μ-loop) → let capture = c .before .before .before .args .capture .now in descriptorsEnd capture ≤ length capture
+whole c = omega (arith, c .before .descriptors-end .ensures)
 
-abbrev size : tie.Then1 Inv-loop μ-loop → ℕ
-size c = c .before .before .segment-length .result
+-- the segment at hand, by its number
+abbrev at-hand : tie.At-loop Inv-loop μ-loop → ℕ
+at-hand c = c .loop .inv .i
 
-abbrev address : tie.Then1 Inv-loop μ-loop → ℕ
-address c = c .before .before .before .before .before .before .before .before .before .args .address
+-- its descriptor's place has 16 bits, and its number 8
+small : (c : tie.At-loop Inv-loop μ-loop) → c .loop .at + 12 < 65536
+small c =
+    let known = c .before .before .before .before .before in
+    let s = c .loop .inv in
+    omega (arith, s .here, descriptor-small (known .before .args .capture .now) (s .i) (λ (k : ℕ). known .shared-slice-known .given k .fits) (s .counted))
 
-has : (c : tie.Then1 Inv-loop μ-loop) → (start c ≤ address c) × (address c < start c + size c)
-has c = between (address c) (start c) (start c + size c) (sym (c .before .has-address .ensures) ∙ c .if1 .taken)
+few : (c : tie.At-loop Inv-loop μ-loop) → at-hand c < 256
+few c =
+    let known = c .before .before .before .before .before in
+    omega (arith, c .loop .inv .counted, count-small (known .before .args .capture .now) (λ (k : ℕ). known .shared-slice-known .given k .fits))
 
-segment-count-requires : tie.Need-segment-count-requires Inv-loop μ-loop
-segment-count-requires c κs = search needs
+counted : (c : tie.In-loop Inv-loop μ-loop) → at-hand (c .before) < segmentCount (c .before .before .before .before .before .before .before .args .capture .now)
+counted c =
+    let l = c .before in
+    head-counted _ (whole (l .before .before .before)) (l .before .before .head-of .ensures) (at-hand l) (l .loop .inv .here) (omega arith)
+
+-- what its descriptor says
+reads : (c : tie.After-segment-at Inv-loop μ-loop) → let capture = c .before .before .before .before .before .before .before .before .args .capture .now in
+    (c .segment-at .result .address ≡ segmentAddress capture (at-hand (c .before .before)))
+    × (c .segment-at .result .length ≡ segmentLength capture (at-hand (c .before .before)))
+reads c =
+    let l = c .before .before in
+    let s = l .loop .inv in
+    let is = l .before .before .head-of .ensures in
+    let all = whole (l .before .before .before) in (
+      c .segment-at .ensures .0 ∙ head-address _ all is (s .i) (s .here) (omega arith),
+      c .segment-at .ensures .1 ∙ head-segment _ all is (s .i) (s .here) (omega arith),
+    )
+
+-- whether it has the address
+asked : (c : tie.After-has-address Inv-loop μ-loop) → let l = c .before .before .before in
+    c .has-address .result ≡ hasAddress (l .before .before .before .before .before .before .args .capture .now) (l .before .before .before .before .before .before .args .address) (at-hand l)
+unfolding hasAddress
+asked c = rw (← reads (c .before) .0, ← reads (c .before) .1) (c .has-address .ensures)
+
+-- it starts at or before the address, and ends behind it
+has : (c : tie.Then2 Inv-loop μ-loop) → let segment = c .before .before .segment-at .result in
+    let address = c .before .before .before .before .before .before .before .before .before .before .args .address in
+    (segment .address ≤ address) × (address < segment .address + segment .length)
+has c = between _ _ _ (sym (c .before .has-address .ensures) ∙ c .if2 .taken)
 
 descriptors-end-requires : tie.Need-descriptors-end-requires Inv-loop μ-loop
 descriptors-end-requires c κs = search needs
 
-cast-place : tie.Need-cast-place Inv-loop μ-loop
-cast-place c = search needs
+cast-if1 : tie.Need-cast-if1 Inv-loop μ-loop
+cast-if1 c = search needs
+
+returns : tie.Need-returns Inv-loop μ-loop
+returns c = sym (reached-short _ _ (omega (arith, c .before .descriptors-end .ensures)))
+
+head-of-requires : tie.Need-head-of-requires Inv-loop μ-loop
+head-of-requires c κs = search needs
+
+descriptors-start-requires : tie.Need-descriptors-start-requires Inv-loop μ-loop
+descriptors-start-requires c κs = search needs
+
+cast-at : tie.Need-cast-at Inv-loop μ-loop
+cast-at c = search needs
 
 loop-holds : tie.Need-loop-holds Inv-loop μ-loop
-unfolding reached segments segmentPlace lengths
-loop-holds c = (search needs, search needs, search-start _ _ (c .before .segment-count .ensures))
+unfolding segments segmentPlace lengths
+loop-holds c =
+    let long = head-length _ (whole (c .before .before)) (c .before .head-of .ensures) in
+    record {
+      i = 0;
+      here = c .descriptors-start .ensures;
+      counted = omega arith;
+      holds = (omega (arith, long), omega (arith, long, c .before .before .before .descriptors-end .ensures), search-start _ _ refl);
+    }
 
-segment-address-requires : tie.Need-segment-address-requires Inv-loop μ-loop
-segment-address-requires c κs = search needs
+add-loop : tie.Need-add-loop Inv-loop μ-loop
+add-loop c = omega (arith, small c)
 
-segment-length-requires : tie.Need-segment-length-requires Inv-loop μ-loop
-segment-length-requires c κs = search needs
+segment-at-requires : tie.Need-segment-at-requires Inv-loop μ-loop
+segment-at-requires c κs = search needs
+
+add-at : tie.Need-add-at Inv-loop μ-loop
+add-at c = search needs
 
 has-address-requires : tie.Need-has-address-requires Inv-loop μ-loop
 has-address-requires c κs = search needs
 
 sub-ahead : tie.Need-sub-ahead Inv-loop μ-loop
-sub-ahead c = omega (arith, has c)
+sub-ahead c = omega (arith, has (c .before))
 
-add-t12 : tie.Need-add-t12 Inv-loop μ-loop
-add-t12 c = omega (arith, has c)
+add-t16 : tie.Need-add-t16 Inv-loop μ-loop
+add-t16 c =
+    let l = c .before .before .before .before .before in
+    omega (arith, has (c .before), few l, l .loop .inv .holds .1)
 
 cast-room-of-run : tie.Need-cast-room-of-run Inv-loop μ-loop
 cast-room-of-run c = search needs
 
 sub-room-of-run : tie.Need-sub-room-of-run Inv-loop μ-loop
-sub-room-of-run c = omega (arith, has c)
+sub-room-of-run c = omega (arith, has (c .before .before))
 
 room-of-run-requires : tie.Need-room-of-run-requires Inv-loop μ-loop
-room-of-run-requires c κs = (omega arith, omega (arith, has c), omega (arith, has c))
+room-of-run-requires c κs =
+    let t = c .before .before in
+    let l = t .before .before .before .before in
+    let here = reads (t .before .before) in (
+      at-hand l,
+      counted (t .before .before .before),
+      next-descriptor _ (at-hand l) (l .loop .inv .here),
+      omega (arith, has t, here .0, here .1),
+      omega (arith, has t),
+      whole (l .before .before .before),
+    )
 
-returns : tie.Need-returns Inv-loop μ-loop
-returns c =
-    let l = c .before .before .before .before .before .before in
-    reach-told _ _ _ (l .loop .inv .1) (c .before .before .before .before .segment-address .ensures) (c .room-of-run .ensures)
-    ∙ search-hit (l .loop .inv .2) (next-number _ _ (omega arith)) (unfold hasAddress in cc)
+returns-2 : tie.Need-returns-2 Inv-loop μ-loop
+returns-2 c =
+    let t = c .before .before .before in
+    let l = t .before .before .before .before in
+    let s = l .loop .inv in
+    reach-told _ _ (s .i) (s .holds .0) (reads (t .before .before) .0) (c .room-of-run .ensures (s .i) (next-descriptor _ (s .i) (s .here)))
+    ∙ search-hit (s .holds .2) (next-number _ _ (counted (t .before .before .before))) (sym (asked (t .before)) ∙ t .if2 .taken)
+    ∙ sym (reached-whole _ _ (whole (l .before .before .before)))
 
-cast-place-2 : tie.Need-cast-place-2 Inv-loop μ-loop
-cast-place-2 c = search needs
+cast-place : tie.Need-cast-place Inv-loop μ-loop
+cast-place c = search needs
 
 add-place : tie.Need-add-place Inv-loop μ-loop
-add-place c = search needs
-
-add-i : tie.Need-add-i Inv-loop μ-loop
-add-i c = search needs
+add-place c =
+    let l = c .before .before .before .before .before in
+    omega (arith, few l, l .loop .inv .holds .1)
 
 loop-less : tie.Need-loop-less Inv-loop μ-loop
 loop-less c = search needs
 
 loop-again : tie.Need-loop-again Inv-loop μ-loop
 loop-again c =
-    let l = c .before .before .before .before .before in
-    (search needs, rw place-next (cc), search-miss (l .loop .inv .2) (next-number _ _ (omega arith)) (unfold hasAddress in cc))
+    let k = c .before .before in
+    let l = k .before .before .before in
+    let s = l .loop .inv in
+    record {
+      i = s .i + 1;
+      here = next-descriptor _ (s .i) (s .here);
+      counted = omega (arith, counted (k .before .before));
+      holds = (
+        omega (arith, s .holds .0, reads (k .before) .1, place-next (l .before .before .before .before .before .before .args .capture .now) (s .i)),
+        omega (arith, s .holds .1),
+        search-miss (s .holds .2) (next-number _ _ (counted (k .before .before))) (sym (asked k) ∙ c .before .if2 .left),
+      );
+    }
 
-returns-2 : tie.Need-returns-2 Inv-loop μ-loop
-returns-2 c = search-over (c .before .loop .inv .2) (no-number _ _ (c .loop-test .left))
+returns-3 : tie.Need-returns-3 Inv-loop μ-loop
+returns-3 c =
+    let l = c .before in
+    let s = l .loop .inv in
+    let all = whole (l .before .before .before) in
+    let seen = head-over _ all (l .before .before .head-of .ensures) (s .i) (s .here) (s .counted) (omega arith) in
+    search-over (s .holds .2) (no-number _ _ (omega arith)) ∙ sym (reached-whole _ _ all)
 
 pub reach-of-spec : {M : Type 1} → statement M
 reach-of-spec =
@@ -102,22 +192,25 @@ reach-of-spec =
     (tie.spec
     Inv-loop
     μ-loop
-    segment-count-requires
     descriptors-end-requires
-    cast-place
+    cast-if1
+    returns
+    head-of-requires
+    descriptors-start-requires
+    cast-at
     loop-holds
-    segment-address-requires
-    segment-length-requires
+    add-loop
+    segment-at-requires
+    add-at
     has-address-requires
     sub-ahead
-    add-t12
+    add-t16
     cast-room-of-run
     sub-room-of-run
     room-of-run-requires
-    returns
-    cast-place-2
+    returns-2
+    cast-place
     add-place
-    add-i
     loop-less
     loop-again
-    returns-2)
+    returns-3)

@@ -1,64 +1,113 @@
 -- `capture::room_of_run` goes along the run, as far as each segment starts at the end of the one before it.
-use mathlib.Core.Path.{sym, ap, _∙_}
-use Prim.Native.Nat.{ℕ, _+_, _-_, _*_, _≤_}
+use mathlib.Core.List.{List}
+use mathlib.Core.Path.{_≡_, refl, sym, _∙_}
+use Prim.Native.Nat.{ℕ, _+_, _-_, _*_, _≤_, _<_}
 use native.Mathlib.Omega.{arith}
+use lib.Dec.{eqb}
+use lib.ListN.{length}
 use borrow.Author.Tests.{not-true, not-false}
-use Rattle.capture.proofs.Runs.{Along, along-start, along-on, along-gap, along-end}
+use Rattle.capture.specs.Fields.{descriptor, segmentCount, segmentAddress, segmentLength}
+use Rattle.capture.specs.Presence.{runEnd}
+use Rattle.capture.proofs.Head.{same-descriptor, descriptor-small, head-counted, head-address, head-segment, head-over}
+use Rattle.capture.proofs.Runs.{Along, along-on, along-gap, along-end}
 use borrow.Author.Needs.{needs}
 use Rattle.capture.proofs.room_of_run.Statement.{statement}
 use Rattle.capture.proofs.room_of_run.Tie as tie
 
 abbrev Inv-loop : tie.InvT-loop
-Inv-loop capture address i room n sum₀ next₀ sum next = (sum ≤ 4294967296 * next) × Along capture address i sum next
+Inv-loop capture address next room head sum₀ at₀ sum at =
+    (i : ℕ) × (next ≡ descriptor capture (i + 1)) × (sum ≤ 4294967296 * (at + 1)) × Along capture address i sum at
 
 abbrev μ-loop : tie.MeasureT-loop
-μ-loop capture address i room n sum₀ next₀ sum next = n - next
+μ-loop capture address next room head sum₀ at₀ sum at = length head - at
 
-segment-count-requires : tie.Need-segment-count-requires Inv-loop μ-loop
-segment-count-requires c κs = search needs
+-- the next segment, by its number
+abbrev next-one : tie.At-loop Inv-loop μ-loop → ℕ
+next-one c = c .loop .inv .3 .last + 1
 
-add-next : tie.Need-add-next Inv-loop μ-loop
-add-next c = omega (arith, c .segment-count .ensures, c .before .before .pre .0)
+-- its descriptor's place has 16 bits
+small : (c : tie.At-loop Inv-loop μ-loop) → c .loop .at + 12 < 65536
+small c =
+    let known = c .before .before in
+    let a = c .loop .inv .3 in
+    omega (arith, a .next, a .counted, descriptor-small (known .before .args .capture .now) (next-one c) (λ (k : ℕ). known .shared-slice-known .given k .fits) (omega (arith, a .counted)))
+
+-- what its descriptor says
+reads : (c : tie.After-segment-at Inv-loop μ-loop) → let capture = c .before .before .before .before .before .args .capture .now in
+    (c .segment-at .result .address ≡ segmentAddress capture (next-one (c .before .before)))
+    × (c .segment-at .result .length ≡ segmentLength capture (next-one (c .before .before)))
+    × (next-one (c .before .before) < segmentCount capture)
+reads c =
+    let l = c .before .before in
+    let a = l .loop .inv .3 in
+    let is = l .before .head-of .ensures in
+    let whole = l .before .before .before .pre .5 in (
+      c .segment-at .ensures .0 ∙ head-address _ whole is (next-one l) (a .next) (omega arith),
+      c .segment-at .ensures .1 ∙ head-segment _ whole is (next-one l) (a .next) (omega arith),
+      head-counted _ whole is (next-one l) (a .next) (omega arith),
+    )
+
+-- whether it starts at the end so far
+asked : (c : tie.After-starts-at Inv-loop μ-loop) → let l = c .before .before .before in
+    c .starts-at .result ≡ eqb (segmentAddress (l .before .before .before .args .capture .now) (next-one l)) (l .before .before .before .args .address + l .loop .sum)
+asked c = rw (← reads (c .before) .0) (c .starts-at .ensures)
+
+-- where a place is one segment's, its run is told
+told : (capture : List ℕ) (address i j sum : ℕ) → sum ≡ runEnd capture i - address → descriptor capture (i + 1) ≡ descriptor capture (j + 1)
+    → sum ≡ runEnd capture j - address
+told capture address i j sum h e = rw (← same-descriptor capture i j e) h
+
+head-of-requires : tie.Need-head-of-requires Inv-loop μ-loop
+head-of-requires c κs = search needs
 
 loop-holds : tie.Need-loop-holds Inv-loop μ-loop
-loop-holds c = let p = c .before .before .pre in (omega (arith, p .2), along-start _ _ _ _ (p .0) (p .1))
+loop-holds c =
+    let p = c .before .before .pre in
+    (p .0, p .2, omega (arith, p .4), record { last = p .0; next = p .2; counted = p .1; here = p .3; same = refl })
 
-segment-address-requires : tie.Need-segment-address-requires Inv-loop μ-loop
-segment-address-requires c κs = search needs
+add-loop : tie.Need-add-loop Inv-loop μ-loop
+add-loop c = omega (arith, small c)
+
+segment-at-requires : tie.Need-segment-at-requires Inv-loop μ-loop
+segment-at-requires c κs = search needs
 
 starts-at-requires : tie.Need-starts-at-requires Inv-loop μ-loop
 starts-at-requires c κs = search needs
 
 returns : tie.Need-returns Inv-loop μ-loop
-returns c =
-    along-gap _ (c .before .before .before .before .loop .inv .1)
-    (rw (← c .before .before .segment-address .ensures) (sym (c .before .starts-at .ensures) ∙ not-true _ (c .if1 .taken)))
-
-segment-length-requires : tie.Need-segment-length-requires Inv-loop μ-loop
-segment-length-requires c κs = search needs
+returns c i e =
+    let l = c .before .before .before .before in
+    told _ _ (l .loop .inv .0) i _ (along-gap _ (l .loop .inv .3) (sym (asked (c .before)) ∙ not-true _ (c .if1 .taken))) (sym (l .loop .inv .1) ∙ e)
 
 cast-sum : tie.Need-cast-sum Inv-loop μ-loop
 cast-sum c = search needs
 
 add-sum : tie.Need-add-sum Inv-loop μ-loop
-add-sum c = search needs
+add-sum c = omega (arith, small (c .before .before .before .before .before))
 
-add-next-2 : tie.Need-add-next-2 Inv-loop μ-loop
-add-next-2 c = search needs
+add-at : tie.Need-add-at Inv-loop μ-loop
+add-at c = search needs
 
 loop-less : tie.Need-loop-less Inv-loop μ-loop
 loop-less c = search needs
 
 loop-again : tie.Need-loop-again Inv-loop μ-loop
 loop-again c =
-    let l = c .before .before .before .before .before in (
+    let k = c .before .before in
+    let l = k .before .before .before in
+    let here = reads (k .before) in (
+      l .loop .inv .0,
+      l .loop .inv .1,
       search needs,
-      rw (c .segment-length .ensures) (along-on _ (l .loop .inv .1) (omega arith)
-          (rw (← c .before .before .before .segment-address .ensures) (sym (c .before .before .starts-at .ensures) ∙ not-false _ (c .before .if1 .left)))),
+      rw (here .1) (along-on _ (l .loop .inv .3) (here .2) (sym (asked k) ∙ not-false _ (c .before .if1 .left))),
     )
 
 returns-2 : tie.Need-returns-2 Inv-loop μ-loop
-returns-2 c = along-end _ (c .before .loop .inv .1) (omega arith)
+returns-2 c i e =
+    let l = c .before in
+    let a = l .loop .inv .3 in
+    let all = head-over _ (l .before .before .before .pre .5) (l .before .head-of .ensures) (next-one l) (a .next) (omega (arith, a .counted)) (omega arith) in
+    told _ _ (l .loop .inv .0) i _ (along-end _ a (omega arith)) (sym (l .loop .inv .1) ∙ e)
 
 pub room-of-run-spec : {M : Type 1} → statement M
 room-of-run-spec =
@@ -66,16 +115,15 @@ room-of-run-spec =
     (tie.spec
     Inv-loop
     μ-loop
-    segment-count-requires
-    add-next
+    head-of-requires
     loop-holds
-    segment-address-requires
+    add-loop
+    segment-at-requires
     starts-at-requires
     returns
-    segment-length-requires
     cast-sum
     add-sum
-    add-next-2
+    add-at
     loop-less
     loop-again
     returns-2)

@@ -1,10 +1,9 @@
 -- `capture::starts_at` compares with the end exactly, though the end may be 2^64.
 use Rattle.words.proofs.Tests.{is-eqb}
 use borrow.Author.Tests.{eqb-true, eqb-false, ne-eqb}
-use Prim.Native.Nat.{_-_, _+_}
+use Prim.Native.Nat.{_+_}
 use mathlib.Core.Path.{sym}
 use native.Mathlib.Omega.{arith}
-use borrow.Author.Needs.{needs}
 use Rattle.capture.proofs.starts_at.Statement.{statement}
 use Rattle.capture.proofs.starts_at.Tie as tie
 

@@ -1,9 +1,10 @@
 -- `capture::wrong_total` is refusal 5.
+use mathlib.Core.Path.{sym, _∙_}
 use Prim.Native.Nat.{ℕ}
 use native.Mathlib.Omega.{arith}
-use Rattle.capture.specs.Fields.{totalLength}
-use Rattle.capture.specs.Rules.{wrongTotal}
-use Rattle.capture.proofs.Laws.{lengths-small}
+use Rattle.words.specs.Bytes.{AllBytes}
+use Rattle.capture.specs.Fields.{totalLength, segmentCount}
+use Rattle.capture.proofs.Laws.{count-small, lengths-small, short-total, whole-total}
 use borrow.Author.Needs.{needs}
 use Rattle.capture.proofs.wrong_total.Statement.{statement}
 use Rattle.capture.proofs.wrong_total.Tie as tie
@@ -14,26 +15,28 @@ descriptors-end-requires c κs = search needs
 cast-end : tie.Need-cast-end
 cast-end c = search needs
 
+returns : tie.Need-returns
+returns c = sym (short-total _ (omega arith))
+
 u32-at-requires : tie.Need-u32-at-requires
 u32-at-requires c κs = search needs
 
 cast-total : tie.Need-cast-total
 cast-total c = search needs
 
-segment-count-requires : tie.Need-segment-count-requires
-segment-count-requires c κs = search needs
-
 lengths-of-requires : tie.Need-lengths-of-requires
-lengths-of-requires c κs = search needs
+lengths-of-requires c κs = omega arith
 
-add-needed : tie.Need-add-needed
-add-needed c =
+add-result : tie.Need-add-result
+add-result c =
     let known = c .before .before .before .before in
-    omega (arith, lengths-small (known .before .args .capture .now) (c .before .segment-count .result) (λ (k : ℕ). known .shared-slice-known .given k .fits))
+    let capture = known .before .args .capture .now in
+    let bytes : AllBytes capture = λ (k : ℕ). known .shared-slice-known .given k .fits in
+    omega (arith, c .lengths-of .ensures, lengths-small capture (segmentCount capture) bytes, count-small capture bytes)
 
-returns : tie.Need-returns
-unfolding wrongTotal totalLength
-returns c = cc
+returns-2 : tie.Need-returns-2
+unfolding totalLength
+returns-2 c = (cc) ∙ sym (whole-total _ (omega arith))
 
 pub wrong-total-spec : {M : Type 1} → statement M
 wrong-total-spec =
@@ -41,9 +44,9 @@ wrong-total-spec =
     (tie.spec
     descriptors-end-requires
     cast-end
+    returns
     u32-at-requires
     cast-total
-    segment-count-requires
     lengths-of-requires
-    add-needed
-    returns)
+    add-result
+    returns-2)
