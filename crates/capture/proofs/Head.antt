@@ -37,22 +37,19 @@ module _ (capture : List ℕ) {head : List ℕ} (whole : descriptorsEnd capture 
   pub head-length : length head ≡ descriptorsEnd capture
   head-length = ap length is ∙ omega (arith, length-take (descriptorsEnd capture) capture)
 
-  -- a descriptor that lies inside it is that of segment i
-  module _ {at : ℕ} (i : ℕ) (here : at ≡ descriptor capture i) (inside : at + 12 ≤ length head) where
-    pub head-counted : i < segmentCount capture
-    unfolding descriptorsEnd descriptor
-    head-counted = omega (arith, head-length)
+  number-there : (k from : ℕ) → from + k ≤ length head → numberAt k head from ≡ numberAt k capture from
+  number-there k from fits = rw is (number-take k capture (descriptorsEnd capture) from (omega (arith, head-length)))
 
-    number-there : (k from : ℕ) → from + k ≤ length head → numberAt k head from ≡ numberAt k capture from
-    number-there k from fits = rw is (number-take k capture (descriptorsEnd capture) from (omega (arith, head-length)))
-
-    pub head-address : numberAt 8 head at ≡ segmentAddress capture i
-    unfolding segmentAddress
-    head-address = number-there 8 at (omega arith) ∙ ap (numberAt 8 capture) here
-
-    pub head-segment : numberAt 4 head (at + 8) ≡ segmentLength capture i
-    unfolding segmentLength
-    head-segment = number-there 4 (at + 8) (omega arith) ∙ ap (λ (d : ℕ). numberAt 4 capture (d + 8)) here
+  -- a descriptor that lies inside it is that of segment i: what is read there, and that there is such a segment
+  pub head-reads : {at address size : ℕ} (i : ℕ) → at ≡ descriptor capture i → at + 12 ≤ length head
+      → (address ≡ numberAt 8 head at) × (size ≡ numberAt 4 head (at + 8))
+      → (address ≡ segmentAddress capture i) × (size ≡ segmentLength capture i) × (i < segmentCount capture)
+  unfolding segmentAddress segmentLength descriptorsEnd descriptor
+  head-reads {at} i here inside said = (
+    said .0 ∙ number-there 8 at (omega arith) ∙ ap (numberAt 8 capture) here,
+    said .1 ∙ number-there 4 (at + 8) (omega arith) ∙ ap (λ (d : ℕ). numberAt 4 capture (d + 8)) here,
+    omega (arith, head-length),
+  )
 
   -- and where none does, all were seen
   pub head-over : {at : ℕ} (i : ℕ) → at ≡ descriptor capture i → i ≤ segmentCount capture → length head < at + 12 → i ≡ segmentCount capture

@@ -10,7 +10,7 @@ use Rattle.words.specs.declared.Verdict.the-variants.{Sound, Refused}
 use Rattle.capture.specs.Fields.{segmentCount, descriptor, segmentAddress, segmentLength, segments}
 use Rattle.capture.specs.Rules.{endBefore, segmentBroken}
 use Rattle.capture.proofs.Laws.{end-next, broken-told, segments-first}
-use Rattle.capture.proofs.Head.{Standing, next-descriptor, descriptor-small, head-counted, head-address, head-segment, head-over}
+use Rattle.capture.proofs.Head.{Standing, next-descriptor, descriptor-small, head-reads, head-over}
 use borrow.Author.Needs.{needs}
 use Rattle.capture.proofs.check_segments.Statement.{statement}
 use Rattle.capture.proofs.check_segments.Tie as tie
@@ -26,33 +26,25 @@ abbrev μ-loop : tie.MeasureT-loop
 μ-loop capture head before₀ at₀ before at = length head - at
 
 -- the segment at hand, by its number
-abbrev at-hand : tie.In-loop Inv-loop μ-loop → ℕ
-at-hand c = c .before .loop .inv .i
+abbrev at-hand : tie.At-loop Inv-loop μ-loop → ℕ
+at-hand c = c .loop .inv .i
 
-counted : (c : tie.In-loop Inv-loop μ-loop) → at-hand c < segmentCount (c .before .before .before .before .before .args .capture .now)
-counted c =
-    let l = c .before in
-    head-counted _ (l .before .before .before .before .pre) (l .before .before .head-of .ensures) (at-hand c) (l .loop .inv .here) (omega arith)
-
--- its descriptor
-reads : (c : tie.After-segment-at Inv-loop μ-loop) → let capture = c .before .before .before .before .before .before .args .capture .now in
-    (c .segment-at .result .address ≡ segmentAddress capture (at-hand (c .before)))
-    × (c .segment-at .result .length ≡ segmentLength capture (at-hand (c .before)))
+-- what its descriptor says
+reads : (c : tie.After-segment-at Inv-loop μ-loop) → let l = c .before .before in
+    let capture = l .before .before .before .before .args .capture .now in
+    (c .segment-at .result .address ≡ segmentAddress capture (at-hand l))
+    × (c .segment-at .result .length ≡ segmentLength capture (at-hand l))
+    × (at-hand l < segmentCount capture)
 reads c =
     let l = c .before .before in
-    let s = l .loop .inv in
-    let is = l .before .before .head-of .ensures in
-    let whole = l .before .before .before .before .pre in (
-      c .segment-at .ensures .0 ∙ head-address _ whole is (s .i) (s .here) (omega arith),
-      c .segment-at .ensures .1 ∙ head-segment _ whole is (s .i) (s .here) (omega arith),
-    )
+    head-reads _ (l .before .before .before .before .pre) (l .before .before .head-of .ensures) (at-hand l) (l .loop .inv .here) (omega arith) (c .segment-at .ensures)
 
 -- what is asked of it is its rule
 asked : (c : tie.After-segment-broken Inv-loop μ-loop)
-    → c .segment-broken .result ≡ segmentBroken (c .before .before .before .before .before .before .before .args .capture .now) (at-hand (c .before .before))
+    → c .segment-broken .result ≡ segmentBroken (c .before .before .before .before .before .before .before .args .capture .now) (at-hand (c .before .before .before))
 asked c =
     c .segment-broken .ensures
-    ∙ broken-told _ (at-hand (c .before .before)) (reads (c .before) .0) (reads (c .before) .1) (c .before .before .before .loop .inv .holds .0)
+    ∙ broken-told _ (at-hand (c .before .before .before)) (reads (c .before) .0) (reads (c .before) .1) (c .before .before .before .loop .inv .holds .0)
 
 head-of-requires : tie.Need-head-of-requires Inv-loop μ-loop
 head-of-requires c κs = search needs
@@ -94,7 +86,7 @@ returns c =
     let k = c .before .before in
     let s = k .before .before .before .loop .inv in
     ap Refused (c .refuse .ensures ∙ ap (refused 6) (s .here))
-    ∙ search-hit (s .holds .1) (next-number _ _ (counted (k .before .before))) (sym (asked k) ∙ c .before .if1 .taken)
+    ∙ search-hit (s .holds .1) (next-number _ _ (reads (k .before) .2)) (sym (asked k) ∙ c .before .if1 .taken)
     ∙ sym (segments-first _)
 
 add-at : tie.Need-add-at Inv-loop μ-loop
@@ -111,10 +103,10 @@ loop-again c =
     record {
       i = s .i + 1;
       here = next-descriptor _ (s .i) (s .here);
-      counted = omega (arith, counted (k .before .before));
+      counted = omega (arith, here .2);
       holds = (
         rw (here .0, here .1) (sym (end-next _ (s .i))),
-        search-miss (s .holds .1) (next-number _ _ (counted (k .before .before))) (sym (asked k) ∙ c .if1 .left),
+        search-miss (s .holds .1) (next-number _ _ (here .2)) (sym (asked k) ∙ c .if1 .left),
       );
     }
 

@@ -6,7 +6,7 @@ use lib.ListN.{length}
 use Rattle.words.specs.Bytes.{AllBytes}
 use Rattle.capture.specs.Fields.{lengths}
 use Rattle.capture.proofs.Laws.{count-small, lengths-next, lengths-small}
-use Rattle.capture.proofs.Head.{Standing, next-descriptor, descriptor-small, head-counted, head-segment, head-over}
+use Rattle.capture.proofs.Head.{Standing, next-descriptor, descriptor-small, head-reads, head-over}
 use borrow.Author.Needs.{needs}
 use Rattle.capture.proofs.lengths_of.Statement.{statement}
 use Rattle.capture.proofs.lengths_of.Tie as tie
@@ -61,13 +61,12 @@ loop-again : tie.Need-loop-again Inv-loop μ-loop
 loop-again c =
     let l = c .before .before .before in
     let s = l .loop .inv in
-    let is = l .before .before .head-of .ensures in
-    let whole = l .before .before .before .before .pre in
+    let reads = head-reads _ (l .before .before .before .before .pre) (l .before .before .head-of .ensures) (s .i) (s .here) (omega arith) (c .before .segment-at .ensures) in
     record {
       i = s .i + 1;
       here = next-descriptor _ (s .i) (s .here);
-      counted = omega (arith, head-counted _ whole is (s .i) (s .here) (omega arith));
-      holds = omega (arith, s .holds, c .before .segment-at .ensures .1, head-segment _ whole is (s .i) (s .here) (omega arith), lengths-next (l .before .before .before .before .args .capture .now) (s .i));
+      counted = omega (arith, reads .2);
+      holds = omega (arith, s .holds, reads .1, lengths-next (l .before .before .before .before .args .capture .now) (s .i));
     }
 
 returns : tie.Need-returns Inv-loop μ-loop

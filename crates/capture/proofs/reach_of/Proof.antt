@@ -8,7 +8,7 @@ use Rattle.words.proofs.Searches.{search-start, Searching, search-hit, search-m
 use Rattle.capture.specs.Fields.{segmentCount, descriptorsEnd, segmentAddress, segmentLength, hasAddress, lengths, segmentPlace, segments}
 use Rattle.capture.specs.Reach.{reachIn, nowhere}
 use Rattle.capture.proofs.Laws.{count-small, between, reach-told, reached-short, reached-whole, place-next}
-use Rattle.capture.proofs.Head.{Standing, next-descriptor, descriptor-small, head-length, head-counted, head-address, head-segment, head-over}
+use Rattle.capture.proofs.Head.{Standing, next-descriptor, descriptor-small, head-length, head-reads, head-over}
 use borrow.Author.Needs.{needs}
 use Rattle.capture.proofs.reach_of.Statement.{statement}
 use Rattle.capture.proofs.reach_of.Tie as tie
@@ -44,23 +44,15 @@ few c =
     let known = c .before .before .before .before .before in
     omega (arith, c .loop .inv .counted, count-small (known .before .args .capture .now) (λ (k : ℕ). known .shared-slice-known .given k .fits))
 
-counted : (c : tie.In-loop Inv-loop μ-loop) → at-hand (c .before) < segmentCount (c .before .before .before .before .before .before .before .args .capture .now)
-counted c =
-    let l = c .before in
-    head-counted _ (whole (l .before .before .before)) (l .before .before .head-of .ensures) (at-hand l) (l .loop .inv .here) (omega arith)
-
 -- what its descriptor says
-reads : (c : tie.After-segment-at Inv-loop μ-loop) → let capture = c .before .before .before .before .before .before .before .before .args .capture .now in
-    (c .segment-at .result .address ≡ segmentAddress capture (at-hand (c .before .before)))
-    × (c .segment-at .result .length ≡ segmentLength capture (at-hand (c .before .before)))
+reads : (c : tie.After-segment-at Inv-loop μ-loop) → let l = c .before .before in
+    let capture = l .before .before .before .before .before .before .args .capture .now in
+    (c .segment-at .result .address ≡ segmentAddress capture (at-hand l))
+    × (c .segment-at .result .length ≡ segmentLength capture (at-hand l))
+    × (at-hand l < segmentCount capture)
 reads c =
     let l = c .before .before in
-    let s = l .loop .inv in
-    let is = l .before .before .head-of .ensures in
-    let all = whole (l .before .before .before) in (
-      c .segment-at .ensures .0 ∙ head-address _ all is (s .i) (s .here) (omega arith),
-      c .segment-at .ensures .1 ∙ head-segment _ all is (s .i) (s .here) (omega arith),
-    )
+    head-reads _ (whole (l .before .before .before)) (l .before .before .head-of .ensures) (at-hand l) (l .loop .inv .here) (omega arith) (c .segment-at .ensures)
 
 -- whether it has the address
 asked : (c : tie.After-has-address Inv-loop μ-loop) → let l = c .before .before .before in
@@ -135,7 +127,7 @@ room-of-run-requires c κs =
     let l = t .before .before .before .before in
     let here = reads (t .before .before) in (
       at-hand l,
-      counted (t .before .before .before),
+      here .2,
       next-descriptor _ (at-hand l) (l .loop .inv .here),
       omega (arith, has t, here .0, here .1),
       omega (arith, has t),
@@ -148,7 +140,7 @@ returns-2 c =
     let l = t .before .before .before .before in
     let s = l .loop .inv in
     reach-told _ _ (s .i) (s .holds .0) (reads (t .before .before) .0) (c .room-of-run .ensures (s .i) (next-descriptor _ (s .i) (s .here)))
-    ∙ search-hit (s .holds .2) (next-number _ _ (counted (t .before .before .before))) (sym (asked (t .before)) ∙ t .if2 .taken)
+    ∙ search-hit (s .holds .2) (next-number _ _ (reads (t .before .before) .2)) (sym (asked (t .before)) ∙ t .if2 .taken)
     ∙ sym (reached-whole _ _ (whole (l .before .before .before)))
 
 cast-place : tie.Need-cast-place Inv-loop μ-loop
@@ -170,11 +162,11 @@ loop-again c =
     record {
       i = s .i + 1;
       here = next-descriptor _ (s .i) (s .here);
-      counted = omega (arith, counted (k .before .before));
+      counted = omega (arith, reads (k .before) .2);
       holds = (
         omega (arith, s .holds .0, reads (k .before) .1, place-next (l .before .before .before .before .before .before .args .capture .now) (s .i)),
         omega (arith, s .holds .1),
-        search-miss (s .holds .2) (next-number _ _ (counted (k .before .before))) (sym (asked k) ∙ c .before .if2 .left),
+        search-miss (s .holds .2) (next-number _ _ (reads (k .before) .2)) (sym (asked k) ∙ c .before .if2 .left),
       );
     }
 

@@ -8,7 +8,7 @@ use lib.ListN.{length}
 use borrow.Author.Tests.{not-true, not-false}
 use Rattle.capture.specs.Fields.{descriptor, segmentCount, segmentAddress, segmentLength}
 use Rattle.capture.specs.Presence.{runEnd}
-use Rattle.capture.proofs.Head.{same-descriptor, descriptor-small, head-counted, head-address, head-segment, head-over}
+use Rattle.capture.proofs.Head.{same-descriptor, descriptor-small, head-reads, head-over}
 use Rattle.capture.proofs.Runs.{Along, along-on, along-gap, along-end}
 use borrow.Author.Needs.{needs}
 use Rattle.capture.proofs.room_of_run.Statement.{statement}
@@ -39,13 +39,7 @@ reads : (c : tie.After-segment-at Inv-loop μ-loop) → let capture = c .before 
     × (next-one (c .before .before) < segmentCount capture)
 reads c =
     let l = c .before .before in
-    let a = l .loop .inv .3 in
-    let is = l .before .head-of .ensures in
-    let whole = l .before .before .before .pre .5 in (
-      c .segment-at .ensures .0 ∙ head-address _ whole is (next-one l) (a .next) (omega arith),
-      c .segment-at .ensures .1 ∙ head-segment _ whole is (next-one l) (a .next) (omega arith),
-      head-counted _ whole is (next-one l) (a .next) (omega arith),
-    )
+    head-reads _ (l .before .before .before .pre .5) (l .before .head-of .ensures) (next-one l) (l .loop .inv .3 .next) (omega arith) (c .segment-at .ensures)
 
 -- whether it starts at the end so far
 asked : (c : tie.After-starts-at Inv-loop μ-loop) → let l = c .before .before .before in
