@@ -1,5 +1,6 @@
 -- What presence means, byte by byte: W-206 of document 02 said without runs of segments, and what it changed. Each statement stands
--- alone and holds of every sound capture, the last one of any bytes; proofs/Memory.antt has a theorem for it.
+-- alone and holds of every sound capture, `BytesInOrder` and `OnlyByTouching` of any bytes; proofs/Memory.antt and proofs/Apart.antt
+-- have a theorem for each.
 use Prim.Native.Nat.{ℕ, _+_, _<_}
 use mathlib.Core.Bool.{Bool, true, false, _&&_}
 use mathlib.Core.List.{List}
@@ -36,10 +37,11 @@ PresentExactly capture =
     → (isPresent (located capture address size) ≡ true → EveryByte capture address size)
     × (EveryByte capture address size → isPresent (located capture address size) ≡ true)
 
--- and of one that is absent a byte is missing: no segment has its address
+-- no segment has an address
 abbrev pub Missing : List ℕ → ℕ → Type 0
 Missing capture address = (i : ℕ) → i < segmentCount capture → hasAddress capture address i ≡ false
 
+-- and some byte of a stretch that is absent is missing
 abbrev pub AbsentMisses : List ℕ → Type 0
 AbsentMisses capture =
     (address size : ℕ) → 0 < size → located capture address size ≡ Absent → (k : ℕ) × (k < size) × Missing capture (address + k)

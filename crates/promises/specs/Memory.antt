@@ -13,7 +13,7 @@ use Rattle.tables.specs.Table.{headerSize, addressAt, tableLength, tableAt}
 use Rattle.tables.specs.declared.Table.{Table}
 use Rattle.tables.specs.declared.Checked.the-variants.{Is, Refused}
 
--- no segment has some byte of a stretch
+-- some byte of a stretch lies in no segment
 abbrev pub Lacks : List ℕ → ℕ → ℕ → Type 0
 Lacks capture address size = (k : ℕ) × (k < size) × Missing capture (address + k)
 
