@@ -1,6 +1,6 @@
 -- A stretch that is present stands in the capture byte by byte. In a sound capture no two segments share a byte of memory, so that a
 -- byte and a stretch have one place, and a run ends where no segment has the address.
-use mathlib.Core.Bool.{Bool, true, false, _||_}
+use mathlib.Core.Bool.{true, false, _||_}
 use mathlib.Core.List.{List}
 use mathlib.Core.Logic.{⊎-elim}
 use mathlib.Core.Path.{_≡_, refl, sym, ap, _∙_}
@@ -12,7 +12,7 @@ use Rattle.words.specs.Lists.{numbersBelow}
 use Rattle.words.specs.Refusals.{refused}
 use Rattle.words.proofs.Order.{order}
 use Rattle.words.proofs.Searches.{search-none}
-use Rattle.words.proofs.Tests.{neither-right}
+use Rattle.words.proofs.Tests.{fails, neither-right}
 use Rattle.words.proofs.Verdicts.{not-sound}
 use Rattle.capture.specs.Fields.{segmentCount, descriptor, segmentAddress, segmentEnd, hasAddress, segments}
 use Rattle.capture.specs.Rules.{emptySegment, endsPastMemory, startsEarly, endBefore, segmentBroken}
@@ -96,7 +96,7 @@ module _ (capture : List ℕ) (sound : Sound capture) where
 
   -- no segment has the address at which one ends behind which none goes on
   end-missing : (m : ℕ) → m < segmentCount capture → goesOn capture m ≡ false → Missing capture (segmentEnd capture m)
-  end-missing m counted over j cj = go (hasAddress capture (segmentEnd capture m) j) refl
+  end-missing m counted over j cj = fails (hasAddress capture (segmentEnd capture m) j) none
     where
       -- the next one, and so every later one, starts behind it
       next : suc m < segmentCount capture → segmentEnd capture m < segmentAddress capture (suc m)
@@ -111,14 +111,12 @@ module _ (capture : List ℕ) (sound : Sound capture) where
           (λ (k : suc m < j). omega (arith, next (omega arith), in-order (suc m) j k cj))
           (eq-or-lt-of-le l)
 
-      go : (b : Bool) → hasAddress capture (segmentEnd capture m) j ≡ b → hasAddress capture (segmentEnd capture m) j ≡ false
-      go false e = e
-      go true e =
-          let b = has-bounds capture (segmentEnd capture m) j e in
-          absurd
-          (⊎-elim (λ (l : m < j). omega (arith, later l))
+      none : hasAddress capture (segmentEnd capture m) j ≡ true → ⊥
+      none has =
+          let b = has-bounds capture (segmentEnd capture m) j has in
+          ⊎-elim (λ (l : m < j). omega (arith, later l))
           (λ r. ⊎-elim (λ (e : m ≡ j). let s : segmentEnd capture m ≡ segmentEnd capture j = rw e in omega arith) (λ (l : j < m). omega (arith, in-order j m l counted)) r)
-          (order m j))
+          (order m j)
 
   -- so none has the address at which a run ends
   pub run-missing : (i : ℕ) → i < segmentCount capture → Missing capture (runEnd capture i)

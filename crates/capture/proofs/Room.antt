@@ -1,6 +1,6 @@
 -- In a sound capture the room at an address says which stretches from there are present: the theorems `room-present` and
 -- `room-absent`. Segments share no byte, so only one of them has the address; and the byte behind the room is missing.
-use mathlib.Core.Bool.{Bool, true, false, true≢false}
+use mathlib.Core.Bool.{true, true≢false}
 use mathlib.Core.List.{List}
 use mathlib.Core.Path.{_≡_, refl, sym, ap, _∙_}
 use Prim.Native.Nat.{ℕ, zero, suc, _+_, _-_, _≤_, _<_}
@@ -11,6 +11,7 @@ use Rattle.words.specs.Lists.{first, numbersBelow}
 use Rattle.words.specs.Choice.{if}
 use Rattle.words.specs.Refusals.{refused, unless, firstRefusal}
 use Rattle.words.proofs.Searches.{Hit, search-found, search-none}
+use Rattle.words.proofs.Tests.{fails}
 use Rattle.capture.specs.Fields.{segmentCount, rsdpAddress, segmentAddress, hasAddress, segments}
 use Rattle.capture.specs.Presence.{Stretch, Present, Absent, runEnd, holds, placeIn, isPresent, placeOf, located, rsdpSize, rsdpStretch, presenceRules, rsdpPlace}
 use Rattle.capture.specs.Reach.{reachIn, nowhere, reached}
@@ -28,22 +29,30 @@ module _ (capture : List ℕ) (sound : Sound capture) (address : ℕ) where
   searched : reached capture address ≡ first (hasAddress capture address) (reachIn capture address) nowhere (segments capture)
   searched = reached-whole capture address (omega (arith, sound-length capture sound))
 
-  -- the segment that has the address, where there is room
-  has-room : 0 < reached capture address .room → Hit (hasAddress capture address) (reachIn capture address) (reached capture address) 0 (segmentCount capture)
+  -- a segment that has the address
+  abbrev Found : Type 0
+  Found = Hit (hasAddress capture address) (reachIn capture address) (reached capture address) 0 (segmentCount capture)
+
+  -- is found unless the search ends without an answer
+  found : (nowhere ≡ reached capture address → ⊥) → Found
   unfolding segments numbersBelow
-  has-room some =
+  found answered =
       search-found (hasAddress capture address) (reachIn capture address) nowhere (reached capture address) 0 (segmentCount capture)
       (segmentCount capture)
       (omega arith)
       (sym searched)
-      (λ e. let empty : 0 ≡ reached capture address .room = ap (λ (r : Reach). r .room) e in omega arith)
+      answered
 
-  -- where a segment has it, the search for one ends at that segment
+  -- as it does not where there is room
+  has-room : 0 < reached capture address .room → Found
+  has-room some = found (λ e. let empty : 0 ≡ reached capture address .room = ap (λ (r : Reach). r .room) e in omega arith)
+
+  -- nor where a segment has it: it ends at that segment
   reached-in : (i : ℕ) → i < segmentCount capture → hasAddress capture address i ≡ true → reached capture address ≡ reachIn capture address i
   unfolding reachIn segments numbersBelow
   reached-in i counted has = sym (hit .told) ∙ ap (reachIn capture address) (one-segment capture sound address (hit .at) i (hit .counted) counted (hit .taken) has)
     where
-      -- it does not end without an answer, since an answer has a place
+      -- an answer has a place
       missed : nowhere ≡ reached capture address → ⊥
       missed e =
           let left =
@@ -54,13 +63,8 @@ module _ (capture : List ℕ) (sound : Sound capture) (address : ℕ) where
           in
           true≢false (sym has ∙ left)
 
-      hit : Hit (hasAddress capture address) (reachIn capture address) (reached capture address) 0 (segmentCount capture)
-      hit =
-          search-found (hasAddress capture address) (reachIn capture address) nowhere (reached capture address) 0 (segmentCount capture)
-          (segmentCount capture)
-          (omega arith)
-          (sym searched)
-          missed
+      hit : Found
+      hit = found missed
 
   room-in : (i : ℕ) → i < segmentCount capture → hasAddress capture address i ≡ true → reached capture address .room ≡ runEnd capture i - address
   unfolding reachIn
@@ -130,13 +134,9 @@ module _ (capture : List ℕ) (sound : Sound capture) (address : ℕ) where
     where
       -- no segment has an address that has no room
       without : reached capture address .room ≡ 0 → Missing capture address
-      without e i counted = go (hasAddress capture address i) refl
-        where
-          go : (b : Bool) → hasAddress capture address i ≡ b → hasAddress capture address i ≡ false
-          go false h = h
-          go true h =
-              let b = has-bounds capture address i h in
-              absurd (omega (arith, room-in i counted h, run-reaches capture i counted))
+      without e i counted =
+          fails (hasAddress capture address i)
+          (λ has. omega (arith, has-bounds capture address i has, room-in i counted has, run-reaches capture i counted))
 
       go : (room : ℕ) → reached capture address .room ≡ room → Missing capture (address + reached capture address .room)
       go zero e = rw (e, add-zero address) (without e)

@@ -11,7 +11,7 @@ use borrow.Author.Tests.{ltb-true, ltb-false, lt-ltb, eqb-true, eq-eqb, le-leb}
 use Rattle.words.specs.Choice.{if}
 use Rattle.words.specs.Lists.{first}
 use Rattle.words.proofs.Searches.{next-number}
-use Rattle.words.proofs.Tests.{both-left, both-right}
+use Rattle.words.proofs.Tests.{fails, both-left, both-right}
 use Rattle.capture.specs.Fields.{segmentCount, descriptor, segmentAddress, segmentLength, segmentEnd, hasAddress, lengths}
 use Rattle.capture.specs.Presence.{goesOn, runEnd, placeIn}
 use Rattle.capture.proofs.Laws.{lengths-next, lengths-within, place-next}
@@ -158,15 +158,7 @@ module _ (capture : List ℕ) where
 
     -- it does not, or there is none: the run ends
     pub along-gap : eqb (segmentAddress capture (a .last + 1)) (address + sum) ≡ false → sum ≡ runEnd capture i - address
-    along-gap h = ends (go (goesOn capture (a .last)) refl)
-      where
-        go : (b : Bool) → goesOn capture (a .last) ≡ b → goesOn capture (a .last) ≡ false
-        go false e = e
-        go true e = absurd (true≢false (sym (eq-eqb _ _ (next-touches (a .last) e ∙ sym (a .here))) ∙ h))
+    along-gap h = ends (fails (goesOn capture (a .last)) (λ on. true≢false (sym (eq-eqb _ _ (next-touches (a .last) on ∙ sym (a .here))) ∙ h)))
 
     pub along-end : segmentCount capture ≤ a .last + 1 → sum ≡ runEnd capture i - address
-    along-end out = ends (go (goesOn capture (a .last)) refl)
-      where
-        go : (b : Bool) → goesOn capture (a .last) ≡ b → goesOn capture (a .last) ≡ false
-        go false e = e
-        go true e = absurd (omega (arith, next-counted (a .last) e))
+    along-end out = ends (fails (goesOn capture (a .last)) (λ on. omega (arith, next-counted (a .last) on)))

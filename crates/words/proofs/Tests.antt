@@ -19,6 +19,11 @@ pub is-eqb : (flag : Bool) (a b : ℕ) → (flag ≡ true → a ≡ b) → (flag
 is-eqb true a b holds fails = sym (eq-eqb a b (holds refl))
 is-eqb false a b holds fails = sym (ne-eqb a b (fails refl))
 
+-- a test that cannot hold fails
+pub fails : (test : Bool) → (test ≡ true → ⊥) → test ≡ false
+fails true holds = absurd (holds refl)
+fails false holds = refl
+
 -- what a test of two things tells of each
 pub both-left : (p q : Bool) → (p && q) ≡ true → p ≡ true
 both-left true q h = refl
