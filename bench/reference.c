@@ -1,6 +1,6 @@
 /*
- * The reference: document 01 and requests W-202 and W-206 of document 02 written down in plain C, from the documents
- * alone, without a look at the proved reader, so that an error would have to be made twice to go unseen.
+ * The reference: document 01 and requests W-202, W-206 and W-207 of document 02 written down in plain C, from the
+ * documents alone, without a look at the proved reader, so that an error would have to be made twice to go unseen.
  *
  * Titles in quotation marks are sections of document 01; the numbers given to refuse() are those of its table
  * "Refusals in order", where W-202 puts 71 to 77 in the place of 36: after 35 and before 37.
@@ -279,8 +279,14 @@ static uint64_t find_named_tables(const struct capture *capture, struct tables *
     return 0;
 }
 
+/* Rule 29, all that the two readings differ in (W-207): both take revision 1, and the ordinary one takes those above it. */
+static bool takes_revision(enum reading reading, uint8_t revision)
+{
+    return revision == 1 || (revision > 1 && reading == ORDINARY);
+}
+
 /* Rules 10 to 30. */
-static uint64_t find_tables(const struct capture *capture, struct tables *tables)
+static uint64_t find_tables(const struct capture *capture, struct tables *tables, enum reading reading)
 {
     uint64_t rsdp, refusal;
 
@@ -297,7 +303,7 @@ static uint64_t find_tables(const struct capture *capture, struct tables *tables
         return refuse(28, tables->madt.place);
     if (tables->fadt.length < FADT_MIN)
         return refuse(28, tables->fadt.place);
-    if (madt[8] != 1)
+    if (!takes_revision(reading, madt[8]))
         return refuse(29, tables->madt.place);
     if (u32(madt + 40) != 0)
         return refuse(30, tables->madt.place);
@@ -759,8 +765,8 @@ static uint64_t check_board(struct board *board)
     return 0;
 }
 
-/* Rules 1 to 54. The clash is set whatever the result is. */
-static uint64_t read_board(const uint8_t *bytes, size_t length, struct board *board)
+/* Rules 1 to 54 in one of the readings. The clash is set whatever the result is. */
+static uint64_t read_board(const uint8_t *bytes, size_t length, struct board *board, enum reading reading)
 {
     struct capture capture;
     struct tables tables;
@@ -769,7 +775,7 @@ static uint64_t read_board(const uint8_t *bytes, size_t length, struct board *bo
     board->clash = NO_CLASH;
     if ((refusal = open_capture(&capture, bytes, length)) != 0)
         return refusal;
-    if ((refusal = find_tables(&capture, &tables)) != 0)
+    if ((refusal = find_tables(&capture, &tables, reading)) != 0)
         return refusal;
 
     board->madt = tables.madt.place;
@@ -782,12 +788,12 @@ static uint64_t read_board(const uint8_t *bytes, size_t length, struct board *bo
     return check_board(board);
 }
 
-/* ---- The calls ---- */
+/* ---- The calls, for either reading ---- */
 
-uint64_t reference_read(const uint8_t *capture, size_t capture_len, uint8_t *list, size_t list_len)
+static uint64_t fill_list(const uint8_t *capture, size_t capture_len, uint8_t *list, size_t list_len, enum reading reading)
 {
     struct board board;
-    uint64_t refusal = read_board(capture, capture_len, &board);
+    uint64_t refusal = read_board(capture, capture_len, &board, reading);
 
     if (refusal != 0)
         return refusal;
@@ -803,27 +809,72 @@ uint64_t reference_read(const uint8_t *capture, size_t capture_len, uint8_t *lis
     return board.enabled;
 }
 
-uint64_t reference_route(const uint8_t *capture, size_t capture_len, uint32_t number)
+static uint64_t route_number(const uint8_t *capture, size_t capture_len, uint32_t number, enum reading reading)
 {
     struct board board;
-    uint64_t refusal = read_board(capture, capture_len, &board);
+    uint64_t refusal = read_board(capture, capture_len, &board, reading);
 
     return refusal != 0 ? refusal : route(&board, number);
 }
 
-uint64_t reference_trace(const uint8_t *capture, size_t capture_len, uint32_t vector, uint32_t number)
+static uint64_t trace_arrival(const uint8_t *capture, size_t capture_len, uint32_t vector, uint32_t number,
+                              enum reading reading)
 {
     struct board board;
-    uint64_t refusal = read_board(capture, capture_len, &board);
+    uint64_t refusal = read_board(capture, capture_len, &board, reading);
 
     return refusal != 0 ? refusal : trace(&board, vector, number);
 }
 
-struct reference_refusal reference_judge(const uint8_t *capture, size_t capture_len)
+static struct reference_refusal judge(const uint8_t *capture, size_t capture_len, enum reading reading)
 {
     struct board board;
-    uint64_t refusal = read_board(capture, capture_len, &board);
+    uint64_t refusal = read_board(capture, capture_len, &board, reading);
     uint64_t place = refusal & ((UINT64_C(1) << REFUSAL_SHIFT) - 1);
 
     return (struct reference_refusal){refusal >> REFUSAL_SHIFT, place, board.clash.partner};
+}
+
+/* ---- The strict reading ---- */
+
+uint64_t reference_read(const uint8_t *capture, size_t capture_len, uint8_t *list, size_t list_len)
+{
+    return fill_list(capture, capture_len, list, list_len, STRICT);
+}
+
+uint64_t reference_route(const uint8_t *capture, size_t capture_len, uint32_t number)
+{
+    return route_number(capture, capture_len, number, STRICT);
+}
+
+uint64_t reference_trace(const uint8_t *capture, size_t capture_len, uint32_t vector, uint32_t number)
+{
+    return trace_arrival(capture, capture_len, vector, number, STRICT);
+}
+
+struct reference_refusal reference_judge(const uint8_t *capture, size_t capture_len)
+{
+    return judge(capture, capture_len, STRICT);
+}
+
+/* ---- The ordinary reading ---- */
+
+uint64_t reference_ordinary_read(const uint8_t *capture, size_t capture_len, uint8_t *list, size_t list_len)
+{
+    return fill_list(capture, capture_len, list, list_len, ORDINARY);
+}
+
+uint64_t reference_ordinary_route(const uint8_t *capture, size_t capture_len, uint32_t number)
+{
+    return route_number(capture, capture_len, number, ORDINARY);
+}
+
+uint64_t reference_ordinary_trace(const uint8_t *capture, size_t capture_len, uint32_t vector, uint32_t number)
+{
+    return trace_arrival(capture, capture_len, vector, number, ORDINARY);
+}
+
+struct reference_refusal reference_ordinary_judge(const uint8_t *capture, size_t capture_len)
+{
+    return judge(capture, capture_len, ORDINARY);
 }

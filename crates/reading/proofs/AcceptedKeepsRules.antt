@@ -7,6 +7,7 @@ use mathlib.Core.List.{List}
 use mathlib.Core.Path.{_≡_}
 use Rattle.words.proofs.Choices.{yes-if}
 use Rattle.words.specs.declared.Verdict.the-variants.{Sound}
+use Rattle.tables.specs.declared.Strictness.{Strictness}
 use Rattle.lines.specs.Says.{says}
 use Rattle.lines.specs.Routes.{arrival}
 use Rattle.lines.specs.Traces.{traced}
@@ -19,19 +20,19 @@ use Rattle.reading.specs.Scan.{madtBytes, walkOf, scan}
 use Rattle.reading.proofs.Scanned.{Scanned, scanned, rules-kept}
 
 -- the walk kept its books
-books : (capture : List ℕ) (s : Scanned capture) → WellKept (walkOf capture (s .t) .found .map) (walkOf capture (s .t) .found .places)
+books : {strictness : Strictness} (capture : List ℕ) (s : Scanned strictness capture) → WellKept (walkOf capture (s .t) .found .map) (walkOf capture (s .t) .found .places)
 books capture s = walk-keeps-books (madtBytes capture (s .t .madt)) (s .t .madt .place) (s .t .sci) (s .walk) .0
 
 -- its unused places hold 0
-pub accepted-is-normal : (capture : List ℕ) → scan capture .verdict ≡ Sound → Normal (scan capture .map)
-accepted-is-normal capture h =
-    let s = scanned capture h in
+pub accepted-is-normal : (strictness : Strictness) (capture : List ℕ) → scan strictness capture .verdict ≡ Sound → Normal (scan strictness capture .map)
+accepted-is-normal strictness capture h =
+    let s = scanned strictness capture h in
     rw (s .map) (books capture s .normal)
 
 -- it keeps the rules
-pub accepted-keeps-rules : (capture : List ℕ) → scan capture .verdict ≡ Sound → keepsRules (scan capture .map) ≡ true
-accepted-keeps-rules capture h =
-    let s = scanned capture h in
+pub accepted-keeps-rules : (strictness : Strictness) (capture : List ℕ) → scan strictness capture .verdict ≡ Sound → keepsRules (scan strictness capture .map) ≡ true
+accepted-keeps-rules strictness capture h =
+    let s = scanned strictness capture h in
     let t = s .t in
     let found = walkOf capture t .found in
     let b = books capture s in
@@ -40,11 +41,11 @@ accepted-keeps-rules capture h =
     (rules-kept capture t (s .rules) (b .r38)))
 
 -- a question to it has its answer without 61
-module _ (capture : List ℕ) (h : scan capture .verdict ≡ Sound) where
-  pub accepted-route : (number : ℕ) → routeOf (scan capture .map) number ≡ arrival (says (scan capture .map)) number
+module _ (strictness : Strictness) (capture : List ℕ) (h : scan strictness capture .verdict ≡ Sound) where
+  pub accepted-route : (number : ℕ) → routeOf (scan strictness capture .map) number ≡ arrival (says (scan strictness capture .map)) number
   unfolding routeOf
-  accepted-route number = yes-if _ _ _ (accepted-keeps-rules capture h)
+  accepted-route number = yes-if _ _ _ (accepted-keeps-rules strictness capture h)
 
-  pub accepted-trace : (vector number : ℕ) → traceOf (scan capture .map) vector number ≡ traced (says (scan capture .map)) vector number
+  pub accepted-trace : (vector number : ℕ) → traceOf (scan strictness capture .map) vector number ≡ traced (says (scan strictness capture .map)) vector number
   unfolding traceOf
-  accepted-trace vector number = yes-if _ _ _ (accepted-keeps-rules capture h)
+  accepted-trace vector number = yes-if _ _ _ (accepted-keeps-rules strictness capture h)

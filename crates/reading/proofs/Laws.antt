@@ -13,6 +13,7 @@ use Rattle.words.specs.declared.Verdict.the-variants.{Sound, Refused}
 use Rattle.words.proofs.Choices.{yes-if, no-if}
 use Rattle.words.proofs.Verdicts.{first-kept, joined-refused, joined-sound}
 use Rattle.tables.specs.Survey.{tablesOf, surveyRules, survey}
+use Rattle.tables.specs.declared.Strictness.{Strictness}
 use Rattle.tables.specs.declared.Table.{Table}
 use Rattle.tables.specs.declared.Tables.{Tables}
 use Rattle.tables.specs.declared.Survey.the-variants as surveys
@@ -84,21 +85,22 @@ module _ (capture : List ℕ) (t : Tables) (answer : Scan) where
   walk-sound h = rw (after-walk capture t) (joined-sound turnedDown (walkRules _ _) _ _ (sym (walk-verdict _ _ _) ∙ h))
 
 -- all rules, by what stands before 31 and after
-pub in-two : (capture : List ℕ) → let t = tablesOf capture in allRules capture ≡ surveyRules capture ++ (madtRules capture t ++ lineRules capture t)
-unfolding allRules rulesBefore51
-in-two capture = append-assoc (surveyRules capture) _ _
+module _ (strictness : Strictness) (capture : List ℕ) where
+  pub in-two : let t = tablesOf capture in allRules strictness capture ≡ surveyRules strictness capture ++ (madtRules capture t ++ lineRules capture t)
+  unfolding allRules rulesBefore51
+  in-two = append-assoc (surveyRules strictness capture) _ _
 
--- the survey, refused or not
-pub scan-refused : (capture : List ℕ) {refusal : Refusal} → survey capture ≡ surveys.Refused refusal → scan capture ≡ turnedDown refusal
-unfolding scan
-scan-refused capture h = rw (in-two capture) (joined-refused turnedDown (surveyRules capture) _ _ (survey-told capture h))
+  -- the survey, refused or not
+  pub scan-refused : {refusal : Refusal} → survey strictness capture ≡ surveys.Refused refusal → scan strictness capture ≡ turnedDown refusal
+  unfolding scan
+  scan-refused h = rw in-two (joined-refused turnedDown (surveyRules strictness capture) _ _ (survey-told strictness capture h))
 
-pub scan-found : (capture : List ℕ) {t : Tables} → survey capture ≡ surveys.Found t
-    → scan capture ≡ unless turnedDown (firstRefusal (madtRules capture t ++ lineRules capture t)) (accepted t (walkOf capture t .found .map))
-unfolding scan
-scan-found capture h =
-    rw (in-two capture) (joined-sound turnedDown (surveyRules capture) _ _ (survey-told capture h))
-    ∙ ap (λ (t : Tables). unless turnedDown (firstRefusal (madtRules capture t ++ lineRules capture t)) (accepted t (walkOf capture t .found .map))) (survey-is capture h)
+  pub scan-found : {t : Tables} → survey strictness capture ≡ surveys.Found t
+      → scan strictness capture ≡ unless turnedDown (firstRefusal (madtRules capture t ++ lineRules capture t)) (accepted t (walkOf capture t .found .map))
+  unfolding scan
+  scan-found h =
+      rw in-two (joined-sound turnedDown (surveyRules strictness capture) _ _ (survey-told strictness capture h))
+      ∙ ap (λ (t : Tables). unless turnedDown (firstRefusal (madtRules capture t ++ lineRules capture t)) (accepted t (walkOf capture t .found .map))) (survey-is strictness capture h)
 
 -- the list has room, or not
 pub answered-read : (table : List ℕ) (map : Map) (list : List ℕ) → hasRoom (processors table) list ≡ true

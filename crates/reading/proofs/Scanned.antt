@@ -9,6 +9,7 @@ use Rattle.words.specs.declared.Verdict.{Verdict}
 use Rattle.words.specs.declared.Verdict.the-variants.{Sound, Refused}
 use Rattle.words.proofs.Verdicts.{unless-told, unless-sound, both-sound, joined-kept}
 use Rattle.tables.specs.Survey.{tablesOf, surveyRules, survey}
+use Rattle.tables.specs.declared.Strictness.{Strictness}
 use Rattle.tables.specs.declared.Tables.{Tables}
 use Rattle.tables.specs.declared.Survey.the-variants as surveys
 use Rattle.lines.specs.Rules.{tooMany, firstBroken}
@@ -22,31 +23,31 @@ use Rattle.reading.proofs.Laws.{map-judged, laterRules, after-walk, in-
 abbrev verdictOf : Scan → Verdict
 verdictOf s = s .verdict
 
-pub scan-verdict : (capture : List ℕ) → scan capture .verdict ≡ firstRefusal (allRules capture)
+pub scan-verdict : (strictness : Strictness) (capture : List ℕ) → scan strictness capture .verdict ≡ firstRefusal (allRules strictness capture)
 unfolding scan turnedDown accepted
-scan-verdict capture = unless-told turnedDown verdictOf (λ r. refl) _ _ refl
+scan-verdict strictness capture = unless-told turnedDown verdictOf (λ r. refl) _ _ refl
 
 -- and where tables were found, of those after them
-pub found-verdict : (capture : List ℕ) {t : Tables} → survey capture ≡ surveys.Found t
-    → scan capture .verdict ≡ firstRefusal (walkRules (madtBytes capture (t .madt)) (t .madt .place) ++ laterRules capture t)
+pub found-verdict : (strictness : Strictness) (capture : List ℕ) {t : Tables} → survey strictness capture ≡ surveys.Found t
+    → scan strictness capture .verdict ≡ firstRefusal (walkRules (madtBytes capture (t .madt)) (t .madt .place) ++ laterRules capture t)
 unfolding turnedDown accepted
-found-verdict capture {t} h =
-    ap verdictOf (scan-found capture h) ∙ unless-told turnedDown verdictOf (λ r. refl) _ _ refl ∙ ap firstRefusal (after-walk capture t)
+found-verdict strictness capture {t} h =
+    ap verdictOf (scan-found strictness capture h) ∙ unless-told turnedDown verdictOf (λ r. refl) _ _ refl ∙ ap firstRefusal (after-walk capture t)
 
-pub record Scanned (capture : List ℕ) : Type 0 where
+pub record Scanned (strictness : Strictness) (capture : List ℕ) : Type 0 where
   pub t : Tables
-  pub tables : survey capture ≡ surveys.Found t
+  pub tables : survey strictness capture ≡ surveys.Found t
   pub walk : walkOf capture t .verdict ≡ Sound
   pub rules : firstRefusal (laterRules capture t) ≡ Sound
-  pub map : scan capture .map ≡ walkOf capture t .found .map
-  pub madt : scan capture .madt ≡ t .madt
+  pub map : scan strictness capture .map ≡ walkOf capture t .found .map
+  pub madt : scan strictness capture .madt ≡ t .madt
 
-pub scanned : (capture : List ℕ) → scan capture .verdict ≡ Sound → Scanned capture
+pub scanned : (strictness : Strictness) (capture : List ℕ) → scan strictness capture .verdict ≡ Sound → Scanned strictness capture
 unfolding survey scan accepted
-scanned capture h =
+scanned strictness capture h =
     let t = tablesOf capture in
-    let sound = sym (scan-verdict capture) ∙ h in
-    let kept = joined-kept (surveyRules capture) (madtRules capture t ++ lineRules capture t) (rw (in-two capture) at sound) in
+    let sound = sym (scan-verdict strictness capture) ∙ h in
+    let kept = joined-kept (surveyRules strictness capture) (madtRules capture t ++ lineRules capture t) (rw (in-two strictness capture) at sound) in
     let after = joined-kept (walkRules (madtBytes capture (t .madt)) (t .madt .place)) (laterRules capture t) (rw (after-walk capture t) at (kept .1)) in
     let left = unless-sound turnedDown _ (accepted t (walkOf capture t .found .map)) sound in
     record {

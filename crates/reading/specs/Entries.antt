@@ -1,10 +1,12 @@
 -- The C entries: every result is one number of 64 bits, a refusal as "refusal number × 2^48 + place", an answer below 2^48.
+-- W-207 of document 02: "the C bench must keep the old rule", so that they give the strict reading.
 use Prim.Native.Nat.{ℕ, _*_}
 use mathlib.Core.List.{List}
 use lib.Dec.{leb}
 use lib.ListN.{length}
 use Rattle.words.specs.Choice.{if}
 use Rattle.words.specs.Refusals.{refused, unless}
+use Rattle.tables.specs.declared.Strictness.the-variants.{Strict}
 use Rattle.lines.specs.Answers.{refusalCode, routeOf, traceOf, routeCode, traceCode}
 use Rattle.processors.specs.Image.{image}
 use Rattle.processors.specs.Listing.{processors, count, filled}
@@ -23,16 +25,16 @@ readCode (answers.Read processors) = processors
 readCode (answers.Refused refusal) = refusalCode refusal
 
 unfoldable pub readResult : List ℕ → List ℕ → ℕ
-readResult capture list = unless refusalCode (scan capture .verdict) (readCode (answerIn (madtFound capture) list))
+readResult capture list = unless refusalCode (scan Strict capture .verdict) (readCode (answerIn (madtFound Strict capture) list))
 
 -- the bytes afterwards
 unfoldable pub bytesAfter : List ℕ → List ℕ → List ℕ
-bytesAfter capture list = unless (λ refusal. list) (scan capture .verdict) (filled (image (processors (madtFound capture))) list)
+bytesAfter capture list = unless (λ refusal. list) (scan Strict capture .verdict) (filled (image (processors (madtFound Strict capture))) list)
 
 -- ---- questions to the map: where a global number arrives
 unfoldable pub routeResult : List ℕ → ℕ → ℕ
-routeResult capture number = unless refusalCode (scan capture .verdict) (routeCode (routeOf (scan capture .map) number))
+routeResult capture number = unless refusalCode (scan Strict capture .verdict) (routeCode (routeOf (scan Strict capture .map) number))
 
 -- what arrives at a core vector of a capture's map with a number
 unfoldable pub traceResult : List ℕ → ℕ → ℕ → ℕ
-traceResult capture vector number = unless refusalCode (scan capture .verdict) (traceCode (traceOf (scan capture .map) vector number))
+traceResult capture vector number = unless refusalCode (scan Strict capture .verdict) (traceCode (traceOf (scan Strict capture .map) vector number))

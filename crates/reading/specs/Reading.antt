@@ -4,6 +4,7 @@ use mathlib.Core.List.{List}
 use Rattle.words.specs.Choice.{if}
 use Rattle.words.specs.Refusals.{refused, unless}
 use Rattle.words.specs.declared.Refusal.{Refusal}
+use Rattle.tables.specs.declared.Strictness.{Strictness}
 use Rattle.lines.specs.declared.Map.{Map}
 use Rattle.processors.specs.Listing.{processors, count, hasRoom, filled}
 use Rattle.reading.specs.Scan.{madtBytes, emptyMap, scan}
@@ -20,12 +21,15 @@ answered table map list =
     if (hasRoom (processors table) list) (record { answer = Read (count table); map = map }) (withoutMap (refused 60 0))
 
 -- the MADT's bytes where the scan found one
-unfoldable pub madtFound : List ℕ → List ℕ
-madtFound capture = madtBytes capture (scan capture .madt)
+unfoldable pub madtFound : Strictness → List ℕ → List ℕ
+madtFound strictness capture = madtBytes capture (scan strictness capture .madt)
 
-unfoldable pub readingOf : List ℕ → List ℕ → Reading
-readingOf capture list = unless withoutMap (scan capture .verdict) (answered (madtFound capture) (scan capture .map) list)
+unfoldable pub readingOf : Strictness → List ℕ → List ℕ → Reading
+readingOf strictness capture list =
+    let s = scan strictness capture in
+    unless withoutMap (s .verdict) (answered (madtFound strictness capture) (s .map) list)
 
 -- the list afterwards: filled by an answer, untouched by a refusal
-unfoldable pub listAfter : List ℕ → List ℕ → List ℕ
-listAfter capture list = unless (λ refusal. list) (scan capture .verdict) (filled (processors (madtFound capture)) list)
+unfoldable pub listAfter : Strictness → List ℕ → List ℕ → List ℕ
+listAfter strictness capture list =
+    unless (λ refusal. list) (scan strictness capture .verdict) (filled (processors (madtFound strictness capture)) list)

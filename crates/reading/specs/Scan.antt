@@ -8,6 +8,7 @@ use Rattle.words.specs.declared.Refusal.{Refusal}
 use Rattle.words.specs.declared.Verdict.{Verdict}
 use Rattle.words.specs.declared.Verdict.the-variants.{Sound, Refused}
 use Rattle.tables.specs.Survey.{tablesOf, surveyRules}
+use Rattle.tables.specs.declared.Strictness.{Strictness}
 use Rattle.tables.specs.declared.Table.{Table}
 use Rattle.tables.specs.declared.Tables.{Tables}
 use Rattle.lines.specs.Says.{says}
@@ -65,18 +66,18 @@ lineRules capture t =
     rulesFrom51 (says (found .map)) (found .places) (t .fadt .place)
 
 -- all rules that come before 51: first 1 to 30, which crates/tables/specs/Survey lists
-unfoldable pub rulesBefore51 : List ℕ → List Verdict
-rulesBefore51 capture = surveyRules capture ++ madtRules capture (tablesOf capture)
+unfoldable pub rulesBefore51 : Strictness → List ℕ → List Verdict
+rulesBefore51 strictness capture = surveyRules strictness capture ++ madtRules capture (tablesOf capture)
 
 -- all rules up to 54
-unfoldable pub allRules : List ℕ → List Verdict
-allRules capture = rulesBefore51 capture ++ lineRules capture (tablesOf capture)
+unfoldable pub allRules : Strictness → List ℕ → List Verdict
+allRules strictness capture = rulesBefore51 strictness capture ++ lineRules capture (tablesOf capture)
 
 -- ---- what is found where none of them is broken
 unfoldable pub accepted : Tables → Map → Scan
 accepted t map = record { verdict = Sound; madt = t .madt; map = map }
 
-unfoldable pub scan : List ℕ → Scan
-scan capture =
+unfoldable pub scan : Strictness → List ℕ → Scan
+scan strictness capture =
     let t = tablesOf capture in
-    unless turnedDown (firstRefusal (allRules capture)) (accepted t (walkOf capture t .found .map))
+    unless turnedDown (firstRefusal (allRules strictness capture)) (accepted t (walkOf capture t .found .map))

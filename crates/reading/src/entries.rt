@@ -1,8 +1,10 @@
-// The C entries: plain numbers and byte slices in, one number of 64 bits out. include/yasmirand.h declares them. The map of a
+// The C entries: plain numbers and byte slices in, one number of 64 bits out. include/yasmirand.h declares them. They give the
+// strict reading. The map of a
 // capture that the scan accepts keeps all rules (proofs/AcceptedKeepsRules), so that its answers are had without 61.
 use crate::Answer;
 use lines::codes;
 use processors::Filled;
+use tables::Strictness;
 use words::Verdict;
 ghost use mathlib.Core.Path.{_≡_};
 ghost use Rattle.processors.specs.Image.{image};
@@ -36,7 +38,7 @@ pub extern "C" fn yasmirand_read(capture: &[u8], list: &mut [u8]) -> u64
     ensures { λ r. ⌜ r ≡ readResult (now (capture .entry)) (now (list .entry)) ⌝ }
     ensures { λ r. ⌜ now (list .exit) ≡ bytesAfter (now (capture .entry)) (now (list .entry)) ⌝ }
 {
-    let s = crate::scan_capture(capture);
+    let s = crate::scan_capture(Strictness::Strict, capture);
     let verdict = s.verdict;
     let madt = s.madt;
     match verdict {
@@ -50,7 +52,7 @@ pub extern "C" fn yasmirand_read(capture: &[u8], list: &mut [u8]) -> u64
 pub extern "C" fn yasmirand_route(capture: &[u8], number: u32) -> u64
     ensures { λ r. ⌜ r ≡ routeResult (now (capture .entry)) number ⌝ }
 {
-    let s = crate::scan_capture(capture);
+    let s = crate::scan_capture(Strictness::Strict, capture);
     let verdict = s.verdict;
     let map = s.map;
     match verdict {
@@ -64,7 +66,7 @@ pub extern "C" fn yasmirand_route(capture: &[u8], number: u32) -> u64
 pub extern "C" fn yasmirand_trace(capture: &[u8], vector: u32, number: u32) -> u64
     ensures { λ r. ⌜ r ≡ traceResult (now (capture .entry)) vector number ⌝ }
 {
-    let s = crate::scan_capture(capture);
+    let s = crate::scan_capture(Strictness::Strict, capture);
     let verdict = s.verdict;
     let map = s.map;
     match verdict {

@@ -15,6 +15,7 @@ use lines::Map;
 use madt::Found;
 use processors::Filled;
 use processors::Repeat;
+use tables::Strictness;
 use tables::Survey;
 use tables::Table;
 use tables::Tables;
@@ -144,10 +145,10 @@ fn scan_tables(capture: &[u8], t: Tables) -> Scan
 }
 
 // All rules up to 54, and what is found where none is broken.
-pub fn scan_capture(capture: &[u8]) -> Scan
-    ensures { λ r. ⌜ r ≡ scan (now (capture .entry)) ⌝ }
+pub fn scan_capture(strictness: Strictness, capture: &[u8]) -> Scan
+    ensures { λ r. ⌜ r ≡ scan strictness (now (capture .entry)) ⌝ }
 {
-    match tables::survey_capture(capture) {
+    match tables::survey_capture(strictness, capture) {
         Survey::Refused(refusal) => turn_down(refusal),
         Survey::Found(t) => scan_tables(capture, t),
     }
@@ -176,13 +177,12 @@ fn answer_list(table: &[u8], map: Map, list: &mut [u32]) -> Reading
     }
 }
 
-// The reading: UID and physical ID of each enabled processor are written to the front of the list, in table order. A refusal
-// leaves the list as it was.
-pub fn read(capture: &[u8], list: &mut [u32]) -> Reading
-    ensures { λ r. ⌜ r ≡ readingOf (now (capture .entry)) (now (list .entry)) ⌝ }
-    ensures { λ r. ⌜ now (list .exit) ≡ listAfter (now (capture .entry)) (now (list .entry)) ⌝ }
+// The reading of either strictness.
+fn read_by(strictness: Strictness, capture: &[u8], list: &mut [u32]) -> Reading
+    ensures { λ r. ⌜ r ≡ readingOf strictness (now (capture .entry)) (now (list .entry)) ⌝ }
+    ensures { λ r. ⌜ now (list .exit) ≡ listAfter strictness (now (capture .entry)) (now (list .entry)) ⌝ }
 {
-    let s = scan_capture(capture);
+    let s = scan_capture(strictness, capture);
     let verdict = s.verdict;
     let madt = s.madt;
     let map = s.map;
@@ -190,4 +190,21 @@ pub fn read(capture: &[u8], list: &mut [u32]) -> Reading
         Verdict::Refused(refusal) => without_map(refusal),
         Verdict::Sound => answer_list(madt_bytes(capture, madt), map, list),
     }
+}
+
+// The ordinary reading, which takes a MADT of any revision from 1 on: UID and physical ID of each enabled processor are written to
+// the front of the list, in table order. A refusal leaves the list as it was.
+pub fn read(capture: &[u8], list: &mut [u32]) -> Reading
+    ensures { λ r. ⌜ r ≡ readingOf Strictness.Ordinary (now (capture .entry)) (now (list .entry)) ⌝ }
+    ensures { λ r. ⌜ now (list .exit) ≡ listAfter Strictness.Ordinary (now (capture .entry)) (now (list .entry)) ⌝ }
+{
+    read_by(Strictness::Ordinary, capture, list)
+}
+
+// The strict reading, which takes a MADT of revision 1 alone, and else does the same.
+pub fn read_strictly(capture: &[u8], list: &mut [u32]) -> Reading
+    ensures { λ r. ⌜ r ≡ readingOf Strictness.Strict (now (capture .entry)) (now (list .entry)) ⌝ }
+    ensures { λ r. ⌜ now (list .exit) ≡ listAfter Strictness.Strict (now (capture .entry)) (now (list .entry)) ⌝ }
+{
+    read_by(Strictness::Strict, capture, list)
 }

@@ -20,11 +20,12 @@ use Rattle.tables.specs.Rsdp.{rsdpRules, xsdtField}
 use Rattle.tables.specs.Table.{headerSize, addressAt, headerAt, tableNamed, tableLength, cutShort, tableRules}
 use Rattle.tables.specs.Xsdt.{entryField, entryRules, xsdtRules}
 use Rattle.tables.specs.Finder.{firstNamed}
-use Rattle.tables.specs.Survey.{apic, facp, isNowhere, nameRules, bodyRules, withSci, tableOfEntry, madtOf, fadtOf, tablesFrom, xsdtOf, tablesOf, surveyRules, survey}
+use Rattle.tables.specs.Survey.{apic, facp, isNowhere, nameRules, lengthRules, madtFieldRules, withSci, tableOfEntry, madtOf, fadtOf, tablesFrom, xsdtOf, tablesOf, rulesBefore29, surveyRules, survey}
 use Rattle.tables.specs.declared.Table.{Table}
 use Rattle.tables.specs.declared.Tables.{Tables}
 use Rattle.tables.specs.declared.Entry.{Entry}
 use Rattle.tables.specs.declared.Entry.the-variants.{At, Nowhere}
+use Rattle.tables.specs.declared.Strictness.{Strictness}
 use Rattle.tables.specs.declared.Survey.{Survey}
 use Rattle.tables.specs.declared.Survey.the-variants.{Found, Refused}
 use Rattle.tables.proofs.Laws.{table-kept, entries-kept, named-counted}
@@ -72,10 +73,9 @@ both-inside capture xsdt sound through h =
       found-inside capture xsdt facp sound through (neither-right (isNowhere (firstNamed capture xsdt apic)) _ some),
     )
 
-long-enough : (capture : List ℕ) (madt fadt : Table) → firstRefusal (bodyRules capture madt fadt) ≡ verdicts.Sound
-    → (44 ≤ madt .length) × (48 ≤ fadt .length)
-unfolding bodyRules
-long-enough capture madt fadt h =
+long-enough : (madt fadt : Table) → firstRefusal (lengthRules madt fadt) ≡ verdicts.Sound → (44 ≤ madt .length) × (48 ≤ fadt .length)
+unfolding lengthRules
+long-enough madt fadt h =
     let first = first-sound _ 28 _ _ h in
     (ltb-false (madt .length) 44 (first .0), ltb-false (fadt .length) 48 (first-sound _ 28 _ _ (first .1) .0))
 
@@ -84,14 +84,15 @@ abbrev said : Survey → Verdict
 said (Found t) = verdicts.Sound
 said (Refused refusal) = verdicts.Refused refusal
 
-pub survey-told : (capture : List ℕ) {s : Survey} → survey capture ≡ s → firstRefusal (surveyRules capture) ≡ said s
+pub survey-told : (strictness : Strictness) (capture : List ℕ) {s : Survey} → survey strictness capture ≡ s
+    → firstRefusal (surveyRules strictness capture) ≡ said s
 unfolding survey
-survey-told capture h = sym (unless-told Refused said (λ r. refl) _ _ refl) ∙ ap said h
+survey-told strictness capture h = sym (unless-told Refused said (λ r. refl) _ _ refl) ∙ ap said h
 
-pub survey-is : (capture : List ℕ) {t : Tables} → survey capture ≡ Found t → tablesOf capture ≡ t
+pub survey-is : (strictness : Strictness) (capture : List ℕ) {t : Tables} → survey strictness capture ≡ Found t → tablesOf capture ≡ t
 unfolding survey
-survey-is capture {t} h =
-    let found : Found (tablesOf capture) ≡ Found t = sym (unless-sound Refused _ _ (survey-told capture h)) ∙ h in
+survey-is strictness capture {t} h =
+    let found : Found (tablesOf capture) ≡ Found t = sym (unless-sound Refused _ _ (survey-told strictness capture h)) ∙ h in
     cc
 
 -- what was found, from the XSDT on
@@ -101,11 +102,12 @@ pub record Accepted (capture : List ℕ) (t : Tables) : Type 0 where
   pub fadt : Lies capture (t .fadt) 48
 
 -- the MADT has its 44 bytes, the FADT its 48, and both lie wholly inside the capture
-pub tables-inside : (capture : List ℕ) (t : Tables) → survey capture ≡ Found t → Accepted capture t
-unfolding verdict surveyRules tablesOf tablesFrom withSci
-tables-inside capture t h =
+pub tables-inside : (strictness : Strictness) (capture : List ℕ) (t : Tables) → survey strictness capture ≡ Found t → Accepted capture t
+unfolding verdict surveyRules rulesBefore29 tablesOf tablesFrom withSci
+tables-inside strictness capture t h =
     let xsdt = xsdtOf capture in
-    let container = joined-kept (containerRules capture) _ (survey-told capture h) in
+    let before = joined-kept (rulesBefore29 capture) (madtFieldRules strictness capture (madtOf capture xsdt)) (survey-told strictness capture h) in
+    let container = joined-kept (containerRules capture) _ (before .0) in
     let present = joined-kept (presenceRules capture) _ (container .1) in
     let rsdp = joined-kept (rsdpRules capture (rsdpPlace capture)) _ (present .1) in
     let table = joined-kept (tableRules capture (xsdtField (rsdpPlace capture))) _ (rsdp .1) in
@@ -113,8 +115,8 @@ tables-inside capture t h =
     let entries = joined-kept (entryRules capture xsdt) _ (index .1) in
     let names = joined-kept (nameRules capture xsdt) _ (entries .1) in
     let lie = both-inside capture xsdt (container .0) (entries .0) (names .0) in
-    let long = long-enough capture (madtOf capture xsdt) (fadtOf capture xsdt) (names .1) in
-    rw (← survey-is capture h)
+    let long = long-enough (madtOf capture xsdt) (fadtOf capture xsdt) (names .1) in
+    rw (← survey-is strictness capture h)
     (record {
       sound = container .0;
       madt = record { behind = lie .0 .behind; inside = lie .0 .inside; long = long .0 };

@@ -1,5 +1,5 @@
 -- Laws of the tables' definitions: what each answer is, by what was found.
-use mathlib.Core.Bool.{false}
+use mathlib.Core.Bool.{false, not}
 use mathlib.Core.List.{List, _++_, append-assoc}
 use mathlib.Core.Path.{_≡_, refl, sym, ap, _∙_}
 use Prim.Native.Nat.{ℕ, _-_, _≤_, _<_}
@@ -22,12 +22,14 @@ use Rattle.tables.specs.Rsdp.{rsdpRules, xsdtField}
 use Rattle.tables.specs.Table.{addressAt, signature, headerAt, tableNamed, cutShort, tableRules, tableAt}
 use Rattle.tables.specs.Xsdt.{entryCount, entries, entryField, xsdtRules, entryRules}
 use Rattle.tables.specs.Finder.{names, namedFrom, firstNamed}
-use Rattle.tables.specs.Survey.{earlier, secondRule, nameRules, bodyRules, madtOf, fadtOf, tablesFrom, xsdtOf, tablesOf, surveyRules, survey}
+use Rattle.tables.specs.Survey.{earlier, secondRule, nameRules, lengthRules, wrongMadtRevision, madtFieldRules, bodyRules, madtOf, fadtOf, tablesFrom, xsdtOf, tablesOf, rulesBefore29, surveyRules, survey}
 use Rattle.tables.specs.declared.Table.{Table}
 use Rattle.tables.specs.declared.Checked.{Checked}
 use Rattle.tables.specs.declared.Checked.the-variants as checked
 use Rattle.tables.specs.declared.Entry.{Entry}
 use Rattle.tables.specs.declared.Entry.the-variants.{At, Nowhere}
+use Rattle.tables.specs.declared.Strictness.{Strictness}
+use Rattle.tables.specs.declared.Strictness.the-variants.{Ordinary, Strict}
 use Rattle.tables.specs.declared.Survey.the-variants.{Found, Refused}
 
 -- a table that no rule refuses is present and whole
@@ -80,33 +82,55 @@ named-counted capture xsdt letters entry h =
     let below = s .counted in
     omega arith
 
+-- lists of rules behind each other, the same from another end
+regroup : (a b c d e f g h last : List Verdict)
+    → (a ++ (b ++ (c ++ (d ++ (e ++ (f ++ (g ++ h))))))) ++ last ≡ (a ++ b) ++ (c ++ (d ++ (e ++ (f ++ (g ++ (h ++ last))))))
+regroup a b c d e f g h last =
+    rw (append-assoc a b, append-assoc a, append-assoc b, append-assoc c, append-assoc d, append-assoc e, append-assoc f, append-assoc g) refl
+
 -- the survey, by the answer for the RSDP
-module _ (capture : List ℕ) where
+module _ (strictness : Strictness) (capture : List ℕ) where
   abbrev fromRsdp : ℕ → List Verdict
   fromRsdp place =
       let xsdt = tableNamed capture (xsdtField place) in
       rsdpRules capture place
       ++ (tableRules capture (xsdtField place)
       ++ (xsdtRules capture xsdt
-      ++ (entryRules capture xsdt ++ (nameRules capture xsdt ++ bodyRules capture (madtOf capture xsdt) (fadtOf capture xsdt)))))
+      ++ (entryRules capture xsdt ++ (nameRules capture xsdt ++ bodyRules strictness capture (madtOf capture xsdt) (fadtOf capture xsdt)))))
 
-  survey-split : survey capture
+  rules-split : surveyRules strictness capture ≡ (containerRules capture ++ presenceRules capture) ++ fromRsdp (rsdpPlace capture)
+  unfolding surveyRules rulesBefore29 bodyRules xsdtOf
+  rules-split =
+      let rsdp = rsdpPlace capture in
+      let xsdt = xsdtOf capture in
+      regroup (containerRules capture) (presenceRules capture) (rsdpRules capture rsdp) (tableRules capture (xsdtField rsdp)) (xsdtRules capture xsdt)
+      (entryRules capture xsdt) (nameRules capture xsdt) (lengthRules (madtOf capture xsdt) (fadtOf capture xsdt))
+      (madtFieldRules strictness capture (madtOf capture xsdt))
+
+  survey-split : survey strictness capture
       ≡ unless Refused (firstRefusal ((containerRules capture ++ presenceRules capture) ++ fromRsdp (rsdpPlace capture))) (Found (tablesOf capture))
-  unfolding survey surveyRules xsdtOf
-  survey-split =
-      ap (λ (rules : List Verdict). unless Refused (firstRefusal rules) (Found (tablesOf capture)))
-      (sym (append-assoc (containerRules capture) (presenceRules capture) (fromRsdp (rsdpPlace capture))))
+  unfolding survey
+  survey-split = ap (λ (rules : List Verdict). unless Refused (firstRefusal rules) (Found (tablesOf capture))) rules-split
 
-  pub survey-refused : {refusal : Refusal} → rsdp capture ≡ roots.Refused refusal → survey capture ≡ Refused refusal
+  pub survey-refused : {refusal : Refusal} → rsdp capture ≡ roots.Refused refusal → survey strictness capture ≡ Refused refusal
   survey-refused h = survey-split ∙ joined-refused _ (containerRules capture ++ presenceRules capture) _ _ (root-told capture h)
 
   pub survey-at : {place : ℕ} → rsdp capture ≡ roots.At place
-      → survey capture ≡ unless Refused (firstRefusal (fromRsdp place)) (Found (tablesFrom capture (tableNamed capture (xsdtField place))))
+      → survey strictness capture ≡ unless Refused (firstRefusal (fromRsdp place)) (Found (tablesFrom capture (tableNamed capture (xsdtField place))))
   unfolding tablesOf xsdtOf
   survey-at {place} h =
       survey-split ∙ joined-sound _ (containerRules capture ++ presenceRules capture) _ _ (root-told capture h)
       ∙ ap (λ (p : ℕ). unless Refused (firstRefusal (fromRsdp p)) (Found (tablesFrom capture (tableNamed capture (xsdtField p)))))
       (rsdp-at capture place h)
+
+-- 29, in either reading
+pub revision-ordinary : (strictness : Strictness) (revision : ℕ) → strictness ≡ Ordinary → wrongMadtRevision strictness revision ≡ eqb revision 0
+unfolding wrongMadtRevision
+revision-ordinary strictness revision h = rw h
+
+pub revision-strict : (strictness : Strictness) (revision : ℕ) → strictness ≡ Strict → wrongMadtRevision strictness revision ≡ not (eqb revision 1)
+unfolding wrongMadtRevision
+revision-strict strictness revision h = rw h
 
 -- the earlier of two entries, by cases
 pub earlier-none : (entry other : Entry) → entry ≡ Nowhere → earlier entry other ≡ other

@@ -24,6 +24,7 @@ use Rattle.tables.specs.declared.Entry.the-variants.{At, Nowhere}
 use Rattle.tables.specs.declared.Named.{Named}
 use Rattle.tables.specs.declared.Names.{Names}
 use Rattle.tables.specs.declared.Names.the-variants.{Are, Refused}
+use Rattle.tables.specs.declared.Strictness.{Strictness}
 use Rattle.tables.specs.declared.Survey.the-variants as surveys
 use Rattle.capture.specs.Presence.{Present}
 use Rattle.tables.proofs.Laws.{table-kept, table-told, table-is, names-present}
@@ -138,7 +139,7 @@ module _ (capture : List ℕ) (xsdt : Table) {madt fadt : Named} (m : madt ≡ n
   unfolding nameRules named
   names-27 h {verdict} e = first-kept _ 26 _ _ (rw (m, f) at h) (first-alone _ ∙ (rw (m, f) at e))
 
-  pub names-tables : unless surveys.Refused (firstRefusal (bodyRules capture (madt .table) (fadt .table))) (surveys.Found (withSci capture (madt .table) (fadt .table)))
-      ≡ unless surveys.Refused (firstRefusal (bodyRules capture (madtOf capture xsdt) (fadtOf capture xsdt))) (surveys.Found (tablesFrom capture xsdt))
+  pub names-tables : (strictness : Strictness) → unless surveys.Refused (firstRefusal (bodyRules strictness capture (madt .table) (fadt .table))) (surveys.Found (withSci capture (madt .table) (fadt .table)))
+      ≡ unless surveys.Refused (firstRefusal (bodyRules strictness capture (madtOf capture xsdt) (fadtOf capture xsdt))) (surveys.Found (tablesFrom capture xsdt))
   unfolding named madtOf fadtOf tablesFrom
-  names-tables = rw (m, f)
+  names-tables strictness = rw (m, f)

@@ -1,5 +1,5 @@
 -- Document 01, "Tables" and "Refusals in order": the MADT, the FADT and the SCI number of a capture, or the first refusal of
--- 1 to 30.
+-- 1 to 30. How strict a reading is, is handed in.
 use Prim.Native.Nat.{ℕ, _+_}
 use Prim.Native.Char.{code}
 use mathlib.Core.Bool.{Bool, true, false, not, _||_}
@@ -20,6 +20,8 @@ use Rattle.tables.specs.declared.Table.{Table}
 use Rattle.tables.specs.declared.Tables.{Tables}
 use Rattle.tables.specs.declared.Entry.{Entry}
 use Rattle.tables.specs.declared.Entry.the-variants.{At, Nowhere}
+use Rattle.tables.specs.declared.Strictness.{Strictness}
+use Rattle.tables.specs.declared.Strictness.the-variants.{Ordinary, Strict}
 use Rattle.tables.specs.declared.Survey.{Survey}
 use Rattle.tables.specs.declared.Survey.the-variants.{Found, Refused}
 
@@ -52,22 +54,33 @@ nameRules capture xsdt =
     ∷ secondRule xsdt (earlier (secondNamed capture xsdt apic) (secondNamed capture xsdt facp))
     ∷ []
 
--- 29: "MADT: revision 1"; how strict the rule is stands here alone
-unfoldable pub wrongMadtRevision : ℕ → Bool
-wrongMadtRevision revision = not (eqb revision 1)
+-- 28: "MADT under 44, then FADT under 48"
+unfoldable pub lengthRules : Table → Table → List Verdict
+lengthRules madt fadt =
+    rule (ltb (madt .length) 44) 28 (madt .place)
+    ∷ rule (ltb (fadt .length) 48) 28 (fadt .place)
+    ∷ []
+
+-- 29, as W-207 of document 02 has it: "29 for revision 0 in the ordinary reading, for other than 1 in the strict one". The two
+-- readings differ here alone.
+unfoldable pub wrongMadtRevision : Strictness → ℕ → Bool
+wrongMadtRevision Ordinary revision = eqb revision 0
+wrongMadtRevision Strict revision = not (eqb revision 1)
 
 -- 30: "flags at 40 zero", of 32 bits
 unfoldable pub wrongFlags : List ℕ → Table → Bool
 wrongFlags capture madt = not (eqb (numberAt 4 capture (madt .place + 40)) 0)
 
--- 28: "MADT under 44, then FADT under 48"; then 29 and 30
-unfoldable pub bodyRules : List ℕ → Table → Table → List Verdict
-bodyRules capture madt fadt =
-    rule (ltb (madt .length) 44) 28 (madt .place)
-    ∷ rule (ltb (fadt .length) 48) 28 (fadt .place)
-    ∷ rule (wrongMadtRevision (revision capture (madt .place))) 29 (madt .place)
+-- 29 and 30, at the MADT
+unfoldable pub madtFieldRules : Strictness → List ℕ → Table → List Verdict
+madtFieldRules strictness capture madt =
+    rule (wrongMadtRevision strictness (revision capture (madt .place))) 29 (madt .place)
     ∷ rule (wrongFlags capture madt) 30 (madt .place)
     ∷ []
+
+-- what is left to ask where MADT and FADT are found: 28 to 30
+unfoldable pub bodyRules : Strictness → List ℕ → Table → Table → List Verdict
+bodyRules strictness capture madt fadt = lengthRules madt fadt ++ madtFieldRules strictness capture madt
 
 -- "SCI_INT is the 16 bits at 46"
 unfoldable pub sciNumber : List ℕ → Table → ℕ
@@ -98,10 +111,11 @@ xsdtOf capture = tableNamed capture (xsdtField (rsdpPlace capture))
 unfoldable pub tablesOf : List ℕ → Tables
 tablesOf capture = tablesFrom capture (xsdtOf capture)
 
--- the order of refusals 1 to 30: "the XSDT goes through 20 to 25, then its entries in turn, each through 20 to 22. 26 and 27 come
--- after all entries". What stands nowhere has place 0: a rule that looks at a place comes after the rule that the thing is there.
-unfoldable pub surveyRules : List ℕ → List Verdict
-surveyRules capture =
+-- the order of refusals 1 to 28, which no reading asks otherwise than another: "the XSDT goes through 20 to 25, then its entries in turn,
+-- each through 20 to 22. 26 and 27 come after all entries". What stands nowhere has place 0: a rule that looks at a place comes after
+-- the rule that the thing is there.
+unfoldable pub rulesBefore29 : List ℕ → List Verdict
+rulesBefore29 capture =
     let rsdp = rsdpPlace capture in
     let xsdt = xsdtOf capture in
     containerRules capture  -- 1 to 6
@@ -111,7 +125,11 @@ surveyRules capture =
     ++ (xsdtRules capture xsdt  -- 23 to 25
     ++ (entryRules capture xsdt  -- 20 to 22 of each entry
     ++ (nameRules capture xsdt  -- 26, 27
-    ++ bodyRules capture (madtOf capture xsdt) (fadtOf capture xsdt)))))))  -- 28 to 30
+    ++ lengthRules (madtOf capture xsdt) (fadtOf capture xsdt)))))))  -- 28
 
-unfoldable pub survey : List ℕ → Survey
-survey capture = unless Refused (firstRefusal (surveyRules capture)) (Found (tablesOf capture))
+-- and of 1 to 30
+unfoldable pub surveyRules : Strictness → List ℕ → List Verdict
+surveyRules strictness capture = rulesBefore29 capture ++ madtFieldRules strictness capture (madtOf capture (xsdtOf capture))
+
+unfoldable pub survey : Strictness → List ℕ → Survey
+survey strictness capture = unless Refused (firstRefusal (surveyRules strictness capture)) (Found (tablesOf capture))

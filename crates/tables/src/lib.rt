@@ -57,6 +57,12 @@ pub struct Tables {
     pub sci: u16,
 }
 
+// Which revisions of the MADT a reading takes (29): the ordinary one any of 1 or more, the strict one 1 alone.
+pub enum Strictness {
+    Ordinary,
+    Strict,
+}
+
 pub enum Survey {
     Found(Tables),
     Refused(Refusal),
@@ -104,11 +110,14 @@ fn second_rule(xsdt: Table, second: Entry) -> Verdict
     }
 }
 
-// How strict rule 29 is.
-fn wrong_madt_revision(revision: u8) -> bool
-    ensures { λ r. ⌜ r ≡ wrongMadtRevision revision ⌝ }
+// Refusal 29.
+fn wrong_madt_revision(strictness: Strictness, revision: u8) -> bool
+    ensures { λ r. ⌜ r ≡ wrongMadtRevision strictness revision ⌝ }
 {
-    !(revision == 1)
+    match strictness {
+        Strictness::Ordinary => revision == 0,
+        Strictness::Strict => !(revision == 1),
+    }
 }
 
 // Refusal 30.
@@ -119,8 +128,8 @@ fn wrong_flags(capture: &[u8], madt: Table) -> bool
 }
 
 // Refusals 28 to 30.
-fn body_rules(capture: &[u8], madt: Table, fadt: Table) -> Verdict
-    ensures { λ r. ⌜ r ≡ firstRefusal (bodyRules (now (capture .entry)) madt fadt) ⌝ }
+fn body_rules(strictness: Strictness, capture: &[u8], madt: Table, fadt: Table) -> Verdict
+    ensures { λ r. ⌜ r ≡ firstRefusal (bodyRules strictness (now (capture .entry)) madt fadt) ⌝ }
 {
     if madt.length < MADT_LEAST {
         return Verdict::Refused(words::refuse(28, madt.place as u32));
@@ -128,7 +137,7 @@ fn body_rules(capture: &[u8], madt: Table, fadt: Table) -> Verdict
     if fadt.length < FADT_LEAST {
         return Verdict::Refused(words::refuse(28, fadt.place as u32));
     }
-    if wrong_madt_revision(headers::revision_of(capture, madt.place)) {
+    if wrong_madt_revision(strictness, headers::revision_of(capture, madt.place)) {
         return Verdict::Refused(words::refuse(29, madt.place as u32));
     }
     if wrong_flags(capture, madt) {
@@ -144,11 +153,11 @@ fn sci_number(capture: &[u8], fadt: Table) -> u16
 }
 
 // Refusals 28 to 30, and what is found.
-fn survey_tables(capture: &[u8], madt: Table, fadt: Table) -> Survey
+fn survey_tables(strictness: Strictness, capture: &[u8], madt: Table, fadt: Table) -> Survey
     ensures { λ r. let c = now (capture .entry) in
-        ⌜ r ≡ unless Survey.Refused (firstRefusal (bodyRules c madt fadt)) (Survey.Found (withSci c madt fadt)) ⌝ }
+        ⌜ r ≡ unless Survey.Refused (firstRefusal (bodyRules strictness c madt fadt)) (Survey.Found (withSci c madt fadt)) ⌝ }
 {
-    match body_rules(capture, madt, fadt) {
+    match body_rules(strictness, capture, madt, fadt) {
         Verdict::Refused(refusal) => Survey::Refused(refusal),
         Verdict::Sound => Survey::Found(Tables {
             madt,
@@ -159,11 +168,17 @@ fn survey_tables(capture: &[u8], madt: Table, fadt: Table) -> Survey
 }
 
 // Refusals 26 and 27, and what comes after.
-fn survey_names(capture: &[u8], xsdt: Table, madt: Named, fadt: Named) -> Survey
+fn survey_names(
+    strictness: Strictness,
+    capture: &[u8],
+    xsdt: Table,
+    madt: Named,
+    fadt: Named,
+) -> Survey
     requires { ⌜ madt ≡ named (now capture) xsdt apic ⌝ }
     requires { ⌜ fadt ≡ named (now capture) xsdt facp ⌝ }
     ensures { λ r. let c = now (capture .entry) in
-        let rules = nameRules c xsdt ++ bodyRules c (madtOf c xsdt) (fadtOf c xsdt) in
+        let rules = nameRules c xsdt ++ bodyRules strictness c (madtOf c xsdt) (fadtOf c xsdt) in
         ⌜ r ≡ unless Survey.Refused (firstRefusal rules) (Survey.Found (tablesFrom c xsdt)) ⌝ }
 {
     let first_madt = madt.first;
@@ -175,28 +190,28 @@ fn survey_names(capture: &[u8], xsdt: Table, madt: Named, fadt: Named) -> Survey
     let second_fadt = fadt.second;
     match second_rule(xsdt, earlier_of(second_madt, second_fadt)) {
         Verdict::Refused(refusal) => Survey::Refused(refusal),
-        Verdict::Sound => survey_tables(capture, madt.table, fadt.table),
+        Verdict::Sound => survey_tables(strictness, capture, madt.table, fadt.table),
     }
 }
 
 // Refusals 23 to 25, those of the entries, and what comes after.
-fn survey_xsdt(capture: &[u8], xsdt: Table) -> Survey
+fn survey_xsdt(strictness: Strictness, capture: &[u8], xsdt: Table) -> Survey
     requires { ⌜ verdict (now capture) ≡ Sound ⌝ }
     ensures { λ r. let c = now (capture .entry) in
-        let rules = xsdtRules c xsdt ++ (entryRules c xsdt ++ (nameRules c xsdt ++ bodyRules c (madtOf c xsdt) (fadtOf c xsdt))) in
+        let rules = xsdtRules c xsdt ++ (entryRules c xsdt ++ (nameRules c xsdt ++ bodyRules strictness c (madtOf c xsdt) (fadtOf c xsdt))) in
         ⌜ r ≡ unless Survey.Refused (firstRefusal rules) (Survey.Found (tablesFrom c xsdt)) ⌝ }
 {
     match xsdt::xsdt_rules(capture, xsdt) {
         Verdict::Refused(refusal) => Survey::Refused(refusal),
         Verdict::Sound => match xsdt::find_names(capture, xsdt) {
             Names::Refused(refusal) => Survey::Refused(refusal),
-            Names::Are(madt, fadt) => survey_names(capture, xsdt, madt, fadt),
+            Names::Are(madt, fadt) => survey_names(strictness, capture, xsdt, madt, fadt),
         },
     }
 }
 
 // Refusals 11 to 14, the XSDT's 20 to 22, and what comes after.
-fn survey_rsdp(capture: &[u8], place: u16) -> Survey
+fn survey_rsdp(strictness: Strictness, capture: &[u8], place: u16) -> Survey
     requires { ⌜ verdict (now capture) ≡ Sound ⌝ }
     ensures { λ r. let c = now (capture .entry) in
         let xsdt = tableNamed c (xsdtField place) in
@@ -204,25 +219,25 @@ fn survey_rsdp(capture: &[u8], place: u16) -> Survey
         rsdpRules c place
         ++ (tableRules c (xsdtField place)
         ++ (xsdtRules c xsdt
-        ++ (entryRules c xsdt ++ (nameRules c xsdt ++ bodyRules c (madtOf c xsdt) (fadtOf c xsdt))))) in
+        ++ (entryRules c xsdt ++ (nameRules c xsdt ++ bodyRules strictness c (madtOf c xsdt) (fadtOf c xsdt))))) in
         ⌜ r ≡ unless Survey.Refused (firstRefusal rules) (Survey.Found (tablesFrom c xsdt)) ⌝ }
 {
     match rsdp::rsdp_rules(capture, place) {
         Verdict::Refused(refusal) => Survey::Refused(refusal),
         Verdict::Sound => match headers::check_table(capture, place as u32 + rsdp::XSDT_FIELD) {
             Checked::Refused(refusal) => Survey::Refused(refusal),
-            Checked::Is(xsdt) => survey_xsdt(capture, xsdt),
+            Checked::Is(xsdt) => survey_xsdt(strictness, capture, xsdt),
         },
     }
 }
 
 // Refusals 1 to 30: MADT, FADT and SCI number of a capture, or the first rule that it breaks.
-pub fn survey_capture(capture: &[u8]) -> Survey
-    ensures { λ r. ⌜ r ≡ survey (now (capture .entry)) ⌝ }
+pub fn survey_capture(strictness: Strictness, capture: &[u8]) -> Survey
+    ensures { λ r. ⌜ r ≡ survey strictness (now (capture .entry)) ⌝ }
 {
     match capture::find_rsdp(capture) {
         Root::Refused(refusal) => Survey::Refused(refusal),
-        Root::At(place) => survey_rsdp(capture, place),
+        Root::At(place) => survey_rsdp(strictness, capture, place),
     }
 }
 

@@ -21,10 +21,10 @@ scan-tables-requires : tie.Need-scan-tables-requires
 scan-tables-requires c κs = search needs
 
 returns : tie.Need-returns
-returns c = c .turn-down .ensures ∙ sym (scan-refused _ (sym (c .before .before .before .before .survey-capture .ensures) ∙ c .before .before .refusal .given .1))
+returns c = c .turn-down .ensures ∙ sym (scan-refused _ _ (sym (c .before .before .before .before .survey-capture .ensures) ∙ c .before .before .refusal .given .1))
 
 returns-2 : tie.Need-returns-2
-returns-2 c = c .scan-tables .ensures ∙ sym (scan-found _ (sym (c .before .before .before .before .survey-capture .ensures) ∙ c .before .before .t .given .1))
+returns-2 c = c .scan-tables .ensures ∙ sym (scan-found _ _ (sym (c .before .before .before .before .survey-capture .ensures) ∙ c .before .before .t .given .1))
 
 pub scan-capture-spec : {M : Type 1} → statement M
 scan-capture-spec =

@@ -4,7 +4,7 @@ use native.Mathlib.Omega.{arith}
 use borrow.Author.Tests.{lt-ltb, le-ltb}
 use Rattle.words.proofs.Verdicts.{first-none, first-broken, first-kept}
 use Rattle.words.specs.declared.Verdict.the-variants.{Refused}
-use Rattle.tables.specs.Survey.{wrongMadtRevision, bodyRules}
+use Rattle.tables.specs.Survey.{lengthRules, wrongMadtRevision, madtFieldRules, bodyRules}
 use borrow.Author.Needs.{needs}
 use Rattle.tables.proofs.body_rules.Statement.{statement}
 use Rattle.tables.proofs.body_rules.Tie as tie
@@ -16,7 +16,7 @@ refuse-requires : tie.Need-refuse-requires
 refuse-requires c κs = search needs
 
 returns : tie.Need-returns
-unfolding bodyRules
+unfolding bodyRules lengthRules madtFieldRules
 returns c =
     let a = c .before .before .before .before .before .args in
     ap Refused (c .refuse .ensures) ∙ sym (first-broken _ _ _ _ (lt-ltb (a .madt .length) 44 (omega arith)))
@@ -28,7 +28,7 @@ refuse-requires-2 : tie.Need-refuse-requires-2
 refuse-requires-2 c κs = search needs
 
 returns-2 : tie.Need-returns-2
-unfolding bodyRules
+unfolding bodyRules lengthRules madtFieldRules
 returns-2 c =
     let a = c .before .before .before .before .before .before .before .args in
     ap Refused (c .refuse2 .ensures)
@@ -47,11 +47,11 @@ refuse-requires-3 : tie.Need-refuse-requires-3
 refuse-requires-3 c κs = search needs
 
 returns-3 : tie.Need-returns-3
-unfolding bodyRules
+unfolding bodyRules lengthRules madtFieldRules
 returns-3 c =
     let a = c .before .before .before .before .before .before .before .before .before .before .args in
     let w = c .before .before .before in
-    let told = w .wrong-madt-revision .ensures ∙ ap wrongMadtRevision (w .before .revision-of .ensures) in
+    let told = w .wrong-madt-revision .ensures ∙ ap (wrongMadtRevision (a .strictness)) (w .before .revision-of .ensures) in
     ap Refused (c .refuse3 .ensures)
     ∙ sym (first-kept _ _ _ _ (le-ltb (a .madt .length) 44 (omega arith))
     (first-kept _ _ _ _ (le-ltb (a .fadt .length) 48 (omega arith))
@@ -67,12 +67,12 @@ refuse-requires-4 : tie.Need-refuse-requires-4
 refuse-requires-4 c κs = search needs
 
 returns-4 : tie.Need-returns-4
-unfolding bodyRules
+unfolding bodyRules lengthRules madtFieldRules
 returns-4 c =
     let a = c .before .before .before .before .before .before .before .before .before .before .before .before .args in
     let f = c .before .before .before in
     let w = f .before .before in
-    let told = w .wrong-madt-revision .ensures ∙ ap wrongMadtRevision (w .before .revision-of .ensures) in
+    let told = w .wrong-madt-revision .ensures ∙ ap (wrongMadtRevision (a .strictness)) (w .before .revision-of .ensures) in
     ap Refused (c .refuse4 .ensures)
     ∙ sym (first-kept _ _ _ _ (le-ltb (a .madt .length) 44 (omega arith))
     (first-kept _ _ _ _ (le-ltb (a .fadt .length) 48 (omega arith))
@@ -80,12 +80,12 @@ returns-4 c =
     (first-broken _ _ _ _ (sym (f .wrong-flags .ensures) ∙ c .before .before .if4 .taken)))))
 
 returns-5 : tie.Need-returns-5
-unfolding bodyRules
+unfolding bodyRules lengthRules madtFieldRules
 returns-5 c =
     let a = c .before .before .before .before .before .before .before .before .before .before .args in
     let f = c .before in
     let w = f .before .before in
-    let told = w .wrong-madt-revision .ensures ∙ ap wrongMadtRevision (w .before .revision-of .ensures) in
+    let told = w .wrong-madt-revision .ensures ∙ ap (wrongMadtRevision (a .strictness)) (w .before .revision-of .ensures) in
     sym (first-kept _ _ _ _ (le-ltb (a .madt .length) 44 (omega arith))
     (first-kept _ _ _ _ (le-ltb (a .fadt .length) 48 (omega arith))
     (first-kept _ _ _ _ (sym told ∙ f .before .if3 .left)

@@ -21,10 +21,10 @@ survey-rsdp-requires c κs =
     rsdp-of-sound (f .before .before .args .capture .now) (c .before .place .given .0 .0) (cc)
 
 returns : tie.Need-returns
-returns c = sym (survey-refused _ (cc))
+returns c = sym (survey-refused _ _ (cc))
 
 returns-2 : tie.Need-returns-2
-returns-2 c = (cc) ∙ sym (survey-at _ {place = c .before .before .place .given .0 .0} (cc))
+returns-2 c = (cc) ∙ sym (survey-at _ _ {place = c .before .before .place .given .0 .0} (cc))
 
 pub survey-capture-spec : {M : Type 1} → statement M
 survey-capture-spec =

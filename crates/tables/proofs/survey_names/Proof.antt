@@ -48,7 +48,7 @@ returns-2 c =
 returns-3 : tie.Need-returns-3
 returns-3 c =
     let pre = c .before .before .before .before .before .before .before .before .before .pre in
-    c .survey-tables .ensures ∙ names-tables _ _ (pre .0) (pre .1) ∙ sym (joined-sound _ (nameRules _ _) _ _ (names-27 _ _ (pre .0) (pre .1) (cc) (cc)))
+    c .survey-tables .ensures ∙ names-tables _ _ (pre .0) (pre .1) _ ∙ sym (joined-sound _ (nameRules _ _) _ _ (names-27 _ _ (pre .0) (pre .1) (cc) (cc)))
 
 pub survey-names-spec : {M : Type 1} → statement M
 survey-names-spec =

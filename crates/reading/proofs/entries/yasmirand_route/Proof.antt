@@ -45,7 +45,7 @@ returns-2 c =
     c .route-code .ensures
     ∙ ap routeCode (c .before .arrival .ensures)
     ∙ ap (λ (x : Scan). routeCode (arrival (says (x .map)) number)) (s .scan-capture .ensures)
-    ∙ ap routeCode (sym (accepted-route _ sound number))
+    ∙ ap routeCode (sym (accepted-route _ _ sound number))
     ∙ sym (unless-sound _ _ _ sound)
 
 pub yasmirand-route-spec : {M : Type 1} → statement M

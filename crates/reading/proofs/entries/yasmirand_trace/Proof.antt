@@ -45,7 +45,7 @@ returns-2 c =
     c .trace-code .ensures
     ∙ ap traceCode (c .before .traced .ensures)
     ∙ ap (λ (x : Scan). traceCode (traced (says (x .map)) (a .vector) (a .number))) (s .scan-capture .ensures)
-    ∙ ap traceCode (sym (accepted-trace _ sound (a .vector) (a .number)))
+    ∙ ap traceCode (sym (accepted-trace _ _ sound (a .vector) (a .number)))
     ∙ sym (unless-sound _ _ _ sound)
 
 pub yasmirand-trace-spec : {M : Type 1} → statement M

@@ -1,4 +1,4 @@
--- `reading::read` scans, and fills the list only where it answers.
+-- `reading::read_by` scans, and fills the list only where it answers.
 use mathlib.Core.List.{List}
 use Prim.Native.Nat.{ℕ}
 use Rattle.processors.specs.Listing.{processors, filled}
@@ -8,8 +8,8 @@ use Rattle.reading.specs.declared.Scan.{Scan}
 use mathlib.Core.Path.{ap, sym, _∙_}
 use Rattle.words.proofs.Verdicts.{unless-refused, unless-sound}
 use borrow.Author.Needs.{needs}
-use Rattle.reading.proofs.read.Statement.{statement}
-use Rattle.reading.proofs.read.Tie as tie
+use Rattle.reading.proofs.read_by.Statement.{statement}
+use Rattle.reading.proofs.read_by.Tie as tie
 
 scan-capture-requires : tie.Need-scan-capture-requires
 scan-capture-requires c κs = search needs
@@ -60,8 +60,8 @@ returns-2 c =
           ∙ sym (unless-sound _ _ _ sound),
     )
 
-pub read-spec : {M : Type 1} → statement M
-read-spec =
+pub read-by-spec : {M : Type 1} → statement M
+read-by-spec =
     tie.close
     (tie.spec
     scan-capture-requires
