@@ -327,7 +327,7 @@ static uint64_t address_of(const struct segment *segment, size_t segments, size_
     return segment[i].address + (offset - segment[i].offset);
 }
 
-static void fill(uint64_t seed, uint8_t *bytes, size_t length)
+void fill(uint64_t seed, uint8_t *bytes, size_t length)
 {
     struct random random = {seed};
 

@@ -163,6 +163,9 @@ struct capture {
     uint8_t sum_error[TABLES_ROOM]; /* what a table's bytes sum to; 0: its sum is good */
 };
 
+/* Fills bytes from a seed. */
+void fill(uint64_t seed, uint8_t *bytes, size_t length);
+
 /* Makes the capture, its sums all good. */
 void lay_out(struct board *board, struct capture *capture);
 void make_sums_good(struct capture *capture); /* ... or wrong by sum_error */

@@ -11,7 +11,7 @@
 
 /* A way to break one rule of a board that keeps them all. It is laid out in three steps, and a way takes part in one. */
 struct way {
-    unsigned refusal; /* the number that a reader must then give */
+    unsigned refusal; /* the number that the strict reading must then give */
     const char *what;
     void (*in_board)(struct random *random, struct board *board);
     void (*in_tables)(struct random *random, const struct board *board, struct capture *capture); /* sums come after it */

@@ -10,6 +10,28 @@
 
 const struct reader yasmirand = {"Yasmirand", yasmirand_read, yasmirand_route, yasmirand_trace};
 const struct reader reference = {"reference.c", reference_read, reference_route, reference_trace};
+const struct reader ordinary_reference = {"reference.c, ordinary reading", reference_ordinary_read, reference_ordinary_route,
+                                          reference_ordinary_trace};
+
+enum reading reading_of(const struct reader *reader)
+{
+    return reader == &ordinary_reference ? ORDINARY : STRICT;
+}
+
+const struct reader *reference_in(enum reading reading)
+{
+    return reading == ORDINARY ? &ordinary_reference : &reference;
+}
+
+const char *name_of_reading(enum reading reading)
+{
+    return reading == ORDINARY ? "ordinary" : "strict";
+}
+
+struct reference_refusal judge(const uint8_t *capture, size_t capture_len, enum reading reading)
+{
+    return reading == ORDINARY ? reference_ordinary_judge(capture, capture_len) : reference_judge(capture, capture_len);
+}
 
 enum { REFUSAL_SHIFT = 48, KIND_SHIFT = 40, BYTE_SHIFT = 32 };
 

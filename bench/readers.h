@@ -1,9 +1,10 @@
 /*
- * The two sides of every comparison, and their results in words.
+ * The two sides of every comparison, in which reading they answer, and their results in words.
  */
 #ifndef READERS_H
 #define READERS_H
 
+#include <stdbool.h>
 #include <stddef.h>
 #include <stdint.h>
 
@@ -17,7 +18,18 @@ struct reader {
     uint64_t (*trace)(const uint8_t *capture, size_t capture_len, uint32_t vector, uint32_t number);
 };
 
-extern const struct reader yasmirand, reference;
+/* Yasmirand's entries are the strict reading, and so is `reference`, which is compared with them (W-207). */
+extern const struct reader yasmirand, reference, ordinary_reference;
+
+enum reading reading_of(const struct reader *reader);
+const struct reader *reference_in(enum reading reading);
+const char *name_of_reading(enum reading reading);
+
+/* All that reference.c says of a capture's refusal in a reading. */
+struct reference_refusal judge(const uint8_t *capture, size_t capture_len, enum reading reading);
+
+/* Whether a reading takes a MADT revision, as W-207 says it: what this side expects of both. */
+bool takes_revision(uint8_t revision, enum reading reading);
 
 /* How results are coded. */
 uint64_t refused(uint64_t number, uint64_t place);

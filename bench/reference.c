@@ -280,7 +280,7 @@ static uint64_t find_named_tables(const struct capture *capture, struct tables *
 }
 
 /* Rule 29, all that the two readings differ in (W-207): both take revision 1, and the ordinary one takes those above it. */
-static bool takes_revision(enum reading reading, uint8_t revision)
+static bool takes_revision(uint8_t revision, enum reading reading)
 {
     return revision == 1 || (revision > 1 && reading == ORDINARY);
 }
@@ -303,7 +303,7 @@ static uint64_t find_tables(const struct capture *capture, struct tables *tables
         return refuse(28, tables->madt.place);
     if (tables->fadt.length < FADT_MIN)
         return refuse(28, tables->fadt.place);
-    if (!takes_revision(reading, madt[8]))
+    if (!takes_revision(madt[8], reading))
         return refuse(29, tables->madt.place);
     if (u32(madt + 40) != 0)
         return refuse(30, tables->madt.place);

@@ -241,6 +241,15 @@ static void add_structures(struct random *random, struct board *board)
 
 /* ---- Tables and memory ---- */
 
+uint8_t other_revision(struct random *random)
+{
+    static const uint8_t known[] = {2, 3, 5, 6, UINT8_MAX};
+
+    if (one_in(random, 4))
+        return 0;
+    return one_in(random, 4) ? (uint8_t)between(random, 2, UINT8_MAX) : known[below(random, sizeof known)];
+}
+
 static void add_other_tables(struct random *random, struct board *board)
 {
     static const char signatures[][4] = {"SSDT", "DSDT", "MCFG", "SRAT", "PPTT", "FADT", "MADT", "apic"};

@@ -1,5 +1,6 @@
 /*
- * Random boards that keep every rule of document 01, with the meaning that W-206 gives to a stretch that is present.
+ * Random boards that keep every rule of document 01, with the meaning that W-206 gives to a stretch that is present. Their
+ * MADT has revision 1, which both readings of W-207 take.
  */
 #ifndef VALID_H
 #define VALID_H
@@ -8,6 +9,9 @@
 #include "random.h"
 
 void make_valid_board(struct random *random, struct board *board);
+
+/* A MADT revision other than 1: often 0, which no reading takes, else one that the ordinary reading takes (W-207). */
+uint8_t other_revision(struct random *random);
 
 /* A node map: not 0, with many nodes or one. */
 uint64_t node_map(struct random *random);

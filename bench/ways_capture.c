@@ -464,9 +464,10 @@ static void fadt_too_short(struct random *random, struct board *board)
     board->table[FADT].length = between(random, TABLE_HEADER, FADT_MIN - 1);
 }
 
+/* For the strict reading; the ordinary one takes it, unless it is 0 (W-207). */
 static void madt_revision(struct random *random, struct board *board)
 {
-    spoil(random, &board->table[MADT].revision);
+    board->table[MADT].revision = other_revision(random);
 }
 
 static void madt_flags(struct random *random, struct board *board)

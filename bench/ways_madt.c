@@ -364,7 +364,9 @@ static void msi_wraps(struct random *random, struct board *board)
 
 static void bio_base(struct random *random, struct board *board)
 {
-    put_u16(some(random, board, BIO) + BIO_BASE, base_out_of_range(random));
+    uint8_t *bio = some(random, board, BIO);
+
+    put_u16(bio + BIO_BASE, base_out_of_range(random));
 }
 
 static void lpc_cascade(struct random *random, struct board *board)

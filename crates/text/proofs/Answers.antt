@@ -13,6 +13,7 @@ use Rattle.words.proofs.Choices.{yes-if, no-if}
 use Rattle.capture.specs.Fields.{version}
 use Rattle.words.specs.declared.Verdict.{Verdict}
 use Rattle.words.specs.declared.Verdict.the-variants as verdicts
+use Rattle.tables.specs.declared.Strictness.the-variants.{Strict}
 use Rattle.processors.specs.Listing.{processors, count, hasRoom, written, filled}
 use Rattle.processors.proofs.Filling.{twice-all, too-short, enough-room}
 use Rattle.reading.specs.Scan.{scan}
@@ -41,31 +42,31 @@ same-refusal e = cc
 
 -- what an accepted reading tells: of the map, and of the list that was lent to it
 pub record Listed (capture : List ℕ) (n : ℕ) : Type 0 where
-  pub sound : scan capture .verdict ≡ verdicts.Sound
-  pub map : readingOf capture lent .map ≡ scan capture .map
+  pub sound : scan Strict capture .verdict ≡ verdicts.Sound
+  pub map : readingOf Strict capture lent .map ≡ scan Strict capture .map
   pub few : 2 * n ≤ 512
-  pub inside : 2 * n ≤ length (listAfter capture lent)
-  pub front : take (2 * n) (listAfter capture lent) ≡ processors (madtFound capture)
+  pub inside : 2 * n ≤ length (listAfter Strict capture lent)
+  pub front : take (2 * n) (listAfter Strict capture lent) ≡ processors (madtFound Strict capture)
 
 module _ (capture : List ℕ) where
   -- a sound capture is read: the list has room
-  module _ (sound : scan capture .verdict ≡ verdicts.Sound) where
-    room : hasRoom (processors (madtFound capture)) lent ≡ true
+  module _ (sound : scan Strict capture .verdict ≡ verdicts.Sound) where
+    room : hasRoom (processors (madtFound Strict capture)) lent ≡ true
     unfolding hasRoom
-    room = le-leb (length (processors (madtFound capture))) 512 (list-long-enough capture sound)
+    room = le-leb (length (processors (madtFound Strict capture))) 512 (list-long-enough capture sound)
 
-    read : readingOf capture lent ≡ record { answer = Read (count (madtFound capture)); map = scan capture .map }
+    read : readingOf Strict capture lent ≡ record { answer = Read (count (madtFound Strict capture)); map = scan Strict capture .map }
     unfolding readingOf
     read = unless-sound _ _ _ sound ∙ answered-read _ _ _ room
 
-    after : listAfter capture lent ≡ processors (madtFound capture) ++ drop (length (processors (madtFound capture))) lent
+    after : listAfter Strict capture lent ≡ processors (madtFound Strict capture) ++ drop (length (processors (madtFound Strict capture))) lent
     unfolding listAfter filled written
     after = unless-sound _ _ _ sound ∙ yes-if _ _ _ room
 
-    sound-listed : {n : ℕ} → count (madtFound capture) ≡ n → Listed capture n
+    sound-listed : {n : ℕ} → count (madtFound Strict capture) ≡ n → Listed capture n
     sound-listed {n} e =
-        let entries = processors (madtFound capture) in
-        let two = twice-all (madtFound capture) in
+        let entries = processors (madtFound Strict capture) in
+        let two = twice-all (madtFound Strict capture) in
         let most = list-long-enough capture sound in
         let size = ap length after ∙ length-append entries (drop (length entries) lent) in
         record {
@@ -76,35 +77,35 @@ module _ (capture : List ℕ) where
           front = rw after (take-at entries (drop (length entries) lent) (2 * n) (omega arith));
         }
 
-  pub listed : {n : ℕ} → readingOf capture lent .answer ≡ Read n → Listed capture n
+  pub listed : {n : ℕ} → readingOf Strict capture lent .answer ≡ Read n → Listed capture n
   unfolding readingOf withoutMap
-  listed {n} h = by-verdict (scan capture .verdict) refl
+  listed {n} h = by-verdict (scan Strict capture .verdict) refl
     where
-      by-verdict : (v : Verdict) → scan capture .verdict ≡ v → Listed capture n
+      by-verdict : (v : Verdict) → scan Strict capture .verdict ≡ v → Listed capture n
       by-verdict verdicts.Sound sound = sound-listed sound (same-count (sym (ap (λ (r : Reading). r .answer) (read sound)) ∙ h))
       by-verdict (verdicts.Refused refusal) refused = not-read (sym (ap (λ (r : Reading). r .answer) (unless-refused withoutMap _ (answered _ _ _) refused)) ∙ h)
 
   -- the text by the reading's answer
-  pub text-refused : {refusal : Refusal} → readingOf capture lent .answer ≡ Refused refusal → textOf capture ≡ refusalLine refusal
+  pub text-refused : {refusal : Refusal} → readingOf Strict capture lent .answer ≡ Refused refusal → textOf capture ≡ refusalLine refusal
   unfolding readingOf textOf unless withoutMap
-  text-refused {refusal} h = by-verdict (scan capture .verdict) refl
+  text-refused {refusal} h = by-verdict (scan Strict capture .verdict) refl
     where
-      by-verdict : (v : Verdict) → scan capture .verdict ≡ v → textOf capture ≡ refusalLine refusal
+      by-verdict : (v : Verdict) → scan Strict capture .verdict ≡ v → textOf capture ≡ refusalLine refusal
       by-verdict verdicts.Sound sound = not-read (sym h ∙ ap (λ (r : Reading). r .answer) (read sound))
       by-verdict (verdicts.Refused r) refused =
           rw (refused, same-refusal (sym (ap (λ (r : Reading). r .answer) (unless-refused withoutMap _ (answered _ _ _) refused)) ∙ h))
 
-  pub text-read : {n : ℕ} → readingOf capture lent .answer ≡ Read n
-      → textOf capture ≡ mapText (version capture) (processors (madtFound capture)) (readingOf capture lent .map)
+  pub text-read : {n : ℕ} → readingOf Strict capture lent .answer ≡ Read n
+      → textOf capture ≡ mapText (version capture) (processors (madtFound Strict capture)) (readingOf Strict capture lent .map)
   unfolding textOf unless
   text-read h = let l = listed h in rw (l .sound, l .map)
 
 -- what is written of a map is the capture's text
-pub text-of-map : (capture : List ℕ) {n v : ℕ} {list : List ℕ} {reading : Reading} → reading ≡ readingOf capture lent
-    → list ≡ listAfter capture lent → v ≡ version capture → reading .answer ≡ Read n
+pub text-of-map : (capture : List ℕ) {n v : ℕ} {list : List ℕ} {reading : Reading} → reading ≡ readingOf Strict capture lent
+    → list ≡ listAfter Strict capture lent → v ≡ version capture → reading .answer ≡ Read n
     → mapText v (take (2 * n) list) (reading .map) ≡ textOf capture
 text-of-map capture {n} e g w h =
-    let read : readingOf capture lent .answer ≡ Read n = rw e at h in
+    let read : readingOf Strict capture lent .answer ≡ Read n = rw e at h in
     rw (e, g, w, listed capture read .front) (sym (text-read capture read))
 
 -- ---- a room that is too short, and one that has room

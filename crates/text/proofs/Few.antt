@@ -5,6 +5,7 @@ use Prim.Native.Nat.{ℕ, _≤_}
 use native.Mathlib.Omega.{arith}
 use lib.ListN.{length}
 use Rattle.words.specs.declared.Verdict.the-variants.{Sound}
+use Rattle.tables.specs.declared.Strictness.the-variants.{Strict}
 use Rattle.processors.specs.Listing.{processors}
 use Rattle.processors.proofs.AtMost256.{at-most-256}
 use Rattle.processors.proofs.Filling.{twice-all}
@@ -13,9 +14,9 @@ use Rattle.reading.specs.Reading.{madtFound}
 use Rattle.reading.proofs.Scanned.{scanned}
 
 -- two numbers for each processor
-pub list-long-enough : (capture : List ℕ) → scan capture .verdict ≡ Sound → length (processors (madtFound capture)) ≤ 512
+pub list-long-enough : (capture : List ℕ) → scan Strict capture .verdict ≡ Sound → length (processors (madtFound Strict capture)) ≤ 512
 unfolding madtFound
 list-long-enough capture sound =
-    let s = scanned capture sound in
+    let s = scanned Strict capture sound in
     let table = madtBytes capture (s .t .madt) in
     rw (s .madt) (omega (arith, twice-all table, at-most-256 table (s .t .madt .place) (s .t .sci) (s .walk)))

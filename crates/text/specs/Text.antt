@@ -5,6 +5,7 @@ use lib.ListN.{length}
 use Rattle.words.specs.Choice.{if}
 use Rattle.capture.specs.Fields.{version}
 use Rattle.words.specs.Refusals.{unless}
+use Rattle.tables.specs.declared.Strictness.the-variants.{Strict}
 use Rattle.lines.specs.Says.{says}
 use Rattle.lines.specs.Routes.{bridge}
 use Rattle.lines.specs.Answers.{routeOf}
@@ -36,10 +37,11 @@ mapParts version list map =
 unfoldable pub mapText : ℕ → List ℕ → Map → List ℕ
 mapText version list map = joined (mapParts version list map)
 
--- what is printed for a capture: its version, the processors of its MADT and its map, or its refusal
+-- what is printed for a capture: its version, the processors of its MADT and its map, or its refusal. It is the strict reading's: "The
+-- map program and the C bench must keep the old rule" (W-207 of document 02)
 unfoldable pub textOf : List ℕ → List ℕ
 textOf capture =
-    unless refusalLine (scan capture .verdict) (mapText (version capture) (processors (madtFound capture)) (scan capture .map))
+    unless refusalLine (scan Strict capture .verdict) (mapText (version capture) (processors (madtFound Strict capture)) (scan Strict capture .map))
 
 -- the answer of the writing: how long the text is, or that the room is too short for it
 unfoldable pub outcome : List ℕ → List ℕ → Written

@@ -1,10 +1,11 @@
 // The map on paper: the printed text of a capture's map, or of its refusal, in a lent room of bytes (document 01, "Board A and
-// its neighbours").
+// its neighbours"). It is the strict reading's: W-207 of document 02 keeps the old rule for the map program.
 use capture::version_of;
 use lines::Map;
 use lines::routes::used;
 use reading::Answer;
 use reading::Reading;
+use tables::Strictness;
 ghost use mathlib.Core.Path.{_≡_};
 ghost use Prim.Native.Nat.{_≤_};
 ghost use lib.ListN.{length};
@@ -54,8 +55,8 @@ fn put_map(room: &mut [u8], version: u16, list: &[u32], map: Map) -> usize
 // The text of a capture, by its reading. Where the room ends early, so does what is written; the answer is the text's length
 // all the same.
 fn put_text(room: &mut [u8], capture: &[u8], reading: Reading, list: &[u32]) -> usize
-    requires { ⌜ reading ≡ readingOf (now capture) lent ⌝ }
-    requires { ⌜ now list ≡ listAfter (now capture) lent ⌝ }
+    requires { ⌜ reading ≡ readingOf Strictness.Strict (now capture) lent ⌝ }
+    requires { ⌜ now list ≡ listAfter Strictness.Strict (now capture) lent ⌝ }
     ensures { λ r. ⌜ r ≡ length (textOf (now (capture .entry))) ⌝ }
     ensures { λ r. ⌜ now (room .exit) ≡ sets (now (room .entry)) 0 (textOf (now (capture .entry))) ⌝ }
     ensures { λ r. ⌜ r ≤ 16384 ⌝ }
@@ -76,7 +77,7 @@ pub fn write_text(capture: &[u8], room: &mut [u8]) -> Written
     ensures { λ r. ⌜ length (textOf (now (capture .entry))) ≤ 16384 ⌝ }
 {
     let mut list = [0u32; MOST_NUMBERS];
-    let reading = reading::read(capture, &mut list);
+    let reading = reading::read_strictly(capture, &mut list);
     let mut measure = [0u8; 1];
     let length = put_text(&mut measure, capture, reading, &list);
     if room.len() < length {

@@ -4,11 +4,11 @@ use borrow.Author.Needs.{needs}
 use Rattle.text.proofs.write_text.Statement.{statement}
 use Rattle.text.proofs.write_text.Tie as tie
 
-slice-aggregate-read : tie.Need-slice-aggregate-read
-slice-aggregate-read c = search needs
+slice-aggregate-read-strictly : tie.Need-slice-aggregate-read-strictly
+slice-aggregate-read-strictly c = search needs
 
-read-requires : tie.Need-read-requires
-read-requires c κs = search needs
+read-strictly-requires : tie.Need-read-strictly-requires
+read-strictly-requires c κs = search needs
 
 slice-aggregate-put-text : tie.Need-slice-aggregate-put-text
 slice-aggregate-put-text c = search needs
@@ -44,8 +44,8 @@ pub write-text-spec : {M : Type 1} → statement M
 write-text-spec =
     tie.close
     (tie.spec
-    slice-aggregate-read
-    read-requires
+    slice-aggregate-read-strictly
+    read-strictly-requires
     slice-aggregate-put-text
     slice-aggregate-put-text-2
     put-text-requires
