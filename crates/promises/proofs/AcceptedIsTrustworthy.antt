@@ -14,6 +14,7 @@ use Rattle.words.specs.declared.Verdict.{Verdict}
 use Rattle.words.specs.declared.Verdict.the-variants as verdicts
 use Rattle.kinds.specs.Ranges.{bitInBoth}
 use Rattle.clashes.proofs.Logic.{and-right}
+use Rattle.tables.specs.declared.Strictness.{Strictness}
 use Rattle.lines.specs.Says.{says}
 use Rattle.lines.specs.Routes.{arrival}
 use Rattle.lines.specs.Rules.{rangesKept, tooMany, lost, rulesTo43, rulesFrom51, mapRules, firstBroken, keepsRules, slotPlaces}
@@ -74,21 +75,21 @@ trustworthy map k n =
     }
 
 -- THE PROMISES
-pub accepted-is-trustworthy : (capture : List ℕ) → AcceptedIsTrustworthy capture
-accepted-is-trustworthy capture h =
-    trustworthy (scan capture .map) (accepted-keeps-rules capture h) (accepted-is-normal capture h)
+pub accepted-is-trustworthy : (strictness : Strictness) (capture : List ℕ) → AcceptedIsTrustworthy strictness capture
+accepted-is-trustworthy strictness capture h =
+    trustworthy (scan strictness capture .map) (accepted-keeps-rules strictness capture h) (accepted-is-normal strictness capture h)
 
 refused-read : {refusal : Refusal} {count : ℕ} {X : Type 0} → _≡_ {A = Answer} (Refused refusal) (Read count) → X
 refused-read e = absurd (let o : _≡_ {A = ℕ} 0 1 = cc in omega arith)
 
-pub read-is-trustworthy : (capture list : List ℕ) → ReadIsTrustworthy capture list
+pub read-is-trustworthy : (strictness : Strictness) (capture list : List ℕ) → ReadIsTrustworthy strictness capture list
 unfolding readingOf unless withoutMap answered
-read-is-trustworthy capture list count = go (scan capture .verdict) refl
+read-is-trustworthy strictness capture list count = go (scan strictness capture .verdict) refl
   where
-    go : (v : Verdict) → scan capture .verdict ≡ v → unless withoutMap v (answered (madtFound capture) (scan capture .map) list) .answer ≡ Read count
-        → Trustworthy (unless withoutMap v (answered (madtFound capture) (scan capture .map) list) .map)
+    go : (v : Verdict) → scan strictness capture .verdict ≡ v → unless withoutMap v (answered (madtFound strictness capture) (scan strictness capture .map) list) .answer ≡ Read count
+        → Trustworthy (unless withoutMap v (answered (madtFound strictness capture) (scan strictness capture .map) list) .map)
     go (verdicts.Refused r) e = λ h. refused-read h
     go verdicts.Sound e =
         if-cases (λ (r : Reading). r .answer ≡ Read count → Trustworthy (r .map)) _ _ _
-        (λ room h. accepted-is-trustworthy capture e)
+        (λ room h. accepted-is-trustworthy strictness capture e)
         (λ room h. refused-read h)

@@ -16,7 +16,7 @@ use Rattle.capture.specs.Rules.{wrongTotal, segmentBroken, segmentRules, contai
 use Rattle.capture.specs.Presence.{presenceRules}
 use Rattle.capture.proofs.Laws.{segments-first}
 use Rattle.capture.proofs.Within.{sound-length}
-use Rattle.promises.proofs.Told.{Told, tell, tell-none, none-told, rule-told, search-told}
+use Rattle.promises.proofs.Told.{isBefore29, Told, tell, tell-none, none-told, rule-told, search-told}
 
 -- where 5 is kept, the descriptors are inside the capture
 descriptors-inside : (capture : List ℕ) → wrongTotal capture ≡ false → descriptorsEnd capture ≤ length capture
@@ -29,27 +29,27 @@ descriptors-inside capture h =
     (neither-left (past || length-wrong) (not (eqb (descriptorsEnd capture + lengths capture (segmentCount capture)) (length capture))) h))
 
 -- 6
-segments-told : (capture : List ℕ) → wrongTotal capture ≡ false → Told capture (firstRefusal (segmentRules capture))
+segments-told : (capture : List ℕ) → wrongTotal capture ≡ false → Told isBefore29 capture (firstRefusal (segmentRules capture))
 unfolding segments numbersBelow descriptorsEnd descriptor headerSize
 segments-told capture h =
     rw (segments-first capture)
-    (search-told (Told capture) (segmentBroken capture) (λ (i : ℕ). Refused (refused 6 (descriptor capture i))) Sound 0 (segmentCount capture)
-    (λ i l below t. tell capture 6 (descriptor capture i) (refl, refl, refl) (omega arith, omega (arith, descriptors-inside capture h)))
+    (search-told (Told isBefore29 capture) (segmentBroken capture) (λ (i : ℕ). Refused (refused 6 (descriptor capture i))) Sound 0 (segmentCount capture)
+    (λ i l below t. tell isBefore29 capture 6 (descriptor capture i) (refl, refl, refl, refl) (omega arith, omega (arith, descriptors-inside capture h)))
     (omega arith))
 
 -- 1 to 6
-pub container-told : (capture : List ℕ) → Told capture (firstRefusal (containerRules capture))
+pub container-told : (capture : List ℕ) → Told isBefore29 capture (firstRefusal (containerRules capture))
 unfolding containerRules
 container-told capture =
-    rule-told capture _ 1 0 _ (tell-none capture 1 (refl, refl, refl), λ e. omega arith)
-    (λ t. rule-told capture _ 2 0 _ (tell-none capture 2 (refl, refl, refl), λ e. omega arith)
-    (λ t. rule-told capture _ 3 0 _ (tell-none capture 3 (refl, refl, refl), λ e. omega arith)
-    (λ t. rule-told capture _ 4 0 _ (tell-none capture 4 (refl, refl, refl), λ e. omega arith)
-    (λ t. rule-told capture _ 5 0 _ (tell-none capture 5 (refl, refl, refl), λ e. omega arith)
+    rule-told isBefore29 capture _ 1 0 _ (tell-none capture 1 (refl, refl, refl), refl)
+    (λ t. rule-told isBefore29 capture _ 2 0 _ (tell-none capture 2 (refl, refl, refl), refl)
+    (λ t. rule-told isBefore29 capture _ 3 0 _ (tell-none capture 3 (refl, refl, refl), refl)
+    (λ t. rule-told isBefore29 capture _ 4 0 _ (tell-none capture 4 (refl, refl, refl), refl)
+    (λ t. rule-told isBefore29 capture _ 5 0 _ (tell-none capture 5 (refl, refl, refl), refl)
     (λ t. segments-told capture t)))))
 
 -- 10
-pub presence-told : (capture : List ℕ) → verdict capture ≡ Sound → Told capture (firstRefusal (presenceRules capture))
+pub presence-told : (capture : List ℕ) → verdict capture ≡ Sound → Told isBefore29 capture (firstRefusal (presenceRules capture))
 unfolding presenceRules descriptorsEnd descriptor headerSize
 presence-told capture sound =
-    rule-told capture _ 10 10 _ (tell capture 10 10 (refl, refl, refl) (omega arith, omega (arith, sound-length capture sound))) (λ t. none-told capture)
+    rule-told isBefore29 capture _ 10 10 _ (tell isBefore29 capture 10 10 (refl, refl, refl, refl) (omega arith, omega (arith, sound-length capture sound))) (λ t. none-told isBefore29 capture)

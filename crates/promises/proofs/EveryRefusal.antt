@@ -2,10 +2,10 @@
 -- processor list it was lent as it found it."
 use Prim.Native.Nat.{ℕ, _+_, _≤_}
 use native.Mathlib.Omega.{arith}
-use mathlib.Core.Path.{_≡_, refl, sym, _∙_}
+use mathlib.Core.Path.{_≡_, refl, sym, ap, _∙_}
 use mathlib.Core.Logic.{inl, inr, ⊎-elim}
-use mathlib.Core.List.{List}
-use mathlib.Core.Bool.{Bool, true, false}
+use mathlib.Core.List.{List, _++_}
+use mathlib.Core.Bool.{Bool, true, false, true≢false}
 use lib.ListN.{length}
 use Rattle.words.specs.declared.Refusal.{Refusal}
 use Rattle.words.specs.Refusals.{firstRefusal}
@@ -18,6 +18,8 @@ use Rattle.tables.specs.declared.Tables.{Tables}
 use Rattle.tables.specs.declared.Survey.{Survey}
 use Rattle.tables.specs.declared.Survey.the-variants as surveys
 use Rattle.tables.proofs.Inside.{Accepted as TablesInside, tables-inside}
+use Rattle.tables.specs.declared.Strictness.{Strictness}
+use Rattle.tables.specs.declared.Strictness.the-variants.{Strict}
 use Rattle.lines.specs.Rules.{keepsRules}
 use Rattle.lines.specs.declared.Map.{Map}
 use Rattle.lines.specs.declared.Route.{Route}
@@ -43,11 +45,14 @@ use Rattle.promises.proofs.AcceptedIsTrustworthy.{accepted-is-trustwort
 use Rattle.promises.proofs.MapRefusals.{map-told}
 use Rattle.reading.proofs.Scanned.{found-verdict}
 use Rattle.promises.proofs.TableRefusals.{SurveyTold, survey-told}
-use Rattle.promises.proofs.Told.{Told, Inside, tell, tell-none, more-told, joined-told}
+use Rattle.promises.proofs.Told.{Told, isAfter30, isNot60, told-not-60, Inside, tell, tell-none, more-told, joined-told}
 use Rattle.promises.proofs.WhyRefused.{why-refused}
 use Rattle.promises.proofs.WalkRefusals.{walked-told}
 
 -- ---- 31 to 54
+abbrev pub rulesFrom31 : List ℕ → Tables → List Verdict
+rulesFrom31 capture t = walkRules (madtBytes capture (t .madt)) (t .madt .place) ++ laterRules capture t
+
 module _ (capture : List ℕ) (t : Tables) (inside : TablesInside capture t) where
   abbrev table : List ℕ
   table = madtBytes capture (t .madt)
@@ -59,79 +64,82 @@ module _ (capture : List ℕ) (t : Tables) (inside : TablesInside capture t) whe
   small = bytes-small capture (t .madt)
 
   -- of the structures
-  pub walk-of-told : Told capture (walkOf capture t .verdict)
+  pub walk-of-told : Told isAfter30 capture (walkOf capture t .verdict)
   walk-of-told = walked-told capture base (t .madt .length) (inside .madt .inside) table (t .sci) (inside .madt .long) small
 
 module _ (capture : List ℕ) (t : Tables) (inside : TablesInside capture t) (at : Inside capture (t .madt .place) × Inside capture (t .fadt .place)) where
   -- 39
-  repeat-told : (r : Repeat) → firstRepeat (madtBytes capture (t .madt)) ≡ r → Told capture (repeatRule (t .madt .place) r)
+  repeat-told : (r : Repeat) → firstRepeat (madtBytes capture (t .madt)) ≡ r → Told isAfter30 capture (repeatRule (t .madt .place) r)
   unfolding repeatRule
   repeat-told Nowhere e = omega arith
   repeat-told (At offset) e =
       let there = repeat-inside (madtBytes capture (t .madt)) offset e in
-      tell capture 39 (t .madt .place + offset) (refl, refl, refl)
+      tell isAfter30 capture 39 (t .madt .place + offset) (refl, refl, refl, refl)
       (omega (arith, at .0 .0), omega (arith, there, small capture t inside, inside .madt .inside))
 
   -- 40, of the processors
-  processors-told : Told capture (processorRule (t .madt .place) (count (madtBytes capture (t .madt))))
+  processors-told : Told isAfter30 capture (processorRule (t .madt .place) (count (madtBytes capture (t .madt))))
   unfolding processorRule
-  processors-told = if-cases (Told capture) _ _ _ (λ z. tell capture 40 (t .madt .place) (refl, refl, refl) (at .0)) (λ z. omega arith)
+  processors-told = if-cases (Told isAfter30 capture) _ _ _ (λ z. tell isAfter30 capture 40 (t .madt .place) (refl, refl, refl, refl) (at .0)) (λ z. omega arith)
 
-  rules-told : walkOf capture t .verdict ≡ verdicts.Sound → Told capture (firstRefusal (laterRules capture t))
+  rules-told : walkOf capture t .verdict ≡ verdicts.Sound → Told isAfter30 capture (firstRefusal (laterRules capture t))
   rules-told sound =
-      more-told capture _ _ (repeat-told (firstRepeat (madtBytes capture (t .madt))) refl)
-      (λ z. more-told capture _ _ processors-told
+      more-told isAfter30 capture _ _ (repeat-told (firstRepeat (madtBytes capture (t .madt))) refl)
+      (λ z. more-told isAfter30 capture _ _ processors-told
       (λ z. map-told capture
       (walk-stands (madtBytes capture (t .madt)) (t .madt .place) (t .sci) (t .madt .length) (inside .madt .long) (small capture t inside) sound)
       (inside .madt .inside) (t .madt .place) (t .fadt .place) (at .0) (at .1)))
 
+  -- of what comes after the tables that were found
+  pub after-30-told : Told isAfter30 capture (firstRefusal (rulesFrom31 capture t))
+  after-30-told =
+      joined-told isAfter30 capture (walkRules (madtBytes capture (t .madt)) (t .madt .place)) (laterRules capture t)
+      (rw (sym (walk-verdict (madtBytes capture (t .madt)) (t .madt .place) (t .sci))) (walk-of-told capture t inside))
+      (λ sound. rules-told (walk-verdict _ _ _ ∙ sound))
+
 -- ---- 1 to 54
-scan-told : (capture : List ℕ) → Told capture (scan capture .verdict)
+scan-told : (strictness : Strictness) (capture : List ℕ) → Told isNot60 capture (scan strictness capture .verdict)
 unfolding turnedDown
-scan-told capture = go (survey capture) refl (survey-told capture)
+scan-told strictness capture = go (survey strictness capture) refl (survey-told strictness capture)
   where
-    go : (s : Survey) → survey capture ≡ s → SurveyTold capture s → Told capture (scan capture .verdict)
-    go (surveys.Refused r) e told = rw (scan-refused capture e) told
+    go : (s : Survey) → survey strictness capture ≡ s → SurveyTold capture s → Told isNot60 capture (scan strictness capture .verdict)
+    go (surveys.Refused r) e told = rw (scan-refused strictness capture e) told
     go (surveys.Found t) e told =
-        let i = tables-inside capture t e in
-        rw (found-verdict capture e)
-        (joined-told capture (walkRules (madtBytes capture (t .madt)) (t .madt .place)) (laterRules capture t)
-        (rw (sym (walk-verdict (madtBytes capture (t .madt)) (t .madt .place) (t .sci)))
-        (walk-of-told capture t i))
-        (λ sound. rules-told capture t i told (walk-verdict _ _ _ ∙ sound)))
+        rw (found-verdict strictness capture e) (told-not-60 isAfter30 refl capture (firstRefusal (rulesFrom31 capture t)) (after-30-told capture t (tables-inside strictness capture t e) told))
 
-pub of-scan : (capture : List ℕ) (r : Refusal) → scan capture .verdict ≡ verdicts.Refused r → OfTheTable capture r
-of-scan capture r e = (rw e at (scan-told capture)) .0
+module _ (strictness : Strictness) (capture : List ℕ) (r : Refusal) (e : scan strictness capture .verdict ≡ verdicts.Refused r) where
+  pub of-scan : OfTheTable capture r
+  of-scan = (rw e at (scan-told strictness capture)) .0
 
--- 60 is no refusal of the scan
-pub not-60 : (capture : List ℕ) (r : Refusal) → scan capture .verdict ≡ verdicts.Refused r → r .number ≡ 60 → ⊥
-not-60 capture r e = (rw e at (scan-told capture)) .1
+  -- 60 is no refusal of the scan
+  pub not-60 : r .number ≡ 60 → ⊥
+  not-60 sixty = true≢false (sym ((rw e at (scan-told strictness capture)) .1) ∙ ap isNot60 sixty)
 
 -- THE PROMISES
-pub reading-refusals : (capture list : List ℕ) → ReadingRefusals capture list
-reading-refusals capture list r h =
-    ⊎-elim (of-scan capture r) (λ w. rw (← w .1) (tell-none capture 60 (refl, refl, refl))) (why-refused capture list r h)
+pub reading-refusals : (strictness : Strictness) (capture list : List ℕ) → ReadingRefusals strictness capture list
+reading-refusals strictness capture list r h =
+    ⊎-elim (of-scan strictness capture r) (λ w. rw (← w .1) (tell-none capture 60 (refl, refl, refl))) (why-refused strictness capture list r h)
 
-pub refused-leaves-list : (capture list : List ℕ) → RefusedLeavesList capture list
+pub refused-leaves-list : (strictness : Strictness) (capture list : List ℕ) → RefusedLeavesList strictness capture list
 unfolding filled listAfter
-refused-leaves-list capture list r h =
-    ⊎-elim (λ w. unless-refused _ _ _ w) (λ w. unless-sound _ _ _ (w .0) ∙ no-if _ _ _ (w .2) refl) (why-refused capture list r h)
+refused-leaves-list strictness capture list r h =
+    ⊎-elim (λ w. unless-refused _ _ _ w) (λ w. unless-sound _ _ _ (w .0) ∙ no-if _ _ _ (w .2) refl) (why-refused strictness capture list r h)
 
 pub route-refusals : (capture : List ℕ) (number : ℕ) → RouteRefusals capture number
 unfolding routeResult
-route-refusals capture number = go (scan capture .verdict) refl
+route-refusals capture number = go (scan Strict capture .verdict) refl
   where
-    go : (v : Verdict) → scan capture .verdict ≡ v → RouteRefusals capture number
-    go (verdicts.Refused r) e = inl (r, e, unless-refused _ _ _ e, of-scan capture r e)
-    go verdicts.Sound e = inr (e, unless-sound _ _ _ e, accepted-is-trustworthy capture e .routes number)
+    go : (v : Verdict) → scan Strict capture .verdict ≡ v → RouteRefusals capture number
+    go (verdicts.Refused r) e = inl (r, e, unless-refused _ _ _ e, of-scan Strict capture r e)
+    go verdicts.Sound e = inr (e, unless-sound _ _ _ e, accepted-is-trustworthy Strict capture e .routes number)
 
 pub trace-refusals : (capture : List ℕ) (vector number : ℕ) → TraceRefusals capture vector number
 unfolding traceResult
-trace-refusals capture vector number = go (scan capture .verdict) refl
+trace-refusals capture vector number = go (scan Strict capture .verdict) refl
   where
-    go : (v : Verdict) → scan capture .verdict ≡ v → TraceRefusals capture vector number
-    go (verdicts.Refused r) e = inl (r, e, unless-refused _ _ _ e, of-scan capture r e)
-    go verdicts.Sound e = inr (e, unless-sound _ _ _ e, accepted-is-trustworthy capture e .traces vector number)
+    go : (v : Verdict) → scan Strict capture .verdict ≡ v → TraceRefusals capture vector number
+    go (verdicts.Refused r) e = inl (r, e, unless-refused _ _ _ e, of-scan Strict capture r e)
+    go verdicts.Sound e = inr (e, unless-sound _ _ _ e, accepted-is-trustworthy Strict capture e .traces vector number)
 
 same-route : {q r : Refusal} → _≡_ {A = Route} (routes.Refused q) (routes.Refused r) → r ≡ q
 same-route e = cc

@@ -12,6 +12,8 @@ use Rattle.words.specs.declared.Refusal.{Refusal}
 use Rattle.words.specs.declared.Verdict.the-variants as verdicts
 use Rattle.words.proofs.Choices.{no-if, if-cases}
 use Rattle.words.proofs.Verdicts.{unless-refused, unless-sound}
+use Rattle.tables.specs.declared.Strictness.{Strictness}
+use Rattle.tables.specs.declared.Strictness.the-variants.{Ordinary, Strict}
 use Rattle.lines.specs.Answers.{refusalCode, routeCode, traceCode}
 use Rattle.lines.specs.declared.Route.{Route}
 use Rattle.lines.specs.declared.Route.the-variants as routes
@@ -21,7 +23,7 @@ use Rattle.processors.specs.Listing.{hasRoom, filled}
 use Rattle.map_promises.specs.Statements.{RouteFits, TraceFits}
 use Rattle.map_promises.proofs.AnswersFit.{answers-fit}
 use Rattle.reading.specs.Scan.{emptyMap, turnedDown, scan}
-use Rattle.reading.specs.Reading.{withoutMap, madtFound, readingOf}
+use Rattle.reading.specs.Reading.{withoutMap, madtFound, readingOf, listAfter}
 use Rattle.reading.specs.declared.Answer.the-variants as answers
 use Rattle.reading.specs.declared.Reading.{Reading}
 use Rattle.reading.specs.declared.Scan.{Scan}
@@ -39,17 +41,17 @@ use Rattle.promises.proofs.Told.{tell-none}
 use Rattle.promises.proofs.WhyRefused.{why-refused}
 
 -- ---- no map beside a refusal
-of-scan-no-map : (capture : List ℕ) (r : Refusal) → scan capture .verdict ≡ verdicts.Refused r → scan capture .map ≡ emptyMap
+of-scan-no-map : (strictness : Strictness) (capture : List ℕ) (r : Refusal) → scan strictness capture .verdict ≡ verdicts.Refused r → scan strictness capture .map ≡ emptyMap
 unfolding scan turnedDown
-of-scan-no-map capture r h = ap (λ (s : Scan). s .map) (unless-refused turnedDown _ _ (sym (scan-verdict capture) ∙ h))
+of-scan-no-map strictness capture r h = ap (λ (s : Scan). s .map) (unless-refused turnedDown _ _ (sym (scan-verdict strictness capture) ∙ h))
 
-of-read-no-map : (capture list : List ℕ) (r : Refusal) → readingOf capture list .answer ≡ answers.Refused r → readingOf capture list .map ≡ emptyMap
+of-read-no-map : (strictness : Strictness) (capture list : List ℕ) (r : Refusal) → readingOf strictness capture list .answer ≡ answers.Refused r → readingOf strictness capture list .map ≡ emptyMap
 unfolding readingOf withoutMap madtFound
-of-read-no-map capture list r h =
+of-read-no-map strictness capture list r h =
     ⊎-elim
     (λ w. ap (λ (q : Reading). q .map) (unless-refused _ _ _ w))
     (λ w. ap (λ (q : Reading). q .map) (unless-sound _ _ _ (w .0) ∙ answered-60 _ _ list (w .2)))
-    (why-refused capture list r h)
+    (why-refused strictness capture list r h)
 
 -- ---- a refusal's number is 2^48 or more
 above-0 : (n : ℕ) → isRefusalNumber n ≡ true → 0 < n
@@ -98,12 +100,25 @@ shorter text room h = leb-false (length text) (length room) h
 pub scan-refuses : ScanRefuses
 scan-refuses κs a q x p r h =
     let e = sym (ap (λ (s : Scan). s .verdict) p) ∙ h in
-    (of-scan _ r e, not-60 _ r e, ap (λ (s : Scan). s .map) p ∙ of-scan-no-map _ r e)
+    (of-scan _ _ r e, not-60 _ _ r e, ap (λ (s : Scan). s .map) p ∙ of-scan-no-map _ _ r e)
+
+-- of either strictness
+reading-refuses : (strictness : Strictness) (capture list : List ℕ) {reading : Reading} {after : List ℕ} → reading ≡ readingOf strictness capture list
+    → after ≡ listAfter strictness capture list → (r : Refusal) → reading .answer ≡ answers.Refused r
+    → OfTheTable capture r × (reading .map ≡ emptyMap) × (after ≡ list)
+reading-refuses strictness capture list is left r h =
+    let e = sym (ap (λ (s : Reading). s .answer) is) ∙ h in (
+      reading-refusals strictness capture list r e,
+      ap (λ (s : Reading). s .map) is ∙ of-read-no-map strictness capture list r e,
+      left ∙ refused-leaves-list strictness capture list r e,
+    )
 
 pub read-refuses : ReadRefuses
-read-refuses κs a q x p r h =
-    let e = sym (ap (λ (s : Reading). s .answer) (p .0)) ∙ h in
-    (reading-refusals _ _ r e, ap (λ (s : Reading). s .map) (p .0) ∙ of-read-no-map _ _ r e, p .1 ∙ refused-leaves-list _ _ r e)
+read-refuses =
+    record {
+      ordinary = λ κs a q x p. reading-refuses Ordinary _ _ (p .0) (p .1);
+      strict = λ κs a q x p. reading-refuses Strict _ _ (p .0) (p .1);
+    }
 
 pub c-read-refuses : CReadRefuses
 c-read-refuses κs a q x p =
@@ -116,17 +131,17 @@ c-read-refuses κs a q x p =
 
 pub c-route-refuses : CRouteRefuses
 c-route-refuses κs a q x p =
-    ⊎-elim (λ w. inl (coded OfTheList _ q (w .0) (p ∙ w .2) (w .3) (not-60 _ (w .0) (w .1))))
+    ⊎-elim (λ w. inl (coded OfTheList _ q (w .0) (p ∙ w .2) (w .3) (not-60 _ _ (w .0) (w .1))))
     (λ w.
-    let small = route-below _ (answers-fit _ (accepted-keeps-rules _ (w .0)) .0 _) (w .2) in
+    let small = route-below _ (answers-fit _ (accepted-keeps-rules _ _ (w .0)) .0 _) (w .2) in
     inr (omega (arith, p ∙ w .1, small), (_, p ∙ w .1, w .2)))
     (route-refusals _ _)
 
 pub c-trace-refuses : CTraceRefuses
 c-trace-refuses κs a q x p =
-    ⊎-elim (λ w. inl (coded OfTheList _ q (w .0) (p ∙ w .2) (w .3) (not-60 _ (w .0) (w .1))))
+    ⊎-elim (λ w. inl (coded OfTheList _ q (w .0) (p ∙ w .2) (w .3) (not-60 _ _ (w .0) (w .1))))
     (λ w.
-    let small = trace-below _ (answers-fit _ (accepted-keeps-rules _ (w .0)) .1 _ _) (w .2) in
+    let small = trace-below _ (answers-fit _ (accepted-keeps-rules _ _ (w .0)) .1 _ _) (w .2) in
     inr (omega (arith, p ∙ w .1, small), (_, p ∙ w .1, w .2)))
     (trace-refusals _ _ _)
 

@@ -13,9 +13,11 @@ use Rattle.capture.specs.Rules.{wrongSize, wrongMark, wrongVersion, wrongCount,
 use Rattle.tables.specs.Finder.{names, namedFrom, firstNamed, namedAfter, secondNamed}
 use Rattle.tables.specs.Rsdp.{rsdPtr, wrongSignature, wrongRevision, wrongLength, wrongSums, rsdpRules, xsdtField}
 use Rattle.tables.specs.Structures.{structureLength, brokenAt, stepAt}
-use Rattle.tables.specs.Survey.{apic, facp, isNowhere, earlier, secondRule, nameRules, wrongMadtRevision, wrongFlags, bodyRules, sciNumber, withSci, tableOfEntry, madtOf, fadtOf, tablesFrom, xsdtOf, tablesOf, surveyRules}
+use Rattle.tables.specs.Survey.{apic, facp, isNowhere, earlier, secondRule, nameRules, lengthRules, wrongMadtRevision, wrongFlags, madtFieldRules, sciNumber, withSci, tableOfEntry, madtOf, fadtOf, tablesFrom, xsdtOf, tablesOf, rulesBefore29, surveyRules}
 use Rattle.tables.specs.Table.{signature, tableLength, revision, addressAt, headerAt, tableNamed, cutShort, wrongSum, tableRules}
 use Rattle.tables.specs.Xsdt.{xsdtSignature, notXsdt, wrongXsdtRevision, entryCount, wrongBody, xsdtRules, entryField, entries, entryRules}
+use Rattle.tables.specs.declared.Strictness.{Strictness}
+use Rattle.tables.specs.declared.Strictness.the-variants.{Ordinary, Strict}
 use Rattle.kinds.specs.Makers.{coreOf, lioOf, htOf, eioOf, msiOf, bioOf, lpcOf}
 use Rattle.kinds.specs.Ranges.{lioField, eioField, msiField, bioField, lpcField}
 use Rattle.kinds.specs.Used.{usedHalf, saidLio, saidLpc}
@@ -46,18 +48,20 @@ use Rattle.promises.specs.BoardA.{boardA, msiFrom63, msiTo257, eioAt2}
 use Rattle.promises.specs.Examples.{told, twelve, TwelveExamples, BoardAIsRead, BoardAIsPrinted}
 
 -- the scan, with all that it and the answers are computed by
-unfoldable computed : List ℕ → Scan
-unfolding if unless firstRefusal inEach first every fold numberAt spelled total byteSum numbersFrom numbersBelow version segmentCount totalLength rsdpAddress headerSize descriptor descriptorsEnd segmentAddress segmentLength segments lengths segmentPlace isPresent placeOf goesOn runEnd holds placeIn located rsdpStretch rsdpPlace presenceRules wrongSize wrongMark wrongVersion wrongCount wrongTotal emptySegment endsPastMemory endBefore startsEarly segmentBroken segmentRules containerRules names namedFrom firstNamed namedAfter secondNamed rsdPtr wrongSignature wrongRevision wrongLength wrongSums rsdpRules xsdtField structureLength brokenAt stepAt apic facp isNowhere earlier secondRule nameRules wrongMadtRevision wrongFlags bodyRules sciNumber withSci tableOfEntry madtOf fadtOf tablesFrom xsdtOf tablesOf surveyRules signature tableLength revision addressAt headerAt tableNamed cutShort wrongSum tableRules xsdtSignature notXsdt wrongXsdtRevision entryCount wrongBody xsdtRules entryField entries entryRules coreOf lioOf htOf eioOf msiOf bioOf lpcOf lioField eioField msiField bioField lpcField usedHalf saidLio saidLpc clash sooner nearer partner better firstClash lonelier firstLone hasBit lesser hasPin routeOf traceOf placed claims lioArrival through bridge pinArrival bioOwner owner arrivalOf arrival atLater atBoth spotted eiosFit biosFit msisFit rangesKept noBridge lost rulesTo43 rulesFrom51 mapRules firstBroken isSound keepsRules slotTold isBridge isLpcPin pinTold landed eioTraced traced pieceAt piecesFrom pieces structures those isType isKnown lengthOf wrongStructureLength wrongStructureVersion isHt reservedFlags wrongCascade wrongNode wrongNodes noSlots wrongEnd wrongBase wrongInput sharedBit oneTooMany structureRules ofType made standing mapOf placesOf enabledIn foundIn rulesInTurn walkRules turnedAway walked isEnabledCore entriesOf entriesIn processors countOf countIn count hasRoom written filled twins earlierTwin hasTwin repeats spot firstRepeat withoutMap answered madtFound readingOf listAfter madtBytes emptyMap turnedDown repeatRule processorRule madtRules lineRules rulesBefore51 allRules accepted scan
-computed capture = scan capture
+unfoldable computed : Strictness → List ℕ → Scan
+unfolding if unless firstRefusal inEach first every fold numberAt spelled total byteSum numbersFrom numbersBelow version segmentCount totalLength rsdpAddress headerSize descriptor descriptorsEnd segmentAddress segmentLength segments lengths segmentPlace isPresent placeOf goesOn runEnd holds placeIn located rsdpStretch rsdpPlace presenceRules wrongSize wrongMark wrongVersion wrongCount wrongTotal emptySegment endsPastMemory endBefore startsEarly segmentBroken segmentRules containerRules names namedFrom firstNamed namedAfter secondNamed rsdPtr wrongSignature wrongRevision wrongLength wrongSums rsdpRules xsdtField structureLength brokenAt stepAt apic facp isNowhere earlier secondRule nameRules lengthRules wrongMadtRevision wrongFlags madtFieldRules sciNumber withSci tableOfEntry madtOf fadtOf tablesFrom xsdtOf tablesOf rulesBefore29 surveyRules signature tableLength revision addressAt headerAt tableNamed cutShort wrongSum tableRules xsdtSignature notXsdt wrongXsdtRevision entryCount wrongBody xsdtRules entryField entries entryRules coreOf lioOf htOf eioOf msiOf bioOf lpcOf lioField eioField msiField bioField lpcField usedHalf saidLio saidLpc clash sooner nearer partner better firstClash lonelier firstLone hasBit lesser hasPin routeOf traceOf placed claims lioArrival through bridge pinArrival bioOwner owner arrivalOf arrival atLater atBoth spotted eiosFit biosFit msisFit rangesKept noBridge lost rulesTo43 rulesFrom51 mapRules firstBroken isSound keepsRules slotTold isBridge isLpcPin pinTold landed eioTraced traced pieceAt piecesFrom pieces structures those isType isKnown lengthOf wrongStructureLength wrongStructureVersion isHt reservedFlags wrongCascade wrongNode wrongNodes noSlots wrongEnd wrongBase wrongInput sharedBit oneTooMany structureRules ofType made standing mapOf placesOf enabledIn foundIn rulesInTurn walkRules turnedAway walked isEnabledCore entriesOf entriesIn processors countOf countIn count hasRoom written filled twins earlierTwin hasTwin repeats spot firstRepeat withoutMap answered madtFound readingOf listAfter madtBytes emptyMap turnedDown repeatRule processorRule madtRules lineRules rulesBefore51 allRules accepted scan
+computed strictness capture = scan strictness capture
 
 -- THE PROMISES
-pub twelve-examples : TwelveExamples
+pub twelve-examples : (strictness : Strictness) → TwelveExamples strictness
 unfolding boardA msiFrom63 msiTo257 eioAt2 told twelve computed
-twelve-examples = refl
+twelve-examples Ordinary = refl
+twelve-examples Strict = refl
 
-pub board-a-is-read : BoardAIsRead
+pub board-a-is-read : (strictness : Strictness) → BoardAIsRead strictness
 unfolding boardA computed fourBytes image answerIn readCode readResult bytesAfter
-board-a-is-read = record { accepted = refl; reading = refl; list = refl; result = refl; bytes = refl }
+board-a-is-read Ordinary = record { accepted = refl; reading = refl; list = refl; result = refl; bytes = refl }
+board-a-is-read Strict = record { accepted = refl; reading = refl; list = refl; result = refl; bytes = refl }
 
 pub board-a-is-printed : BoardAIsPrinted
 unfolding boardA computed textOf mapText mapParts each field phrase line versionLine coreLine coreLines halfLine lioLines eioLine bioLine msiLine lpcLine sciLine letters digits decimal

@@ -9,6 +9,7 @@ use Rattle.words.specs.Refusals.{refused, rule, unless, firstRefusal}
 use Rattle.words.specs.declared.Verdict.{Verdict}
 use Rattle.words.specs.declared.Verdict.the-variants.{Sound, Refused}
 use Rattle.words.proofs.Verdicts.{first-joined}
+use Rattle.tables.specs.declared.Strictness.{Strictness}
 use Rattle.lines.specs.declared.Map.{Map}
 use Rattle.processors.specs.Listing.{processors, count, hasRoom}
 use Rattle.reading.specs.Scan.{allRules, scan}
@@ -33,12 +34,12 @@ read-last Sound table map list = room-last (hasRoom (processors table) list) (co
 read-last (Refused r) table map list = refl
 
 -- THE PROMISES
-pub first-rule-wins : (capture : List ℕ) → FirstRuleWins capture
+pub first-rule-wins : (strictness : Strictness) (capture : List ℕ) → FirstRuleWins strictness capture
 first-rule-wins = scan-verdict
 
-pub list-comes-last : (capture list : List ℕ) → ListComesLast capture list
+pub list-comes-last : (strictness : Strictness) (capture list : List ℕ) → ListComesLast strictness capture list
 unfolding readingOf
-list-comes-last capture list =
-    read-last (scan capture .verdict) (madtFound capture) (scan capture .map) list
-    ∙ ap (λ (v : Verdict). unless Refused v (firstRefusal (rule (not (hasRoom (processors (madtFound capture)) list)) 60 0 ∷ []))) (first-rule-wins capture)
-    ∙ sym (first-joined (allRules capture) _)
+list-comes-last strictness capture list =
+    read-last (scan strictness capture .verdict) (madtFound strictness capture) (scan strictness capture .map) list
+    ∙ ap (λ (v : Verdict). unless Refused v (firstRefusal (rule (not (hasRoom (processors (madtFound strictness capture)) list)) 60 0 ∷ []))) (first-rule-wins strictness capture)
+    ∙ sym (first-joined (allRules strictness capture) _)

@@ -15,3 +15,4 @@ pub mod EveryResult
 pub mod RulesInOrder
 pub mod MapOfMadt
 pub mod Memory
+pub mod Readings

@@ -2,6 +2,7 @@
 use mathlib.Core.List.{List}
 use Prim.Native.Nat.{ℕ}
 use mathlib.Core.Path.{ap, _∙_}
+use Rattle.tables.specs.declared.Strictness.{Strictness}
 use Rattle.lines.specs.declared.Map.{Map}
 use Rattle.map_promises.proofs.WalkKeepsBooks.{walk-keeps-books}
 use Rattle.map_promises.proofs.WalkInTableOrder.{walk-in-table-order}
@@ -10,9 +11,9 @@ use Rattle.reading.proofs.Scanned.{scanned}
 use Rattle.promises.specs.Captures.{AcceptedIsOfMadt}
 
 -- THE PROMISE
-pub accepted-is-of-madt : (capture : List ℕ) → AcceptedIsOfMadt capture
-accepted-is-of-madt capture h =
-    let s = scanned capture h in
+pub accepted-is-of-madt : (strictness : Strictness) (capture : List ℕ) → AcceptedIsOfMadt strictness capture
+accepted-is-of-madt strictness capture h =
+    let s = scanned strictness capture h in
     let t = s .t in
     record {
       t = t;

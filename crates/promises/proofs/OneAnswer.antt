@@ -8,6 +8,7 @@ one-answer =
     record {
       scan-capture = λ κs a r s x y p q. (p ∙ sym q, refl);
       read = λ κs a r s x y p q. (p .0 ∙ sym (q .0), ap (λ l. (tt, (l, tt))) (p .1 ∙ sym (q .1)));
+      read-strictly = λ κs a r s x y p q. (p .0 ∙ sym (q .0), ap (λ l. (tt, (l, tt))) (p .1 ∙ sym (q .1)));
       c-read = λ κs a r s x y p q. (p .0 ∙ sym (q .0), ap (λ l. (tt, (l, tt))) (p .1 ∙ sym (q .1)));
       c-route = λ κs a r s x y p q. (p ∙ sym q, refl);
       c-trace = λ κs a r s x y p q. (p ∙ sym q, refl);

@@ -15,6 +15,7 @@ use Rattle.words.specs.Refusals.{refused, unless}
 use Rattle.words.proofs.Numbers.{number-past}
 use Rattle.words.proofs.Choices.{yes-if, no-if}
 use Rattle.words.proofs.Verdicts.{unless-refused, unless-sound}
+use Rattle.tables.specs.declared.Strictness.the-variants.{Strict}
 use Rattle.lines.specs.Answers.{refusalCode}
 use Rattle.words.specs.declared.Verdict.{Verdict}
 use Rattle.words.specs.declared.Verdict.the-variants as verdicts
@@ -45,16 +46,16 @@ module _ (table list : List ℕ) where
       go false h = in-60 table (image list) (same-room ∙ h) ∙ (rw h)
 
 -- no more processors than 256
-count-small : (capture : List ℕ) → scan capture .verdict ≡ verdicts.Sound → count (madtFound capture) ≤ 256
+count-small : (capture : List ℕ) → scan Strict capture .verdict ≡ verdicts.Sound → count (madtFound Strict capture) ≤ 256
 unfolding madtFound
 count-small capture sound =
-    let s = scanned capture sound in
+    let s = scanned Strict capture sound in
     rw (s .madt) (at-most-256 (madtBytes capture (s .t .madt)) (s .t .madt .place) (s .t .sci) (s .walk))
 
 -- ---- the three ways of the C entry
-module _ (capture list : List ℕ) (sound : scan capture .verdict ≡ verdicts.Sound) where
+module _ (capture list : List ℕ) (sound : scan Strict capture .verdict ≡ verdicts.Sound) where
   abbrev bytes : List ℕ
-  bytes = image (processors (madtFound capture))
+  bytes = image (processors (madtFound Strict capture))
 
   no-room : hasRoom bytes list ≡ false → TooShort capture list
   unfolding hasRoom filled readResult readCode bytesAfter
@@ -62,8 +63,8 @@ module _ (capture list : List ℕ) (sound : scan capture .verdict ≡ verdicts.S
       let less = leb-false (length bytes) (length list) h in
       record {
         sound = sound;
-        short = omega (arith, eight-each (madtFound capture));
-        result = unless-sound _ _ _ sound ∙ ap readCode (in-60 (madtFound capture) list h);
+        short = omega (arith, eight-each (madtFound Strict capture));
+        result = unless-sound _ _ _ sound ∙ ap readCode (in-60 (madtFound Strict capture) list h);
         kept = unless-sound _ _ _ sound ∙ no-if _ _ _ h refl;
       }
 
@@ -73,10 +74,10 @@ module _ (capture list : List ℕ) (sound : scan capture .verdict ≡ verdicts.S
       let enough = leb-true (length bytes) (length list) h in
       record {
         sound = sound;
-        room = omega (arith, eight-each (madtFound capture));
-        result = unless-sound _ _ _ sound ∙ ap readCode (in-read (madtFound capture) list h);
+        room = omega (arith, eight-each (madtFound Strict capture));
+        result = unless-sound _ _ _ sound ∙ ap readCode (in-read (madtFound Strict capture) list h);
         most = count-small capture sound;
-        bytes = unless-sound _ _ _ sound ∙ yes-if _ _ _ h ∙ ap (λ (n : ℕ). bytes ++ drop n list) (eight-each (madtFound capture));
+        bytes = unless-sound _ _ _ sound ∙ yes-if _ _ _ h ∙ ap (λ (n : ℕ). bytes ++ drop n list) (eight-each (madtFound Strict capture));
       }
 
 -- ---- reading numbers back
@@ -102,13 +103,13 @@ number-behind (suc k) byte bytes at = rw (suc-add, number-behind k byte bytes (a
 -- THE PROMISES
 pub same-reading : (capture list : List ℕ) → SameReading capture list
 unfolding bytesAfter listAfter readResult readingOf unless readCode withoutMap
-same-reading capture list = go (scan capture .verdict)
+same-reading capture list = go (scan Strict capture .verdict)
   where
     go : (v : Verdict)
-        → (unless (λ r. image list) v (filled (image (processors (madtFound capture))) (image list)) ≡ image (unless (λ r. list) v (filled (processors (madtFound capture)) list)))
-        × (unless refusalCode v (readCode (answerIn (madtFound capture) (image list))) ≡ readCode (unless withoutMap v (answered (madtFound capture) (scan capture .map) list) .answer))
+        → (unless (λ r. image list) v (filled (image (processors (madtFound Strict capture))) (image list)) ≡ image (unless (λ r. list) v (filled (processors (madtFound Strict capture)) list)))
+        × (unless refusalCode v (readCode (answerIn (madtFound Strict capture) (image list))) ≡ readCode (unless withoutMap v (answered (madtFound Strict capture) (scan Strict capture .map) list) .answer))
     go (verdicts.Refused r) = (refl, refl)
-    go verdicts.Sound = (filled-image (processors (madtFound capture)) list, ap readCode (same-answer (madtFound capture) list (scan capture .map)))
+    go verdicts.Sound = (filled-image (processors (madtFound Strict capture)) list, ap readCode (same-answer (madtFound Strict capture) list (scan Strict capture .map)))
 
 pub read-codes-apart : ReadCodesApart
 unfolding readCode
@@ -119,24 +120,24 @@ read-codes-apart (Refused a) (Refused b) p q e = ap Refused (ap₂ refused (omeg
 
 pub c-reading : (capture list : List ℕ) → CReading capture list
 unfolding readResult bytesAfter
-c-reading capture list = go (scan capture .verdict) refl
+c-reading capture list = go (scan Strict capture .verdict) refl
   where
-    room : (sound : scan capture .verdict ≡ verdicts.Sound) (b : Bool) → hasRoom (image (processors (madtFound capture))) list ≡ b
+    room : (sound : scan Strict capture .verdict ≡ verdicts.Sound) (b : Bool) → hasRoom (image (processors (madtFound Strict capture))) list ≡ b
         → CReading capture list
     room sound true h = inr (inr (with-room capture list sound h))
     room sound false h = inr (inl (no-room capture list sound h))
 
-    go : (v : Verdict) → scan capture .verdict ≡ v → CReading capture list
+    go : (v : Verdict) → scan Strict capture .verdict ≡ v → CReading capture list
     go (verdicts.Refused r) e =
         inl
         (record {
           refusal = r;
           broken = e;
-          ofthetable = of-scan capture r e;
+          ofthetable = of-scan Strict capture r e;
           result = unless-refused _ _ _ e;
           kept = unless-refused _ _ _ e;
         })
-    go verdicts.Sound e = room e (hasRoom (image (processors (madtFound capture))) list) refl
+    go verdicts.Sound e = room e (hasRoom (image (processors (madtFound Strict capture))) list) refl
 
 pub read-back : (list : List ℕ) → ReadBack list
 unfolding image fourBytes

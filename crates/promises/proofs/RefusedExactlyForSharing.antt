@@ -12,6 +12,7 @@ use Rattle.words.specs.declared.Refusal.{Refusal}
 use Rattle.words.specs.declared.Verdict.the-variants.{Sound, Refused}
 use Rattle.words.proofs.Verdicts.{rule-sound, unless-refused, unless-sound, first-joined}
 use Rattle.tables.specs.declared.Tables.{Tables}
+use Rattle.tables.specs.declared.Strictness.{Strictness}
 use Rattle.lines.specs.Rules.{firstBroken}
 use Rattle.lines.specs.declared.Map.{Map}
 use Rattle.lines.specs.declared.Places.{Places}
@@ -36,14 +37,14 @@ pub enabled : (base n : ℕ) → (n ≡ 0 → ⊥) → processorRule base n ≡ 
 unfolding processorRule
 enabled base n h = rule-sound (eqb n 0) 40 base (ne-eqb n 0 h)
 
-module _ (capture : List ℕ) (t : Tables) where
+module _ (strictness : Strictness) (capture : List ℕ) (t : Tables) where
   abbrev map : Map
   map = walkOf capture t .found .map
 
   abbrev places : Places
   places = walkOf capture t .found .places
 
-  module _ (h : NothingBefore41 capture t) where
+  module _ (h : NothingBefore41 strictness capture t) where
     -- the walk keeps 71 to 77, 37 and 38, and gives each structure a place of its own
     kept : WellKept map places
     kept = walk-keeps-books (madtBytes capture (t .madt)) (t .madt .place) (t .sci) (h .structures) .0
@@ -52,10 +53,10 @@ module _ (capture : List ℕ) (t : Tables) where
     to-40 = record { ranges = kept .ranges; r37 = kept .r37; r38 = kept .r38; r40 = h .r40 }
 
     -- the verdict is what the map breaks first
-    of-map : scan capture .verdict ≡ firstBroken map places (t .madt .place) (t .fadt .place)
+    of-map : scan strictness capture .verdict ≡ firstBroken map places (t .madt .place) (t .fadt .place)
     unfolding firstRefusal
     of-map =
-        found-verdict capture (h .tables)
+        found-verdict strictness capture (h .tables)
         ∙ first-joined (walkRules _ _) _
         ∙ unless-sound _ _ _ (sym (walk-verdict _ _ _) ∙ h .structures)
         ∙ unless-sound _ _ _ (repeat-none (t .madt .place) _ (h .r39))
@@ -64,45 +65,45 @@ module _ (capture : List ℕ) (t : Tables) where
 
     -- what is told of the map is told of the capture
     of-map-told : (n : ℕ) {broken : Type 0} {named : ℕ → ℕ → Type 0} → Exactly (RefusedWith map places (t .madt .place) (t .fadt .place) n) broken named
-        → Exactly (λ p q. scan capture .verdict ≡ Refused (refusedWith n p q)) broken named
+        → Exactly (λ p q. scan strictness capture .verdict ≡ Refused (refusedWith n p q)) broken named
     of-map-told n e = ((λ p q r. e .0 p q (sym of-map ∙ r)), λ b. let w = e .1 b in (w .0, w .1, of-map ∙ w .2))
 
-  to-43 : NothingBefore51 capture t → KeepsTo43 map places (t .madt .place)
+  to-43 : NothingBefore51 strictness capture t → KeepsTo43 map places (t .madt .place)
   to-43 h = record { to40 = to-40 (h .to40); r41 = h .r41; r42 = h .r42; r43 = h .r43 }
 
 -- THE PROMISES
-pub refused-exactly-for-sharing : (capture : List ℕ) (t : Tables) → RefusedExactlyForSharing capture t
-refused-exactly-for-sharing capture t =
+pub refused-exactly-for-sharing : (strictness : Strictness) (capture : List ℕ) (t : Tables) → RefusedExactlyForSharing strictness capture t
+refused-exactly-for-sharing strictness capture t =
     let m = walkOf capture t .found .map in
     let p = walkOf capture t .found .places in
     let madt = t .madt .place in
     let fadt = t .fadt .place in
     record {
-      r41 = λ h. of-map-told capture t h 41 (node-exactly m p madt fadt (kept capture t h .placed) (to-40 capture t h));
-      r42 = λ h. of-map-told capture t h 42 (lone-exactly m p madt fadt (kept capture t h .placed) (to-40 capture t h));
-      r51 = λ h. of-map-told capture t (h .to40) 51 (number-exactly m p madt fadt (kept capture t (h .to40) .placed) (to-43 capture t h));
-      r52 = λ h. of-map-told capture t (h .to40) 52 (vector-exactly m p madt fadt (kept capture t (h .to40) .placed) (to-43 capture t h));
-      r53 = λ h. of-map-told capture t (h .to40) 53 (core-exactly m p madt fadt (kept capture t (h .to40) .placed) (to-43 capture t h));
+      r41 = λ h. of-map-told strictness capture t h 41 (node-exactly m p madt fadt (kept strictness capture t h .placed) (to-40 strictness capture t h));
+      r42 = λ h. of-map-told strictness capture t h 42 (lone-exactly m p madt fadt (kept strictness capture t h .placed) (to-40 strictness capture t h));
+      r51 = λ h. of-map-told strictness capture t (h .to40) 51 (number-exactly m p madt fadt (kept strictness capture t (h .to40) .placed) (to-43 strictness capture t h));
+      r52 = λ h. of-map-told strictness capture t (h .to40) 52 (vector-exactly m p madt fadt (kept strictness capture t (h .to40) .placed) (to-43 strictness capture t h));
+      r53 = λ h. of-map-told strictness capture t (h .to40) 53 (core-exactly m p madt fadt (kept strictness capture t (h .to40) .placed) (to-43 strictness capture t h));
     }
 
 -- a refusal of the reading that is not 60 is the scan's
-of-scan : (capture list : List ℕ) (n : ℕ) → n < 60 → {broken : Type 0} {at : ℕ → ℕ → Type 0}
-    → Exactly (λ p q. scan capture .verdict ≡ Refused (refusedWith n p q)) broken at
-    → Exactly (λ p q. readingOf capture list .answer ≡ NotRead (refusedWith n p q)) broken at
+pub of-scan : (strictness : Strictness) (capture list : List ℕ) (n : ℕ) → n < 60 → {broken : Type 0} {at : ℕ → ℕ → Type 0}
+    → Exactly (λ p q. scan strictness capture .verdict ≡ Refused (refusedWith n p q)) broken at
+    → Exactly (λ p q. readingOf strictness capture list .answer ≡ NotRead (refusedWith n p q)) broken at
 unfolding readingOf withoutMap
-of-scan capture list n l e = (
+of-scan strictness capture list n l e = (
   (λ p q r.
-      ⊎-elim (e .0 p q) (λ w. absurd (let z : 60 ≡ n = ap (λ (r : Refusal). r .number) (w .1) in omega arith)) (why-refused capture list (refusedWith n p q) r)),
+      ⊎-elim (e .0 p q) (λ w. absurd (let z : 60 ≡ n = ap (λ (r : Refusal). r .number) (w .1) in omega arith)) (why-refused strictness capture list (refusedWith n p q) r)),
   λ b. let w = e .1 b in (w .0, w .1, ap (λ (r : Reading). r .answer) (unless-refused _ _ _ (w .2))),
 )
 
-pub read-refused-exactly-for-sharing : (capture list : List ℕ) (t : Tables) → ReadRefusedExactlyForSharing capture list t
-read-refused-exactly-for-sharing capture list t =
-    let s = refused-exactly-for-sharing capture t in
+pub read-refused-exactly-for-sharing : (strictness : Strictness) (capture list : List ℕ) (t : Tables) → ReadRefusedExactlyForSharing strictness capture list t
+read-refused-exactly-for-sharing strictness capture list t =
+    let s = refused-exactly-for-sharing strictness capture t in
     record {
-      r41 = λ h. of-scan capture list 41 (omega arith) (s .r41 h);
-      r42 = λ h. of-scan capture list 42 (omega arith) (s .r42 h);
-      r51 = λ h. of-scan capture list 51 (omega arith) (s .r51 h);
-      r52 = λ h. of-scan capture list 52 (omega arith) (s .r52 h);
-      r53 = λ h. of-scan capture list 53 (omega arith) (s .r53 h);
+      r41 = λ h. of-scan strictness capture list 41 (omega arith) (s .r41 h);
+      r42 = λ h. of-scan strictness capture list 42 (omega arith) (s .r42 h);
+      r51 = λ h. of-scan strictness capture list 51 (omega arith) (s .r51 h);
+      r52 = λ h. of-scan strictness capture list 52 (omega arith) (s .r52 h);
+      r53 = λ h. of-scan strictness capture list 53 (omega arith) (s .r53 h);
     }

@@ -13,6 +13,7 @@ use Rattle.tables.specs.Survey.{tablesOf, surveyRules, survey}
 use Rattle.tables.specs.declared.Tables.{Tables}
 use Rattle.tables.specs.declared.Survey.the-variants as surveys
 use Rattle.tables.proofs.Inside.{survey-told, survey-is}
+use Rattle.tables.specs.declared.Strictness.{Strictness}
 use Rattle.lines.specs.Says.{says}
 use Rattle.lines.specs.Rules.{rulesTo43}
 use Rattle.madt.specs.Walk.{walkRules}
@@ -37,7 +38,7 @@ some-core : (base n : ℕ) → processorRule base n ≡ Sound → n ≡ 0 → �
 unfolding processorRule
 some-core base n h = eqb-false n 0 (rule-kept (eqb n 0) 40 base h)
 
-module _ (capture : List ℕ) (t : Tables) where
+module _ (strictness : Strictness) (capture : List ℕ) (t : Tables) where
   abbrev afterWalk : List Verdict
   afterWalk =
       let table = madtBytes capture (t .madt) in
@@ -46,7 +47,7 @@ module _ (capture : List ℕ) (t : Tables) where
       ∷ processorRule (t .madt .place) (count table)
       ∷ rulesTo43 (says (found .map)) (found .places) (t .madt .place)
 
-  of-madt : survey capture ≡ surveys.Found t → firstRefusal (madtRules capture t) ≡ Sound → NothingBefore51 capture t
+  of-madt : survey strictness capture ≡ surveys.Found t → firstRefusal (madtRules capture t) ≡ Sound → NothingBefore51 strictness capture t
   unfolding madtRules rulesTo43
   of-madt tables h =
       let kept = joined-kept (walkRules (madtBytes capture (t .madt)) (t .madt .place)) afterWalk h in
@@ -64,7 +65,7 @@ module _ (capture : List ℕ) (t : Tables) where
         r43 = each 5;
       }
 
-  to-madt : NothingBefore51 capture t → firstRefusal (madtRules capture t) ≡ Sound
+  to-madt : NothingBefore51 strictness capture t → firstRefusal (madtRules capture t) ≡ Sound
   unfolding madtRules rulesTo43 firstRefusal
   to-madt h =
       first-joined (walkRules (madtBytes capture (t .madt)) (t .madt .place)) afterWalk
@@ -77,21 +78,21 @@ module _ (capture : List ℕ) (t : Tables) where
       ∙ first-alone _
       ∙ h .r43
 
-breaks-none : (capture : List ℕ) → NotRefusedBefore51 capture → (t : Tables) × NothingBefore51 capture t
+breaks-none : (strictness : Strictness) (capture : List ℕ) → NotRefusedBefore51 strictness capture → (t : Tables) × NothingBefore51 strictness capture t
 unfolding rulesBefore51 survey
-breaks-none capture h =
+breaks-none strictness capture h =
     let t = tablesOf capture in
-    let kept = joined-kept (surveyRules capture) (madtRules capture t) h in
-    (t, of-madt capture t (unless-sound surveys.Refused _ _ (kept .0)) (kept .1))
+    let kept = joined-kept (surveyRules strictness capture) (madtRules capture t) h in
+    (t, of-madt strictness capture t (unless-sound surveys.Refused _ _ (kept .0)) (kept .1))
 
-not-before : (capture : List ℕ) (t : Tables) → NothingBefore51 capture t → NotRefusedBefore51 capture
+not-before : (strictness : Strictness) (capture : List ℕ) (t : Tables) → NothingBefore51 strictness capture t → NotRefusedBefore51 strictness capture
 unfolding rulesBefore51
-not-before capture t h =
-    first-joined (surveyRules capture) _
-    ∙ unless-sound _ _ _ (survey-told capture (h .to40 .tables))
-    ∙ ap (λ (t : Tables). firstRefusal (madtRules capture t)) (survey-is capture (h .to40 .tables))
-    ∙ to-madt capture t h
+not-before strictness capture t h =
+    first-joined (surveyRules strictness capture) _
+    ∙ unless-sound _ _ _ (survey-told strictness capture (h .to40 .tables))
+    ∙ ap (λ (t : Tables). firstRefusal (madtRules capture t)) (survey-is strictness capture (h .to40 .tables))
+    ∙ to-madt strictness capture t h
 
 -- THE PROMISE
-pub rules-in-order : (capture : List ℕ) → RulesInOrder capture
-rules-in-order capture = (breaks-none capture, not-before capture)
+pub rules-in-order : (strictness : Strictness) (capture : List ℕ) → RulesInOrder strictness capture
+rules-in-order strictness capture = (breaks-none strictness capture, not-before strictness capture)

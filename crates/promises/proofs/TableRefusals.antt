@@ -18,43 +18,44 @@ use Rattle.tables.specs.Rsdp.{rsdpRules, xsdtField}
 use Rattle.tables.specs.Table.{headerSize, addressAt, headerAt, tableRules}
 use Rattle.tables.specs.Xsdt.{entryCount, entryField, entries, xsdtRules, entryRules}
 use Rattle.tables.specs.Finder.{names, namedFrom, firstNamed, namedAfter, secondNamed}
-use Rattle.tables.specs.Survey.{apic, facp, earlier, secondRule, nameRules, bodyRules, madtOf, fadtOf, xsdtOf, surveyRules, survey}
+use Rattle.tables.specs.Survey.{apic, facp, earlier, secondRule, nameRules, lengthRules, madtFieldRules, withSci, madtOf, fadtOf, tablesFrom, xsdtOf, tablesOf, rulesBefore29, surveyRules, survey}
 use Rattle.tables.specs.declared.Table.{Table}
 use Rattle.tables.specs.declared.Entry.{Entry}
 use Rattle.tables.specs.declared.Entry.the-variants.{At, Nowhere}
 use Rattle.tables.specs.declared.Survey.{Survey}
 use Rattle.tables.specs.declared.Survey.the-variants.{Found, Refused}
-use Rattle.tables.proofs.Inside.{Lies, named-inside, both-inside, tables-inside, survey-told as told-by}
-use Rattle.promises.proofs.Told.{OfTheRules, Told, Inside, tell, none-told, more-told, rule-told, joined-told, each-told, search-told}
+use Rattle.tables.proofs.Inside.{Lies, named-inside, both-inside, kept-inside, tables-inside, survey-told as told-by}
+use Rattle.tables.specs.declared.Strictness.{Strictness}
+use Rattle.promises.proofs.Told.{OfTheRules, Told, isBefore29, is29Or30, isNot60, told-not-60, Inside, tell, none-told, more-told, rule-told, joined-told, each-told, search-told}
 use Rattle.promises.proofs.CaptureRefusals.{container-told, presence-told}
 
 -- a table that lies inside the capture stands there
-stands : {capture : List ℕ} {table : Table} {least : ℕ} → Lies capture table least → 0 < least → Inside capture (table .place)
+pub stands : {capture : List ℕ} {table : Table} {least : ℕ} → Lies capture table least → 0 < least → Inside capture (table .place)
 stands l some = (l .behind, omega (arith, l .inside, l .long))
 
 -- ---- 11 to 14
-rsdp-rules-told : (capture : List ℕ) (place : ℕ) → Inside capture place → Told capture (firstRefusal (rsdpRules capture place))
+rsdp-rules-told : (capture : List ℕ) (place : ℕ) → Inside capture place → Told isBefore29 capture (firstRefusal (rsdpRules capture place))
 unfolding rsdpRules
 rsdp-rules-told capture place l =
-    rule-told capture _ 11 place _ (tell capture 11 place (refl, refl, refl) l)
-    (λ t. rule-told capture _ 12 place _ (tell capture 12 place (refl, refl, refl) l)
-    (λ t. rule-told capture _ 13 place _ (tell capture 13 place (refl, refl, refl) l)
-    (λ t. rule-told capture _ 14 place _ (tell capture 14 place (refl, refl, refl) l)
-    (λ t. none-told capture))))
+    rule-told isBefore29 capture _ 11 place _ (tell isBefore29 capture 11 place (refl, refl, refl, refl) l)
+    (λ t. rule-told isBefore29 capture _ 12 place _ (tell isBefore29 capture 12 place (refl, refl, refl, refl) l)
+    (λ t. rule-told isBefore29 capture _ 13 place _ (tell isBefore29 capture 13 place (refl, refl, refl, refl) l)
+    (λ t. rule-told isBefore29 capture _ 14 place _ (tell isBefore29 capture 14 place (refl, refl, refl, refl) l)
+    (λ t. none-told isBefore29 capture))))
 
 -- ---- 20 to 22
-table-told : (capture : List ℕ) (field : ℕ) → Sound capture → Inside capture field → Told capture (firstRefusal (tableRules capture field))
+table-told : (capture : List ℕ) (field : ℕ) → Sound capture → Inside capture field → Told isBefore29 capture (firstRefusal (tableRules capture field))
 unfolding tableRules headerAt
 table-told capture field sound l =
     let place = placeOf (headerAt capture field) in
-    rule-told capture _ 20 field _ (tell capture 20 field (refl, refl, refl) l)
+    rule-told isBefore29 capture _ 20 field _ (tell isBefore29 capture 20 field (refl, refl, refl, refl) l)
     (λ t.
     let there = present-at (headerAt capture field) (not-false _ t) in
     let ends = within capture (addressAt capture field) headerSize place sound there in
     let at : Inside capture place = (omega (arith, behind capture (addressAt capture field) headerSize place there), omega arith) in
-    rule-told capture _ 21 place _ (tell capture 21 place (refl, refl, refl) at)
-    (λ t. rule-told capture _ 22 place _ (tell capture 22 place (refl, refl, refl) at)
-    (λ t. none-told capture)))
+    rule-told isBefore29 capture _ 21 place _ (tell isBefore29 capture 21 place (refl, refl, refl, refl) at)
+    (λ t. rule-told isBefore29 capture _ 22 place _ (tell isBefore29 capture 22 place (refl, refl, refl, refl) at)
+    (λ t. none-told isBefore29 capture)))
 
 -- ---- the XSDT and its entries
 module _ (capture : List ℕ) (sound : Sound capture) (xsdt : Table) (lies : Lies capture xsdt 36) where
@@ -64,20 +65,20 @@ module _ (capture : List ℕ) (sound : Sound capture) (xsdt : Table) (lies : Lie
   field-at entry h = (omega arith, omega (arith, lies .inside, lies .long))
 
   -- 23 to 25
-  xsdt-rules-told : Told capture (firstRefusal (xsdtRules capture xsdt))
+  xsdt-rules-told : Told isBefore29 capture (firstRefusal (xsdtRules capture xsdt))
   unfolding xsdtRules
   xsdt-rules-told =
       let at = stands lies (omega arith) in
-      rule-told capture _ 23 _ _ (tell capture 23 (xsdt .place) (refl, refl, refl) at)
-      (λ t. rule-told capture _ 24 _ _ (tell capture 24 (xsdt .place) (refl, refl, refl) at)
-      (λ t. rule-told capture _ 25 _ _ (tell capture 25 (xsdt .place) (refl, refl, refl) at)
-      (λ t. none-told capture)))
+      rule-told isBefore29 capture _ 23 _ _ (tell isBefore29 capture 23 (xsdt .place) (refl, refl, refl, refl) at)
+      (λ t. rule-told isBefore29 capture _ 24 _ _ (tell isBefore29 capture 24 (xsdt .place) (refl, refl, refl, refl) at)
+      (λ t. rule-told isBefore29 capture _ 25 _ _ (tell isBefore29 capture 25 (xsdt .place) (refl, refl, refl, refl) at)
+      (λ t. none-told isBefore29 capture)))
 
   -- 20 to 22 of each entry
-  entries-told : Told capture (firstRefusal (entryRules capture xsdt))
+  entries-told : Told isBefore29 capture (firstRefusal (entryRules capture xsdt))
   unfolding entryRules entries numbersBelow
   entries-told =
-      each-told capture (λ (k : ℕ). tableRules capture (entryField xsdt k)) 0 (entryCount xsdt)
+      each-told isBefore29 capture (λ (k : ℕ). tableRules capture (entryField xsdt k)) 0 (entryCount xsdt)
       (λ k l h. table-told capture (entryField xsdt k) sound (field-at k (omega arith)))
 
   -- what the finder finds is one of the entries
@@ -105,31 +106,38 @@ module _ (capture : List ℕ) (sound : Sound capture) (xsdt : Table) (lies : Lie
   earlier-counted (At entry) (At other) p q = if-cases Counted (leb entry other) _ _ (λ t. p) (λ t. q)
 
   -- 27
-  second-told : (e : Entry) → Counted e → Told capture (secondRule xsdt e)
+  second-told : (e : Entry) → Counted e → Told isBefore29 capture (secondRule xsdt e)
   unfolding secondRule
   second-told Nowhere p = omega arith
-  second-told (At entry) p = tell capture 27 (entryField xsdt entry) (refl, refl, refl) (field-at entry p)
+  second-told (At entry) p = tell isBefore29 capture 27 (entryField xsdt entry) (refl, refl, refl, refl) (field-at entry p)
 
   -- 26 and 27
-  names-told : Told capture (firstRefusal (nameRules capture xsdt))
+  names-told : Told isBefore29 capture (firstRefusal (nameRules capture xsdt))
   unfolding nameRules
   names-told =
-      rule-told capture _ 26 _ _ (tell capture 26 (xsdt .place) (refl, refl, refl) (stands lies (omega arith)))
-      (λ t. more-told capture _ _
+      rule-told isBefore29 capture _ 26 _ _ (tell isBefore29 capture 26 (xsdt .place) (refl, refl, refl, refl) (stands lies (omega arith)))
+      (λ t. more-told isBefore29 capture _ _
       (second-told _
       (earlier-counted (secondNamed capture xsdt apic) (secondNamed capture xsdt facp) (second-counted apic) (second-counted facp)))
-      (λ t. none-told capture))
+      (λ t. none-told isBefore29 capture))
 
--- 28 to 30
-bodies-told : (capture : List ℕ) (madt fadt : Table) → Inside capture (madt .place) → Inside capture (fadt .place)
-    → Told capture (firstRefusal (bodyRules capture madt fadt))
-unfolding bodyRules
-bodies-told capture madt fadt m f =
-    rule-told capture _ 28 _ _ (tell capture 28 (madt .place) (refl, refl, refl) m)
-    (λ t. rule-told capture _ 28 _ _ (tell capture 28 (fadt .place) (refl, refl, refl) f)
-    (λ t. rule-told capture _ 29 _ _ (tell capture 29 (madt .place) (refl, refl, refl) m)
-    (λ t. rule-told capture _ 30 _ _ (tell capture 30 (madt .place) (refl, refl, refl) m)
-    (λ t. none-told capture))))
+-- 28
+lengths-told : (capture : List ℕ) (madt fadt : Table) → Inside capture (madt .place) → Inside capture (fadt .place)
+    → Told isBefore29 capture (firstRefusal (lengthRules madt fadt))
+unfolding lengthRules
+lengths-told capture madt fadt m f =
+    rule-told isBefore29 capture _ 28 _ _ (tell isBefore29 capture 28 (madt .place) (refl, refl, refl, refl) m)
+    (λ t. rule-told isBefore29 capture _ 28 _ _ (tell isBefore29 capture 28 (fadt .place) (refl, refl, refl, refl) f)
+    (λ t. none-told isBefore29 capture))
+
+-- 29 and 30
+fields-told : (strictness : Strictness) (capture : List ℕ) (madt : Table) → Inside capture (madt .place)
+    → Told is29Or30 capture (firstRefusal (madtFieldRules strictness capture madt))
+unfolding madtFieldRules
+fields-told strictness capture madt m =
+    rule-told is29Or30 capture _ 29 _ _ (tell is29Or30 capture 29 (madt .place) (refl, refl, refl, refl) m)
+    (λ t. rule-told is29Or30 capture _ 30 _ _ (tell is29Or30 capture 30 (madt .place) (refl, refl, refl, refl) m)
+    (λ t. none-told is29Or30 capture))
 
 -- ---- all of them in turn
 rsdp-inside : (capture : List ℕ) → Sound capture → firstRefusal (presenceRules capture) ≡ verdicts.Sound
@@ -138,36 +146,47 @@ rsdp-inside capture sound h =
     let there = rsdp-there capture h in
     (omega (arith, behind capture (rsdpAddress capture) rsdpSize (rsdpPlace capture) there), within capture (rsdpAddress capture) rsdpSize (rsdpPlace capture) sound there)
 
-rules-told : (capture : List ℕ) → Told capture (firstRefusal (surveyRules capture))
-unfolding surveyRules verdict xsdtOf xsdtField
-rules-told capture =
+-- 1 to 28
+pub before-29-told : (capture : List ℕ) → Told isBefore29 capture (firstRefusal (rulesBefore29 capture))
+unfolding rulesBefore29 verdict xsdtOf xsdtField
+before-29-told capture =
     let rsdp = rsdpPlace capture in
     let xsdt = xsdtOf capture in
-    joined-told capture (containerRules capture) _ (container-told capture)
-    (λ sound. joined-told capture (presenceRules capture) _ (presence-told capture sound)
+    joined-told isBefore29 capture (containerRules capture) _ (container-told capture)
+    (λ sound. joined-told isBefore29 capture (presenceRules capture) _ (presence-told capture sound)
     (λ present.
     let at = rsdp-inside capture sound present in
-    joined-told capture (rsdpRules capture rsdp) _ (rsdp-rules-told capture rsdp (at .0, omega (arith, at .1)))
-    (λ h. joined-told capture (tableRules capture (xsdtField rsdp)) _
+    joined-told isBefore29 capture (rsdpRules capture rsdp) _ (rsdp-rules-told capture rsdp (at .0, omega (arith, at .1)))
+    (λ h. joined-told isBefore29 capture (tableRules capture (xsdtField rsdp)) _
     (table-told capture (xsdtField rsdp) sound (omega arith, omega (arith, at .1)))
     (λ whole.
     let lies = named-inside capture (xsdtField rsdp) sound whole in
-    joined-told capture (xsdtRules capture xsdt) _ (xsdt-rules-told capture sound xsdt lies)
-    (λ h. joined-told capture (entryRules capture xsdt) _ (entries-told capture sound xsdt lies)
-    (λ through. joined-told capture (nameRules capture xsdt) _ (names-told capture sound xsdt lies)
+    joined-told isBefore29 capture (xsdtRules capture xsdt) _ (xsdt-rules-told capture sound xsdt lies)
+    (λ h. joined-told isBefore29 capture (entryRules capture xsdt) _ (entries-told capture sound xsdt lies)
+    (λ through. joined-told isBefore29 capture (nameRules capture xsdt) _ (names-told capture sound xsdt lies)
     (λ names.
     let both = both-inside capture xsdt sound through names in
-    bodies-told capture (madtOf capture xsdt) (fadtOf capture xsdt) (stands (both .0) (omega arith)) (stands (both .1) (omega arith)))))))))
+    lengths-told capture (madtOf capture xsdt) (fadtOf capture xsdt) (stands (both .0) (omega arith)) (stands (both .1) (omega arith)))))))))
+
+-- 1 to 30
+rules-told : (strictness : Strictness) (capture : List ℕ) → Told isNot60 capture (firstRefusal (surveyRules strictness capture))
+unfolding surveyRules tablesOf tablesFrom withSci
+rules-told strictness capture =
+    let madt = madtOf capture (xsdtOf capture) in
+    joined-told isNot60 capture (rulesBefore29 capture) _
+    (told-not-60 isBefore29 refl capture (firstRefusal (rulesBefore29 capture)) (before-29-told capture))
+    (λ kept. told-not-60 is29Or30 refl capture (firstRefusal (madtFieldRules strictness capture madt))
+    (fields-told strictness capture madt (stands (kept-inside capture kept .madt) (omega arith))))
 
 abbrev pub SurveyTold : List ℕ → Survey → Type 0
 SurveyTold capture (Found t) = Inside capture (t .madt .place) × Inside capture (t .fadt .place)
-SurveyTold capture (Refused r) = OfTheRules capture r
+SurveyTold capture (Refused r) = OfTheRules isNot60 capture r
 
-pub survey-told : (capture : List ℕ) → SurveyTold capture (survey capture)
-survey-told capture = go (survey capture) refl
+pub survey-told : (strictness : Strictness) (capture : List ℕ) → SurveyTold capture (survey strictness capture)
+survey-told strictness capture = go (survey strictness capture) refl
   where
-    go : (s : Survey) → survey capture ≡ s → SurveyTold capture s
-    go (Refused r) e = rw (told-by capture e) at (rules-told capture)
+    go : (s : Survey) → survey strictness capture ≡ s → SurveyTold capture s
+    go (Refused r) e = rw (told-by strictness capture e) at (rules-told strictness capture)
     go (Found t) e =
-        let l = tables-inside capture t e in
+        let l = tables-inside strictness capture t e in
         (stands (l .madt) (omega arith), stands (l .fadt) (omega arith))

@@ -4,7 +4,9 @@ use native.Mathlib.Omega.{arith}
 use mathlib.Core.Path.{_≡_, refl, sym, ap, _∙_}
 use mathlib.Core.Logic.{inl, inr}
 use mathlib.Core.List.{List, [], _∷_, _++_, List·Memᴰ, List·Memᴰ·head, List·Memᴰ·tail}
-use mathlib.Core.Bool.{Bool, true, false, true≢false}
+use mathlib.Core.Bool.{Bool, true, false, not, _||_, true≢false}
+use borrow.Author.Tests.{ne-eqb}
+use lib.Dec.{eqb}
 use lib.ListN.{length}
 use Rattle.words.specs.Lists.{first, numbersFrom}
 use Rattle.words.specs.Choice.{if}
@@ -15,43 +17,62 @@ use Rattle.words.specs.declared.Verdict.the-variants.{Sound, Refused}
 use Rattle.clashes.specs.Folds.{fold}
 use Rattle.words.proofs.Choices.{if-cases}
 use Rattle.words.proofs.Verdicts.{first-none, first-joined}
-use Rattle.promises.specs.RefusalTable.{isRefusalNumber, isPlaceless, isTwofold, OfTheTable}
+use Rattle.promises.specs.RefusalTable.{among, isRefusalNumber, isPlaceless, isTwofold, OfTheTable}
 
--- a refusal of the table that is not 60, the list's
-abbrev pub OfTheRules : List ℕ → Refusal → Type 0
-OfTheRules capture r = OfTheTable capture r × (r .number ≡ 60 → ⊥)
+-- a refusal of the table with a number that some rules have as their own
+abbrev pub OfTheRules : (ℕ → Bool) → List ℕ → Refusal → Type 0
+OfTheRules own capture r = OfTheTable capture r × (own (r .number) ≡ true)
 
 -- a verdict that refuses nothing, or with such a refusal
-abbrev pub Told : List ℕ → Verdict → Type 0
-Told capture Sound = 0 < 1
-Told capture (Refused r) = OfTheRules capture r
+abbrev pub Told : (ℕ → Bool) → List ℕ → Verdict → Type 0
+Told own capture Sound = 0 < 1
+Told own capture (Refused r) = OfTheRules own capture r
+
+-- the numbers of the rules before 29; 29 and 30; those of the rules after them
+abbrev pub isBefore29 : ℕ → Bool
+isBefore29 = among 1 28
+
+abbrev pub is29Or30 : ℕ → Bool
+is29Or30 = among 29 30
+
+abbrev pub isAfter30 : ℕ → Bool
+isAfter30 n = among 31 54 n || among 71 77 n
+
+-- and every number but 60, the list's
+abbrev pub isNot60 : ℕ → Bool
+isNot60 n = not (eqb n 60)
+
+-- what some rules tell is told by more of them
+pub told-wider : (own more : ℕ → Bool) → ((n : ℕ) → own n ≡ true → more n ≡ true) → (capture : List ℕ) (v : Verdict)
+    → Told own capture v → Told more capture v
+told-wider own more wider capture Sound told = told
+told-wider own more wider capture (Refused r) told = (told .0, wider (r .number) (told .1))
+
+pub told-not-60 : (own : ℕ → Bool) → own 60 ≡ false → (capture : List ℕ) (v : Verdict) → Told own capture v → Told isNot60 capture v
+told-not-60 own h = told-wider own isNot60 (λ n t. ap not (ne-eqb n 60 (λ e. true≢false (sym t ∙ ap own e ∙ h))))
 
 -- ---- one refusal
 abbrev pub Inside : List ℕ → ℕ → Type 0
 Inside capture place = (0 < place) × (place < length capture)
 
--- 60 has no place
-not-60 : {n : ℕ} → isPlaceless n ≡ false → n ≡ 60 → ⊥
-not-60 h e = true≢false (sym (ap isPlaceless e) ∙ h)
-
 -- its number is one that has a place, inside the capture, and tells no second one
-abbrev pub Named : ℕ → Type 0
-Named n = (isRefusalNumber n ≡ true) × (isPlaceless n ≡ false) × (isTwofold n ≡ false)
+abbrev pub Named : (ℕ → Bool) → ℕ → Type 0
+Named own n = (isRefusalNumber n ≡ true) × (isPlaceless n ≡ false) × (isTwofold n ≡ false) × (own n ≡ true)
 
-pub tell : (capture : List ℕ) (n place : ℕ) → Named n → Inside capture place → OfTheRules capture (refused n place)
-tell capture n place named at = (
+pub tell : (own : ℕ → Bool) (capture : List ℕ) (n place : ℕ) → Named own n → Inside capture place → OfTheRules own capture (refused n place)
+tell own capture n place named at = (
   record { number = named .0; place = inr (named .1, at .0, at .1); second = inr (named .2, refl) },
-  not-60 (named .1),
+  named .3,
 )
 
 -- or it tells a second one, before it
-abbrev pub NamedBoth : ℕ → Type 0
-NamedBoth n = (isRefusalNumber n ≡ true) × (isPlaceless n ≡ false) × (isTwofold n ≡ true)
+abbrev pub NamedBoth : (ℕ → Bool) → ℕ → Type 0
+NamedBoth own n = (isRefusalNumber n ≡ true) × (isPlaceless n ≡ false) × (isTwofold n ≡ true) × (own n ≡ true)
 
-pub tell-both : (capture : List ℕ) (n p q : ℕ) → NamedBoth n → Inside capture p → 0 < q → q < p → OfTheRules capture (refusedWith n p q)
-tell-both capture n p q named at some before = (
+pub tell-both : (own : ℕ → Bool) (capture : List ℕ) (n p q : ℕ) → NamedBoth own n → Inside capture p → 0 < q → q < p → OfTheRules own capture (refusedWith n p q)
+tell-both own capture n p q named at some before = (
   record { number = named .0; place = inr (named .1, at .0, at .1); second = inl (named .2, some, before) },
-  not-60 (named .1),
+  named .3,
 )
 
 -- or it has no place
@@ -62,35 +83,35 @@ pub tell-none : (capture : List ℕ) (n : ℕ) → Placeless n → OfTheTable ca
 tell-none capture n named = record { number = named .0; place = inl (named .1, refl); second = inr (named .2, refl) }
 
 -- ---- rules in turn
-module _ (capture : List ℕ) where
-  turn-told : (v later : Verdict) → Told capture v → (v ≡ Sound → Told capture later) → Told capture (unless Refused v later)
+module _ (own : ℕ → Bool) (capture : List ℕ) where
+  turn-told : (v later : Verdict) → Told own capture v → (v ≡ Sound → Told own capture later) → Told own capture (unless Refused v later)
   unfolding unless
   turn-told Sound later here after = after refl
   turn-told (Refused r) later here after = here
 
   -- no rule, and one more
-  pub none-told : Told capture (firstRefusal [])
+  pub none-told : Told own capture (firstRefusal [])
   none-told = rw first-none (omega arith)
 
-  pub more-told : (v : Verdict) (later : List Verdict) → Told capture v → (v ≡ Sound → Told capture (firstRefusal later))
-      → Told capture (firstRefusal (v ∷ later))
+  pub more-told : (v : Verdict) (later : List Verdict) → Told own capture v → (v ≡ Sound → Told own capture (firstRefusal later))
+      → Told own capture (firstRefusal (v ∷ later))
   unfolding firstRefusal
   more-told v later = turn-told v (firstRefusal later)
 
-  pub rule-told : (broken : Bool) (n place : ℕ) (later : List Verdict) → OfTheRules capture (refused n place)
-      → (broken ≡ false → Told capture (firstRefusal later)) → Told capture (firstRefusal (rule broken n place ∷ later))
+  pub rule-told : (broken : Bool) (n place : ℕ) (later : List Verdict) → OfTheRules own capture (refused n place)
+      → (broken ≡ false → Told own capture (firstRefusal later)) → Told own capture (firstRefusal (rule broken n place ∷ later))
   unfolding firstRefusal unless if
   rule-told true n place later here after = here
   rule-told false n place later here after = after refl
 
   -- one list behind another
-  pub joined-told : (xs ys : List Verdict) → Told capture (firstRefusal xs) → (firstRefusal xs ≡ Sound → Told capture (firstRefusal ys))
-      → Told capture (firstRefusal (xs ++ ys))
+  pub joined-told : (xs ys : List Verdict) → Told own capture (firstRefusal xs) → (firstRefusal xs ≡ Sound → Told own capture (firstRefusal ys))
+      → Told own capture (firstRefusal (xs ++ ys))
   joined-told xs ys here after = rw (first-joined xs ys) (turn-told (firstRefusal xs) (firstRefusal ys) here after)
 
   -- those of some numbers in turn
-  pub each-told : (rules : ℕ → List Verdict) (from k : ℕ) → ((i : ℕ) → from ≤ i → i < from + k → Told capture (firstRefusal (rules i)))
-      → Told capture (firstRefusal (inEach rules (numbersFrom from k)))
+  pub each-told : (rules : ℕ → List Verdict) (from k : ℕ) → ((i : ℕ) → from ≤ i → i < from + k → Told own capture (firstRefusal (rules i)))
+      → Told own capture (firstRefusal (inEach rules (numbersFrom from k)))
   unfolding inEach numbersFrom
   each-told rules from zero each = none-told
   each-told rules from (suc k) each =

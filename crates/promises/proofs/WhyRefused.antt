@@ -9,6 +9,7 @@ use Rattle.words.specs.Refusals.{refused, unless}
 use Rattle.words.specs.declared.Refusal.{Refusal}
 use Rattle.words.specs.declared.Verdict.{Verdict}
 use Rattle.words.specs.declared.Verdict.the-variants as verdicts
+use Rattle.tables.specs.declared.Strictness.{Strictness}
 use Rattle.processors.specs.Listing.{processors, hasRoom}
 use Rattle.words.proofs.Choices.{if-cases}
 use Rattle.reading.specs.Scan.{scan}
@@ -24,19 +25,19 @@ read-refused : {n : ℕ} {r : Refusal} {X : Type 0} → _≡_ {A = Answer} (Read
 read-refused e = absurd (let o : _≡_ {A = ℕ} 0 1 = cc in omega arith)
 
 -- the scan refused; or it did not, and the list has no room
-abbrev pub Why : List ℕ → List ℕ → Refusal → Type 0
-Why capture list r =
-    (scan capture .verdict ≡ verdicts.Refused r)
-    ⊎ ((scan capture .verdict ≡ verdicts.Sound) × (refused 60 0 ≡ r)
-    × (hasRoom (processors (madtFound capture)) list ≡ false))
+abbrev pub Why : Strictness → List ℕ → List ℕ → Refusal → Type 0
+Why strictness capture list r =
+    (scan strictness capture .verdict ≡ verdicts.Refused r)
+    ⊎ ((scan strictness capture .verdict ≡ verdicts.Sound) × (refused 60 0 ≡ r)
+    × (hasRoom (processors (madtFound strictness capture)) list ≡ false))
 
-pub why-refused : (capture list : List ℕ) (r : Refusal) → readingOf capture list .answer ≡ Refused r → Why capture list r
+pub why-refused : (strictness : Strictness) (capture list : List ℕ) (r : Refusal) → readingOf strictness capture list .answer ≡ Refused r → Why strictness capture list r
 unfolding readingOf unless withoutMap answered
-why-refused capture list r = go (scan capture .verdict) refl
+why-refused strictness capture list r = go (scan strictness capture .verdict) refl
   where
-    go : (v : Verdict) → scan capture .verdict ≡ v → unless withoutMap v (answered (madtFound capture) (scan capture .map) list) .answer ≡ Refused r → Why capture list r
+    go : (v : Verdict) → scan strictness capture .verdict ≡ v → unless withoutMap v (answered (madtFound strictness capture) (scan strictness capture .map) list) .answer ≡ Refused r → Why strictness capture list r
     go (verdicts.Refused q) e = λ h. inl (e ∙ ap verdicts.Refused (same-refusal h))
     go verdicts.Sound e =
-        if-cases (λ (x : Reading). x .answer ≡ Refused r → Why capture list r) _ _ _
+        if-cases (λ (x : Reading). x .answer ≡ Refused r → Why strictness capture list r) _ _ _
         (λ room h. read-refused h)
         (λ room h. inr (e, same-refusal h, room))

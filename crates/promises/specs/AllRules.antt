@@ -9,6 +9,7 @@ use mathlib.Core.Path.{_≡_}
 use Rattle.words.specs.Refusals.{rule, firstRefusal}
 use Rattle.words.specs.declared.Verdict.{Verdict}
 use Rattle.words.specs.declared.Verdict.the-variants.{Sound, Refused}
+use Rattle.tables.specs.declared.Strictness.{Strictness}
 use Rattle.processors.specs.Listing.{processors, hasRoom}
 use Rattle.reading.specs.Scan.{allRules, scan}
 use Rattle.reading.specs.Reading.{madtFound, readingOf}
@@ -16,15 +17,15 @@ use Rattle.reading.specs.declared.Answer.{Answer}
 use Rattle.reading.specs.declared.Answer.the-variants as answers
 
 -- THE STATEMENTS: what a capture is refused with is what the first broken rule says; and it is accepted if none is broken
-abbrev pub FirstRuleWins : List ℕ → Type 0
-FirstRuleWins capture = scan capture .verdict ≡ firstRefusal (allRules capture)
+abbrev pub FirstRuleWins : Strictness → List ℕ → Type 0
+FirstRuleWins strictness capture = scan strictness capture .verdict ≡ firstRefusal (allRules strictness capture)
 
 -- and so with the reading, where the list comes last: 60
 unfoldable pub verdictOf : Answer → Verdict
 verdictOf (answers.Read processors) = Sound
 verdictOf (answers.Refused refusal) = Refused refusal
 
-abbrev pub ListComesLast : List ℕ → List ℕ → Type 0
-ListComesLast capture list =
-    verdictOf (readingOf capture list .answer)
-    ≡ firstRefusal (allRules capture ++ (rule (not (hasRoom (processors (madtFound capture)) list)) 60 0 ∷ []))
+abbrev pub ListComesLast : Strictness → List ℕ → List ℕ → Type 0
+ListComesLast strictness capture list =
+    verdictOf (readingOf strictness capture list .answer)
+    ≡ firstRefusal (allRules strictness capture ++ (rule (not (hasRoom (processors (madtFound strictness capture)) list)) 60 0 ∷ []))

@@ -9,6 +9,7 @@ use Rattle.words.specs.Bytes.{numberAt}
 use Rattle.words.specs.Refusals.{refused}
 use Rattle.words.specs.declared.Refusal.{Refusal}
 use Rattle.words.specs.declared.Verdict.the-variants as verdicts
+use Rattle.tables.specs.declared.Strictness.the-variants.{Strict}
 use Rattle.lines.specs.Answers.{refusalCode}
 use Rattle.processors.specs.Image.{image}
 use Rattle.processors.specs.Listing.{processors, count}
@@ -24,8 +25,8 @@ use Rattle.promises.specs.RefusalTable.{OfTheTable}
 -- number
 abbrev pub SameReading : List ℕ → List ℕ → Type 0
 SameReading capture list =
-    (bytesAfter capture (image list) ≡ image (listAfter capture list))
-    × (readResult capture (image list) ≡ readCode (readingOf capture list .answer))
+    (bytesAfter capture (image list) ≡ image (listAfter Strict capture list))
+    × (readResult capture (image list) ≡ readCode (readingOf Strict capture list .answer))
 
 -- "four little-endian ones a number": a list of 32-bit numbers is read back from its bytes, as numbers of a capture are read
 abbrev pub ReadBack : List ℕ → Type 0
@@ -34,25 +35,25 @@ ReadBack list = ((at : ℕ) → getD list at 0 < 2 ^ 32) → (at : ℕ) → numb
 -- lent any bytes, it does one of three things. It refuses what breaks a rule up to 54, with the bytes as they were;
 pub record NotRead (capture list : List ℕ) : Type 0 where
   pub refusal : Refusal
-  pub broken : scan capture .verdict ≡ verdicts.Refused refusal
+  pub broken : scan Strict capture .verdict ≡ verdicts.Refused refusal
   pub ofthetable : OfTheTable capture refusal
   pub result : readResult capture list ≡ refusalCode refusal
   pub kept : bytesAfter capture list ≡ list
 
 -- or "60 means under 8 × count bytes", with the bytes as they were;
 pub record TooShort (capture list : List ℕ) : Type 0 where
-  pub sound : scan capture .verdict ≡ verdicts.Sound
-  pub short : length list < 8 * count (madtFound capture)
+  pub sound : scan Strict capture .verdict ≡ verdicts.Sound
+  pub short : length list < 8 * count (madtFound Strict capture)
   pub result : readResult capture list ≡ refusalCode (refused 60 0)
   pub kept : bytesAfter capture list ≡ list
 
 -- or it answers the count, with the processors' bytes in front and the rest as it was
 pub record HasRead (capture list : List ℕ) : Type 0 where
-  pub sound : scan capture .verdict ≡ verdicts.Sound
-  pub room : 8 * count (madtFound capture) ≤ length list
-  pub result : readResult capture list ≡ count (madtFound capture)
-  pub most : count (madtFound capture) ≤ 256
-  pub bytes : bytesAfter capture list ≡ image (processors (madtFound capture)) ++ drop (8 * count (madtFound capture)) list
+  pub sound : scan Strict capture .verdict ≡ verdicts.Sound
+  pub room : 8 * count (madtFound Strict capture) ≤ length list
+  pub result : readResult capture list ≡ count (madtFound Strict capture)
+  pub most : count (madtFound Strict capture) ≤ 256
+  pub bytes : bytesAfter capture list ≡ image (processors (madtFound Strict capture)) ++ drop (8 * count (madtFound Strict capture)) list
 
 abbrev pub CReading : List ℕ → List ℕ → Type 0
 CReading capture list = NotRead capture list ⊎ (TooShort capture list ⊎ HasRead capture list)

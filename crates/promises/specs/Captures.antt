@@ -9,6 +9,7 @@ use Rattle.words.specs.declared.Verdict.the-variants.{Sound, Refused}
 use Rattle.tables.specs.Survey.{survey}
 use Rattle.tables.specs.declared.Tables.{Tables}
 use Rattle.tables.specs.declared.Survey.the-variants.{Found}
+use Rattle.tables.specs.declared.Strictness.{Strictness}
 use Rattle.lines.specs.Says.{Said, says}
 use Rattle.lines.specs.Claims.{claims}
 use Rattle.lines.specs.Rules.{rule40, rule41, rule42, rule43, keepsRules}
@@ -31,8 +32,8 @@ use Rattle.reading.specs.declared.Answer.the-variants.{Read, Refused as NotRead
 
 -- ---- demand 3: "Take any accepted capture"
 -- no rule up to 54 is broken
-abbrev pub Accepted : List ℕ → Type 0
-Accepted capture = scan capture .verdict ≡ Sound
+abbrev pub Accepted : Strictness → List ℕ → Type 0
+Accepted strictness capture = scan strictness capture .verdict ≡ Sound
 
 -- what a person at the bench may rely on in a map
 pub record Trustworthy (map : Map) : Type 0 where
@@ -59,30 +60,30 @@ pub record Trustworthy (map : Map) : Type 0 where
   pub back : ThereAndBack map
 
 -- the map of an accepted capture is that
-abbrev pub AcceptedIsTrustworthy : List ℕ → Type 0
-AcceptedIsTrustworthy capture = Accepted capture → Trustworthy (scan capture .map)
+abbrev pub AcceptedIsTrustworthy : Strictness → List ℕ → Type 0
+AcceptedIsTrustworthy strictness capture = Accepted strictness capture → Trustworthy (scan strictness capture .map)
 
 -- and so is the map that the reading hands back with a count
-abbrev pub ReadIsTrustworthy : List ℕ → List ℕ → Type 0
-ReadIsTrustworthy capture list = (count : ℕ) → readingOf capture list .answer ≡ Read count → Trustworthy (readingOf capture list .map)
+abbrev pub ReadIsTrustworthy : Strictness → List ℕ → List ℕ → Type 0
+ReadIsTrustworthy strictness capture list = (count : ℕ) → readingOf strictness capture list .answer ≡ Read count → Trustworthy (readingOf strictness capture list .map)
 
 -- ---- "The map holds the used fields of LIO, EIO, BIO, MSI and LPC, in table order, and the SCI number"
 -- the map of an accepted capture is that of its MADT's structures, and its SCI number is the FADT's
-pub record MapOfMadt (capture : List ℕ) : Type 0 where
+pub record MapOfMadt (strictness : Strictness) (capture : List ℕ) : Type 0 where
   pub t : Tables
-  pub tables : survey capture ≡ Found t
+  pub tables : survey strictness capture ≡ Found t
   pub order :
-      InTableOrder (t .madt .place) (structures (pieces (madtBytes capture (t .madt)) 44)) (scan capture .map) (walkOf capture t .found .places)
-  pub sci : scan capture .map .sci ≡ t .sci
+      InTableOrder (t .madt .place) (structures (pieces (madtBytes capture (t .madt)) 44)) (scan strictness capture .map) (walkOf capture t .found .places)
+  pub sci : scan strictness capture .map .sci ≡ t .sci
 
-abbrev pub AcceptedIsOfMadt : List ℕ → Type 0
-AcceptedIsOfMadt capture = Accepted capture → MapOfMadt capture
+abbrev pub AcceptedIsOfMadt : Strictness → List ℕ → Type 0
+AcceptedIsOfMadt strictness capture = Accepted strictness capture → MapOfMadt strictness capture
 
 -- ---- demand 3, its last sentence
 -- "A capture that breaks no earlier rule": none up to 40
-pub record NothingBefore41 (capture : List ℕ) (t : Tables) : Type 0 where
+pub record NothingBefore41 (strictness : Strictness) (capture : List ℕ) (t : Tables) : Type 0 where
   -- 1 to 30; the tables are t
-  pub tables : survey capture ≡ Found t
+  pub tables : survey strictness capture ≡ Found t
   -- 31 to 38 and 71 to 77, structure by structure
   pub structures : walkOf capture t .verdict ≡ Sound
   -- no CORE repeats an ID, and one is enabled
@@ -92,48 +93,48 @@ pub record NothingBefore41 (capture : List ℕ) (t : Tables) : Type 0 where
   pub r40 : rule40 (says (walkOf capture t .found .map)) (t .madt .place) ≡ Sound
 
 -- none up to 43
-pub record NothingBefore51 (capture : List ℕ) (t : Tables) : Type 0 where
-  pub to40 : NothingBefore41 capture t
+pub record NothingBefore51 (strictness : Strictness) (capture : List ℕ) (t : Tables) : Type 0 where
+  pub to40 : NothingBefore41 strictness capture t
   -- 41 to 43, of the map that the walk found
   pub r41 : rule41 (claims (says (walkOf capture t .found .map)) (walkOf capture t .found .places)) ≡ Sound
   pub r42 : rule42 (claims (says (walkOf capture t .found .map)) (walkOf capture t .found .places)) ≡ Sound
   pub r43 : rule43 (says (walkOf capture t .found .map)) (walkOf capture t .found .places .lpc) ≡ Sound
 
 -- the same by the one list of all rules: none of those that stand before 51 refuses
-abbrev pub NotRefusedBefore51 : List ℕ → Type 0
-NotRefusedBefore51 capture = firstRefusal (rulesBefore51 capture) ≡ Sound
+abbrev pub NotRefusedBefore51 : Strictness → List ℕ → Type 0
+NotRefusedBefore51 strictness capture = firstRefusal (rulesBefore51 strictness capture) ≡ Sound
 
 -- it is the same: the rules are asked in their order
-abbrev pub RulesInOrder : List ℕ → Type 0
-RulesInOrder capture =
-    (NotRefusedBefore51 capture → (t : Tables) × NothingBefore51 capture t)
-    × ((t : Tables) → NothingBefore51 capture t → NotRefusedBefore51 capture)
+abbrev pub RulesInOrder : Strictness → List ℕ → Type 0
+RulesInOrder strictness capture =
+    (NotRefusedBefore51 strictness capture → (t : Tables) × NothingBefore51 strictness capture t)
+    × ((t : Tables) → NothingBefore51 strictness capture t → NotRefusedBefore51 strictness capture)
 
 -- "refused for a clash exactly when": each number by itself, over the structures that the walk found; `told n p q` is that n is told
 -- at place p with the second place q
-pub record EachExactly (told : ℕ → ℕ → ℕ → Type 0) (capture : List ℕ) (t : Tables) (said : Said) (places : Places) : Type 0 where
+pub record EachExactly (told : ℕ → ℕ → ℕ → Type 0) (strictness : Strictness) (capture : List ℕ) (t : Tables) (said : Said) (places : Places) : Type 0 where
   -- "EIO repeats an earlier node"
-  pub r41 : NothingBefore41 capture t → Exactly (told 41) (TwoNode said) (OnePlace (NamesLater said places (ShareNode said)))
+  pub r41 : NothingBefore41 strictness capture t → Exactly (told 41) (TwoNode said) (OnePlace (NamesLater said places (ShareNode said)))
   -- "BIO without an EIO of its node"
-  pub r42 : NothingBefore41 capture t → Exactly (told 42) ((TwoNode said → ⊥) × LoneBio said) (OnePlace (NamesLone said places))
+  pub r42 : NothingBefore41 strictness capture t → Exactly (told 42) ((TwoNode said → ⊥) × LoneBio said) (OnePlace (NamesLone said places))
   -- "two sources share a global number"
-  pub r51 : NothingBefore51 capture t → Exactly (told 51) (TwoNumber said) (Names said places (ShareNumber said))
+  pub r51 : NothingBefore51 strictness capture t → Exactly (told 51) (TwoNumber said) (Names said places (ShareNumber said))
   -- "or an extended vector of one EIO"
   pub r52 :
-      NothingBefore51 capture t
+      NothingBefore51 strictness capture t
       → Exactly (told 52) ((TwoNumber said → ⊥) × TwoVector said) (Names said places (ShareVector said))
   -- "or two controllers enter by one core vector"
   pub r53 :
-      NothingBefore51 capture t
+      NothingBefore51 strictness capture t
       → Exactly (told 53) ((TwoNumber said → ⊥) × (TwoVector said → ⊥) × TwoCore said) (Names said places (ShareCore said))
 
 -- so of what the capture is refused with
-abbrev pub RefusedExactlyForSharing : List ℕ → Tables → Type 0
-RefusedExactlyForSharing capture t =
-    EachExactly (λ n p q. scan capture .verdict ≡ Refused (refusedWith n p q)) capture t (says (walkOf capture t .found .map)) (walkOf capture t .found .places)
+abbrev pub RefusedExactlyForSharing : Strictness → List ℕ → Tables → Type 0
+RefusedExactlyForSharing strictness capture t =
+    EachExactly (λ n p q. scan strictness capture .verdict ≡ Refused (refusedWith n p q)) strictness capture t (says (walkOf capture t .found .map)) (walkOf capture t .found .places)
 
 -- and so of the reading's answer, whatever list it is lent
-abbrev pub ReadRefusedExactlyForSharing : List ℕ → List ℕ → Tables → Type 0
-ReadRefusedExactlyForSharing capture list t =
-    EachExactly (λ n p q. readingOf capture list .answer ≡ NotRead (refusedWith n p q)) capture t (says (walkOf capture t .found .map))
+abbrev pub ReadRefusedExactlyForSharing : Strictness → List ℕ → List ℕ → Tables → Type 0
+ReadRefusedExactlyForSharing strictness capture list t =
+    EachExactly (λ n p q. readingOf strictness capture list .answer ≡ NotRead (refusedWith n p q)) strictness capture t (says (walkOf capture t .found .map))
     (walkOf capture t .found .places)

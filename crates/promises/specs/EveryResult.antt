@@ -28,6 +28,8 @@ use Rattle.reading.proofs.scan_capture.Kinds as scan-capture
 use Rattle.reading.proofs.scan_capture.Reads as scan-capture-reads
 use Rattle.reading.proofs.read.Kinds as read
 use Rattle.reading.proofs.read.Reads as read-reads
+use Rattle.reading.proofs.read_strictly.Kinds as read-strictly
+use Rattle.reading.proofs.read_strictly.Reads as read-strictly-reads
 use Rattle.reading.proofs.entries.yasmirand_read.Kinds as c-read
 use Rattle.reading.proofs.entries.yasmirand_read.Reads as c-read-reads
 use Rattle.reading.proofs.entries.yasmirand_route.Kinds as c-route
@@ -50,17 +52,22 @@ Always {n} ps r Allowed Claimed =
 abbrev pub OfTheList : Refusal → Type 0
 OfTheList r = r .number ≡ 60
 
+-- of either strictness, which is the first parameter here
 abbrev pub ScanRefuses : Type 0
 ScanRefuses =
     Always scan-capture.ps scan-capture.r scan-capture-reads.Post
     (λ κs a result x. (r : Refusal) → result .verdict ≡ verdicts.Refused r
-    → OfTheTable (now (a .0)) r × (OfTheList r → ⊥) × (result .map ≡ emptyMap))
+    → OfTheTable (now (a .1 .0)) r × (OfTheList r → ⊥) × (result .map ≡ emptyMap))
 
-abbrev pub ReadRefuses : Type 0
-ReadRefuses =
-    Always read.ps read.r read-reads.Post
-    (λ κs a result x. (r : Refusal) → result .answer ≡ answers.Refused r
-    → OfTheTable (now (a .0)) r × (result .map ≡ emptyMap) × (now (x .1 .0) ≡ now (a .1 .0)))
+-- the ordinary reading and the strict one
+abbrev pub RefusedIsOfTheTable : Out 2 read.ps read.r
+RefusedIsOfTheTable κs a result x =
+    (r : Refusal) → result .answer ≡ answers.Refused r
+    → OfTheTable (now (a .0)) r × (result .map ≡ emptyMap) × (now (x .1 .0) ≡ now (a .1 .0))
+
+pub record ReadRefuses : Type 0 where
+  pub ordinary : Always read.ps read.r read-reads.Post RefusedIsOfTheTable
+  pub strict : Always read-strictly.ps read-strictly.r read-strictly-reads.Post RefusedIsOfTheTable
 
 -- a refusal of the table as a number, 2^48 or more; it is none of some
 abbrev pub RefusalBut : (Refusal → Type 0) → List ℕ → ℕ → Type 0

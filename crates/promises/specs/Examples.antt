@@ -10,6 +10,7 @@ use Rattle.words.specs.declared.Refusal.{Refusal}
 use Rattle.words.specs.declared.Verdict.{Verdict}
 use Rattle.words.specs.declared.Verdict.the-variants as verdicts
 use Rattle.kinds.specs.Used.{noEio, noBio, noMsi}
+use Rattle.tables.specs.declared.Strictness.{Strictness}
 use Rattle.lines.specs.Answers.{routeOf, traceOf}
 use Rattle.lines.specs.declared.Map.{Map}
 use Rattle.lines.specs.declared.Route.{Route}
@@ -38,10 +39,10 @@ pub data Told : Type 0 where
   judged : Verdict → Told
 
 -- what the definitions say
-unfoldable pub told : Question → Told
-told (number n) = routed (routeOf (scan boardA .map) n)
-told (arrival vector n) = traced (traceOf (scan boardA .map) vector n)
-told (neighbour capture) = judged (scan capture .verdict)
+unfoldable pub told : Strictness → Question → Told
+told strictness (number n) = routed (routeOf (scan strictness boardA .map) n)
+told strictness (arrival vector n) = traced (traceOf (scan strictness boardA .map) vector n)
+told strictness (neighbour capture) = judged (scan strictness capture .verdict)
 
 -- a question, and document 01's answer
 infix 4 _is_
@@ -73,11 +74,11 @@ twelve =
     ∷ (neighbour eioAt2 is isRefused (refusedWith 53 230 207))
     ∷ []
 
--- the statement over the list: asked in turn, the definitions give the answers
-abbrev pub TwelveExamples : Type 0
-TwelveExamples = map (λ e. told (question e)) twelve ≡ map answer twelve
+-- the statement over the list: asked in turn, the definitions give the answers, in either reading
+abbrev pub TwelveExamples : Strictness → Type 0
+TwelveExamples strictness = map (λ e. told strictness (question e)) twelve ≡ map answer twelve
 
--- ---- board A is accepted, with 2 processors and the list 0, 0, 1, 1; what lies past them stays
+-- ---- board A is accepted by both readings, with 2 processors and the list 0, 0, 1, 1; what lies past them stays
 -- what the lists held before
 abbrev pub old : ℕ
 old = 0xFFFFFFFF
@@ -100,10 +101,11 @@ mapOfA =
       sci = 75;
     }
 
-pub record BoardAIsRead : Type 0 where
-  pub accepted : scan boardA .verdict ≡ verdicts.Sound
-  pub reading : readingOf boardA (old ∷ old ∷ old ∷ old ∷ old ∷ []) ≡ record { answer = Read 2; map = mapOfA }
-  pub list : listAfter boardA (old ∷ old ∷ old ∷ old ∷ old ∷ []) ≡ 0 ∷ 0 ∷ 1 ∷ 1 ∷ old ∷ []
+pub record BoardAIsRead (strictness : Strictness) : Type 0 where
+  pub accepted : scan strictness boardA .verdict ≡ verdicts.Sound
+  pub reading : readingOf strictness boardA (old ∷ old ∷ old ∷ old ∷ old ∷ []) ≡ record { answer = Read 2; map = mapOfA }
+  pub list : listAfter strictness boardA (old ∷ old ∷ old ∷ old ∷ old ∷ []) ≡ 0 ∷ 0 ∷ 1 ∷ 1 ∷ old ∷ []
+  -- and by the C entry
   pub result : readResult boardA (replicate 17 oldByte) ≡ 2
   pub bytes : bytesAfter boardA (replicate 17 oldByte)
       ≡ 0 ∷ 0 ∷ 0 ∷ 0 ∷ 0 ∷ 0 ∷ 0 ∷ 0 ∷ 1 ∷ 0 ∷ 0 ∷ 0 ∷ 1 ∷ 0 ∷ 0 ∷ 0 ∷ oldByte ∷ []

@@ -1,4 +1,5 @@
 pub mod Captures
+pub mod Readings
 pub mod Memory
 pub mod RefusalTable
 pub mod Calls

@@ -23,6 +23,8 @@ use Rattle.reading.proofs.scan_capture.Kinds as scan-capture
 use Rattle.reading.proofs.scan_capture.Reads as scan-capture-reads
 use Rattle.reading.proofs.read.Kinds as read
 use Rattle.reading.proofs.read.Reads as read-reads
+use Rattle.reading.proofs.read_strictly.Kinds as read-strictly
+use Rattle.reading.proofs.read_strictly.Reads as read-strictly-reads
 use Rattle.reading.proofs.entries.yasmirand_read.Kinds as c-read
 use Rattle.reading.proofs.entries.yasmirand_read.Reads as c-read-reads
 use Rattle.reading.proofs.entries.yasmirand_route.Kinds as c-route
@@ -43,6 +45,7 @@ Determined {n} ps r Allowed =
 pub record OneAnswer : Type 0 where
   pub scan-capture : Determined scan-capture.ps scan-capture.r scan-capture-reads.Post
   pub read : Determined read.ps read.r read-reads.Post
+  pub read-strictly : Determined read-strictly.ps read-strictly.r read-strictly-reads.Post
   pub c-read : Determined c-read.ps c-read.r c-read-reads.Post
   pub c-route : Determined c-route.ps c-route.r c-route-reads.Post
   pub c-trace : Determined c-trace.ps c-trace.r c-trace-reads.Post

@@ -10,6 +10,8 @@ use lib.ListN.{length}
 use Rattle.words.specs.Refusals.{refused}
 use Rattle.words.specs.declared.Refusal.{Refusal}
 use Rattle.words.specs.declared.Verdict.the-variants as verdicts
+use Rattle.tables.specs.declared.Strictness.{Strictness}
+use Rattle.tables.specs.declared.Strictness.the-variants.{Strict}
 use Rattle.lines.specs.Answers.{refusalCode, routeOf, traceOf, routeCode, traceCode}
 use Rattle.lines.specs.declared.Map.{Map}
 use Rattle.lines.specs.declared.Route.the-variants as routes
@@ -57,28 +59,28 @@ pub record OfTheTable (capture : List ℕ) (refusal : Refusal) : Type 0 where
       ⊎ ((isTwofold (refusal .number) ≡ false) × (refusal .second ≡ 0))
 
 -- whatever is handed in, a refusal of the reading has a number of the table and a place of the capture
-abbrev pub ReadingRefusals : List ℕ → List ℕ → Type 0
-ReadingRefusals capture list = (r : Refusal) → readingOf capture list .answer ≡ Refused r → OfTheTable capture r
+abbrev pub ReadingRefusals : Strictness → List ℕ → List ℕ → Type 0
+ReadingRefusals strictness capture list = (r : Refusal) → readingOf strictness capture list .answer ≡ Refused r → OfTheTable capture r
 
 -- "A refused call leaves the processor list it was lent as it found it"
-abbrev pub RefusedLeavesList : List ℕ → List ℕ → Type 0
-RefusedLeavesList capture list = (r : Refusal) → readingOf capture list .answer ≡ Refused r → listAfter capture list ≡ list
+abbrev pub RefusedLeavesList : Strictness → List ℕ → List ℕ → Type 0
+RefusedLeavesList strictness capture list = (r : Refusal) → readingOf strictness capture list .answer ≡ Refused r → listAfter strictness capture list ≡ list
 
 -- the C entries for routing and tracing refuse what the reading refuses, 60 apart; of a capture that it does not refuse they
 -- give the map's answer, which is never 61
 abbrev pub RouteRefusals : List ℕ → ℕ → Type 0
 RouteRefusals capture number =
-    ((r : Refusal) × (scan capture .verdict ≡ verdicts.Refused r) × (routeResult capture number ≡ refusalCode r) × OfTheTable capture r)
-    ⊎ ((scan capture .verdict ≡ verdicts.Sound)
-    × (routeResult capture number ≡ routeCode (routeOf (scan capture .map) number))
-    × ((r : Refusal) → routeOf (scan capture .map) number ≡ routes.Refused r → ⊥))
+    ((r : Refusal) × (scan Strict capture .verdict ≡ verdicts.Refused r) × (routeResult capture number ≡ refusalCode r) × OfTheTable capture r)
+    ⊎ ((scan Strict capture .verdict ≡ verdicts.Sound)
+    × (routeResult capture number ≡ routeCode (routeOf (scan Strict capture .map) number))
+    × ((r : Refusal) → routeOf (scan Strict capture .map) number ≡ routes.Refused r → ⊥))
 
 abbrev pub TraceRefusals : List ℕ → ℕ → ℕ → Type 0
 TraceRefusals capture vector number =
-    ((r : Refusal) × (scan capture .verdict ≡ verdicts.Refused r) × (traceResult capture vector number ≡ refusalCode r) × OfTheTable capture r)
-    ⊎ ((scan capture .verdict ≡ verdicts.Sound)
-    × (traceResult capture vector number ≡ traceCode (traceOf (scan capture .map) vector number))
-    × ((r : Refusal) → traceOf (scan capture .map) vector number ≡ traces.Refused r → ⊥))
+    ((r : Refusal) × (scan Strict capture .verdict ≡ verdicts.Refused r) × (traceResult capture vector number ≡ refusalCode r) × OfTheTable capture r)
+    ⊎ ((scan Strict capture .verdict ≡ verdicts.Sound)
+    × (traceResult capture vector number ≡ traceCode (traceOf (scan Strict capture .map) vector number))
+    × ((r : Refusal) → traceOf (scan Strict capture .map) vector number ≡ traces.Refused r → ⊥))
 
 -- "any map may be asked about": a question about a map by itself is refused with 61 at place 0, and with nothing else
 abbrev pub MapRefusals : Map → Type 0

@@ -20,7 +20,7 @@ use Rattle.tables.specs.Rsdp.{rsdpRules, xsdtField}
 use Rattle.tables.specs.Table.{headerSize, addressAt, headerAt, tableNamed, tableLength, cutShort, tableRules}
 use Rattle.tables.specs.Xsdt.{entryField, entryRules, xsdtRules}
 use Rattle.tables.specs.Finder.{firstNamed}
-use Rattle.tables.specs.Survey.{apic, facp, isNowhere, nameRules, lengthRules, madtFieldRules, withSci, tableOfEntry, madtOf, fadtOf, tablesFrom, xsdtOf, tablesOf, rulesBefore29, surveyRules, survey}
+use Rattle.tables.specs.Survey.{apic, facp, isNowhere, nameRules, lengthRules, withSci, tableOfEntry, madtOf, fadtOf, tablesFrom, xsdtOf, tablesOf, rulesBefore29, surveyRules, survey}
 use Rattle.tables.specs.declared.Table.{Table}
 use Rattle.tables.specs.declared.Tables.{Tables}
 use Rattle.tables.specs.declared.Entry.{Entry}
@@ -101,13 +101,12 @@ pub record Accepted (capture : List ℕ) (t : Tables) : Type 0 where
   pub madt : Lies capture (t .madt) 44
   pub fadt : Lies capture (t .fadt) 48
 
--- the MADT has its 44 bytes, the FADT its 48, and both lie wholly inside the capture
-pub tables-inside : (strictness : Strictness) (capture : List ℕ) (t : Tables) → survey strictness capture ≡ Found t → Accepted capture t
-unfolding verdict surveyRules rulesBefore29 tablesOf tablesFrom withSci
-tables-inside strictness capture t h =
+-- where no rule before 29 is broken, the MADT has its 44 bytes, the FADT its 48, and both lie wholly inside the capture
+pub kept-inside : (capture : List ℕ) → firstRefusal (rulesBefore29 capture) ≡ verdicts.Sound → Accepted capture (tablesOf capture)
+unfolding verdict rulesBefore29 tablesOf tablesFrom withSci
+kept-inside capture kept =
     let xsdt = xsdtOf capture in
-    let before = joined-kept (rulesBefore29 capture) (madtFieldRules strictness capture (madtOf capture xsdt)) (survey-told strictness capture h) in
-    let container = joined-kept (containerRules capture) _ (before .0) in
+    let container = joined-kept (containerRules capture) _ kept in
     let present = joined-kept (presenceRules capture) _ (container .1) in
     let rsdp = joined-kept (rsdpRules capture (rsdpPlace capture)) _ (present .1) in
     let table = joined-kept (tableRules capture (xsdtField (rsdpPlace capture))) _ (rsdp .1) in
@@ -116,9 +115,15 @@ tables-inside strictness capture t h =
     let names = joined-kept (nameRules capture xsdt) _ (entries .1) in
     let lie = both-inside capture xsdt (container .0) (entries .0) (names .0) in
     let long = long-enough (madtOf capture xsdt) (fadtOf capture xsdt) (names .1) in
-    rw (← survey-is strictness capture h)
-    (record {
+    record {
       sound = container .0;
       madt = record { behind = lie .0 .behind; inside = lie .0 .inside; long = long .0 };
       fadt = record { behind = lie .1 .behind; inside = lie .1 .inside; long = long .1 };
-    })
+    }
+
+-- so it is with the tables of an accepted answer, of either reading
+pub tables-inside : (strictness : Strictness) (capture : List ℕ) (t : Tables) → survey strictness capture ≡ Found t → Accepted capture t
+unfolding surveyRules
+tables-inside strictness capture t h =
+    rw (← survey-is strictness capture h)
+    (kept-inside capture (joined-kept (rulesBefore29 capture) _ (survey-told strictness capture h) .0))

@@ -1,18 +1,22 @@
 // Asks the questions that come on standard input, and prints one line for each answer. boards/cases.py writes the questions
 // beside the answers that the documents fix; the gate compares.
 //
-// A question is a head of 92 bytes and then the capture. The head: a label in 64 bytes, the kind of question (32 bits), the
-// capture's length (32 bits), two numbers of 64 bits that some kinds ask about, and the label's length (32 bits).
+// A question is a head of 96 bytes and then the capture. The head: a label in 64 bytes, the kind of question (32 bits), the
+// capture's length (32 bits), two numbers of 64 bits that some kinds ask about, the label's length (32 bits), and the strictness
+// (32 bits), which some kinds ask with: 0 for the ordinary reading, 1 for the strict one.
 use capture::Root;
 use libc::STDIN_FILENO;
 use libc::STDOUT_FILENO;
+use lines::codes;
 use reading::Answer;
+use reading::Reading;
+use tables::Strictness;
 use tables::Survey;
 use tables::Tables;
 use words::Refusal;
 use words::Verdict;
 
-const HEAD: usize = 92;
+const HEAD: usize = 96;
 
 const KIND: usize = 64;
 
@@ -23,6 +27,10 @@ const FIRST: usize = 72;
 const SECOND: usize = 80;
 
 const LABEL_LENGTH: usize = 88;
+
+const STRICTNESS: usize = 92;
+
+const ORDINARY: u32 = 0;
 
 const MOST_BYTES: usize = 65537;
 
@@ -114,8 +122,8 @@ fn say_tables(t: Tables) {
     say_number(b", SCI ", t.sci as u64);
 }
 
-fn answer_survey(bytes: &[u8]) {
-    match tables::survey_capture(bytes) {
+fn answer_survey(strictness: Strictness, bytes: &[u8]) {
+    match tables::survey_capture(strictness, bytes) {
         Survey::Found(t) => say_tables(t),
         Survey::Refused(refusal) => say_refusal(refusal),
     }
@@ -143,20 +151,28 @@ fn say_answer(answer: Answer) {
     }
 }
 
+// The reading that is asked for, by the call for it.
+fn read(strictness: Strictness, bytes: &[u8], list: &mut [u32]) -> Reading {
+    match strictness {
+        Strictness::Ordinary => reading::read(bytes, list),
+        Strictness::Strict => reading::read_strictly(bytes, list),
+    }
+}
+
 // The reading with the first numbers of a list lent, and the whole list afterwards.
-fn read_into(bytes: &[u8], list: &mut [u32], room: usize) {
+fn read_into(strictness: Strictness, bytes: &[u8], list: &mut [u32], room: usize) {
     if list.len() < room {
         return;
     }
-    let reading = reading::read(bytes, &mut list[..room]);
+    let reading = read(strictness, bytes, &mut list[..room]);
     let answer = reading.answer;
     say_answer(answer);
     say_list(list);
 }
 
-fn answer_read(bytes: &[u8], room: usize) {
+fn answer_read(strictness: Strictness, bytes: &[u8], room: usize) {
     let mut list = [UNTOUCHED; MOST_NUMBERS];
-    read_into(bytes, &mut list, room);
+    read_into(strictness, bytes, &mut list, room);
 }
 
 fn wide_byte(byte: u8) -> u64 {
@@ -210,28 +226,61 @@ fn say_result(result: u64) {
     say_number(b" ", result % HIGH);
 }
 
-fn answer_route(bytes: &[u8], number: u32) {
-    say_result(reading::entries::yasmirand_route(bytes, number));
+// Where a number arrives: the strict reading by the C entry, the ordinary one by the map that it finds.
+fn route(strictness: Strictness, bytes: &[u8], number: u32) -> u64 {
+    match strictness {
+        Strictness::Strict => reading::entries::yasmirand_route(bytes, number),
+        Strictness::Ordinary => {
+            let found = reading::scan_capture(strictness, bytes);
+            let verdict = found.verdict;
+            let map = found.map;
+            match verdict {
+                Verdict::Refused(refusal) => codes::refusal_code(refusal),
+                Verdict::Sound => codes::route_code(map.route(number)),
+            }
+        }
+    }
 }
 
-fn answer_trace(bytes: &[u8], vector: u32, number: u32) {
-    say_result(reading::entries::yasmirand_trace(bytes, vector, number));
+// What arrives there, likewise.
+fn trace(strictness: Strictness, bytes: &[u8], vector: u32, number: u32) -> u64 {
+    match strictness {
+        Strictness::Strict => reading::entries::yasmirand_trace(bytes, vector, number),
+        Strictness::Ordinary => {
+            let found = reading::scan_capture(strictness, bytes);
+            let verdict = found.verdict;
+            let map = found.map;
+            match verdict {
+                Verdict::Refused(refusal) => codes::refusal_code(refusal),
+                Verdict::Sound => codes::trace_code(map.trace(vector, number)),
+            }
+        }
+    }
+}
+
+fn strictness_of(head: &[u8]) -> Strictness {
+    if words::u32_at(head, STRICTNESS) == ORDINARY {
+        return Strictness::Ordinary;
+    }
+    Strictness::Strict
 }
 
 fn answer(head: &[u8], bytes: &[u8]) {
     let kind = words::u32_at(head, KIND);
+    let strictness = strictness_of(head);
     match kind {
         CHECK => answer_check(bytes),
         RSDP => answer_rsdp(bytes),
         REACH => answer_reach(bytes, words::u64_at(head, FIRST)),
-        SURVEY => answer_survey(bytes),
-        READ => answer_read(bytes, words::u32_at(head, FIRST) as usize),
-        ROUTE => answer_route(bytes, words::u32_at(head, FIRST)),
-        TRACE => answer_trace(
+        SURVEY => answer_survey(strictness, bytes),
+        READ => answer_read(strictness, bytes, words::u32_at(head, FIRST) as usize),
+        ROUTE => say_result(route(strictness, bytes, words::u32_at(head, FIRST))),
+        TRACE => say_result(trace(
+            strictness,
             bytes,
             words::u32_at(head, FIRST),
             words::u32_at(head, SECOND),
-        ),
+        )),
         READ_BYTES => answer_read_bytes(bytes, words::u32_at(head, FIRST) as usize),
         _ => say(b"no such question"),
     }

@@ -6,7 +6,7 @@ use Rattle.vectors.proofs.main.Statement.{statement}
 use Rattle.vectors.proofs.main.Tie as tie
 
 abbrev Inv-loop : tie.InvT-loop
-Inv-loop head₀ room₀ left₀ head room left = (92 ≡ length head) × (65537 ≡ length room)
+Inv-loop head₀ room₀ left₀ head room left = (96 ≡ length head) × (65537 ≡ length room)
 
 abbrev μ-loop : tie.MeasureT-loop
 μ-loop head₀ room₀ left₀ head room left = left
