@@ -16,14 +16,16 @@ from printed import PRINTED
 
 # The kinds of question that crates/vectors/src/main.rt knows.
 CHECK, RSDP, REACH, SURVEY, READ, ROUTE, TRACE, READ_BYTES = range(8)
+# The readings that it asks: surveys and readings are the ordinary one's if not said, routes and traces the strict one's, by the C entries.
+ORDINARY, STRICT = range(2)
 TOP = 1 << 64
 cases = []
 
 
-def ask(kind, label, data, answer, first=0, second=0):
+def ask(kind, label, data, answer, first=0, second=0, strictness=STRICT):
     label = label.encode()
     assert len(label) <= 64, label
-    head = label.ljust(64, b"\0") + le(kind, 4) + le(len(data), 4) + le(first, 8) + le(second, 8) + le(len(label), 4)
+    head = label.ljust(64, b"\0") + le(kind, 4) + le(len(data), 4) + le(first, 8) + le(second, 8) + le(len(label), 4) + le(strictness, 4)
     cases.append((head + data, label.decode() + ": " + answer + "\n"))
 
 
@@ -39,8 +41,14 @@ def reach(label, data, address, answer):
     ask(REACH, label, data, answer, address)
 
 
-def survey(label, data, answer):
-    ask(SURVEY, label, data, answer)
+def survey(label, data, answer, strictness=ORDINARY):
+    ask(SURVEY, label, data, answer, strictness=strictness)
+
+
+def both(asked, label, *question, ordinary, strict):
+    """One question to both readings, with the answer of each."""
+    asked(label + ", ordinary", *question, ordinary, strictness=ORDINARY)
+    asked(label + ", strict", *question, strict, strictness=STRICT)
 
 
 def found(madt_place, madt_length, fadt_place, fadt_length, sci):
@@ -245,12 +253,17 @@ survey("27 before 28: two MADT of 40 bytes", one(lay([table(b"APIC", 1, bytes(4)
 
 # Refusals 28 to 30, and the SCI number.
 survey("28: MADT of 43, FADT of 47", one(lay([table(b"APIC", 1, bytes(7)), fadt(size=47)])), refused(28, 118))
-survey("28: MADT of 44 and revision 2, FADT of 47", one(lay([madt([], revision=2), fadt(size=47)])), refused(28, 162))
+both(survey, "28: MADT of 44 and revision 2, FADT of 47", one(lay([madt([], revision=2), fadt(size=47)])),
+     ordinary=refused(28, 162), strict=refused(28, 162))
 survey("28: FADT before MADT, both short", one(lay([fadt(size=47), table(b"APIC", 1, bytes(7))])), refused(28, 165))
 survey("MADT of 44, FADT of 48", one(lay([madt([]), fadt(size=48)])), found(118, 44, 162, 48, 75))
-survey("29: MADT revision 2", one(lay([madt([], revision=2), F])), refused(29, 118))
-survey("29: MADT revision 0", one(lay([madt([], revision=0), F])), refused(29, 118))
-survey("29: before 30", one(lay([madt([], revision=6, flags=1), F])), refused(29, 118))
+for revision in (0, 1, 2, 3, 5, 128, 255):
+    taken = found(118, 44, 162, 244, 75)
+    both(survey, f"29: MADT revision {revision}", one(lay([madt([], revision=revision), F])),
+         ordinary=taken if 1 <= revision else refused(29, 118), strict=taken if revision == 1 else refused(29, 118))
+both(survey, "29 before 30: revision 6 and flags", one(lay([madt([], revision=6, flags=1), F])), ordinary=refused(30, 118), strict=refused(29, 118))
+both(survey, "29 before 30: revision 0 and flags", one(lay([madt([], revision=0, flags=1), F])), ordinary=refused(29, 118), strict=refused(29, 118))
+both(survey, "29 at a MADT behind the FADT", one(lay([F, madt([], revision=0)])), ordinary=refused(29, 362), strict=refused(29, 362))
 survey("30: MADT flags 1", one(lay([madt([], flags=1), F])), refused(30, 118))
 survey("30: MADT flags 2^24", one(lay([madt([], flags=1 << 24), F])), refused(30, 118))
 survey("FADT revision is not looked at", one(lay([M, summed(changed(F, 8, b"\xff"), 9)])), OK)
@@ -304,8 +317,8 @@ for name, answer in [
 # From here on the whole reading: a list of `room` numbers is lent; what is printed after the count is the list afterwards.
 
 
-def read(label, data, answer, room=512):
-    ask(READ, label, data, answer, room)
+def read(label, data, answer, room=512, strictness=ORDINARY):
+    ask(READ, label, data, answer, room, strictness=strictness)
 
 
 def read_bytes(label, data, answer, room):
@@ -313,12 +326,12 @@ def read_bytes(label, data, answer, room):
     ask(READ_BYTES, label, data, answer, room)
 
 
-def route(label, data, number, answer):
-    ask(ROUTE, label, data, answer, number)
+def route(label, data, number, answer, strictness=STRICT):
+    ask(ROUTE, label, data, answer, number, strictness=strictness)
 
 
-def trace(label, data, vector, number, answer):
-    ask(TRACE, label, data, answer, vector, number)
+def trace(label, data, vector, number, answer, strictness=STRICT):
+    ask(TRACE, label, data, answer, vector, number, strictness=strictness)
 
 
 CORES, LIO, EIO, MSI, BIO, LPC = 0, 3, 4, 5, 6, 7  # where board A's structures stand in its list
@@ -474,6 +487,52 @@ read("60: a list of 4", A, TWO, 4)
 read("60: no list", A, refused(60, 0), 0)
 read("60: a list of 5", A, TWO, 5)
 read("60 after 54", board(sci=45), refused(54, 294), 0)
+
+# Newer MADT revisions: the ordinary reading takes any of 1 or more, and then asks the same rules; the strict one takes 1 alone.
+
+
+def revised(revision, structures=STRUCTURES_OF_A, flags=0):
+    """Board A with a MADT of another revision."""
+    return one(lay([madt(structures, revision, flags), F]))
+
+
+NOT_TAKEN = refused(29, 118)
+for revision in (0, 1, 2, 5, 255):
+    ordinary, strict = (TWO if 1 <= revision else NOT_TAKEN), (TWO if revision == 1 else NOT_TAKEN)
+    both(read, f"MADT revision {revision}", revised(revision), ordinary=ordinary, strict=strict)
+    read_bytes(f"C: MADT revision {revision}", revised(revision),
+               "read 2 0 0 0 0 0 0 0 0 1 0 0 0 1 0 0 0" if revision == 1 else NOT_TAKEN, 16)
+both(read, "revision 5, CORE with reserved flags", revised(5, [core(0, 0), core(1, 1, 2)] + STRUCTURES_OF_A[2:]),
+     ordinary=refused(35, 177), strict=NOT_TAKEN)
+both(read, "revision 0, CORE with reserved flags", revised(0, [core(0, 0), core(1, 1, 2)] + STRUCTURES_OF_A[2:]),
+     ordinary=NOT_TAKEN, strict=NOT_TAKEN)
+both(read, "revision 5, FADT of 47", one(lay([madt(STRUCTURES_OF_A, 5), fadt(size=47)])), ordinary=refused(28, 294), strict=refused(28, 294))
+both(read, "revision 5, flags 1", revised(5, flags=1), ordinary=refused(30, 118), strict=NOT_TAKEN)
+both(read, "revision 5, MADT's sum wrong", changed(revised(5), 126, b"\6"), ordinary=refused(22, 118), strict=refused(22, 118))
+both(read, "revision 5, MADT named twice", one(lay([madt(STRUCTURES_OF_A, 5), F], [0, 1, 0])), ordinary=refused(27, 118), strict=refused(27, 118))
+both(read, "revision 5, an entry that is not present", one(lay([madt(STRUCTURES_OF_A, 5), F], [0, 1, TOP - 8])),
+     ordinary=refused(20, 118), strict=refused(20, 118))
+both(read, "revision 5, last structure cut", revised(5, STRUCTURES_OF_A + [b"\x11"]), ordinary=refused(31, 294), strict=NOT_TAKEN)
+both(read, "revision 5, HT", revised(5, STRUCTURES_OF_A + [ht()]), ordinary=refused(34, 294), strict=NOT_TAKEN)
+both(read, "revision 5, type 24 passed over", revised(5, STRUCTURES_OF_A + [b"\x18\x08" + bytes(6)]), ordinary=TWO, strict=NOT_TAKEN)
+both(read, "revision 5, no structure", revised(5, []), ordinary=refused(40, 118), strict=NOT_TAKEN)
+both(read, "revision 5, MSI over the BIO's vectors", revised(5, [msi(63, 193) if k == MSI else s for k, s in enumerate(STRUCTURES_OF_A)]),
+     ordinary=refused(52, 262, 243), strict=NOT_TAKEN)
+both(read, "revision 5, SCI 45", one(lay([madt(STRUCTURES_OF_A, 5), fadt(45)])), ordinary=refused(54, 294), strict=NOT_TAKEN)
+for revision, ordinary in ((1, refused(60, 0)), (5, refused(60, 0)), (0, NOT_TAKEN)):
+    read(f"revision {revision}, a list of 3, ordinary", revised(revision), ordinary, 3)
+    read(f"revision {revision}, a list of 3, strict", revised(revision), refused(60, 0) if revision == 1 else NOT_TAKEN, 3, STRICT)
+both(route, "revision 5: 72", revised(5), 72, ordinary="kind 0 3 8", strict=NOT_TAKEN)
+both(route, "revision 255: 3", revised(255), 3, ordinary="kind 0 3 19", strict=NOT_TAKEN)
+both(route, "revision 5: 50", revised(5), 50, ordinary="kind 2 0 0", strict=NOT_TAKEN)
+both(route, "revision 0: 72", revised(0), 72, ordinary=NOT_TAKEN, strict=NOT_TAKEN)
+both(route, "revision 1: 72", revised(1), 72, ordinary="kind 0 3 8", strict="kind 0 3 8")
+both(trace, "revision 5: 3 19", revised(5), 3, 19, ordinary="kind 3 0 83", strict=NOT_TAKEN)
+both(trace, "revision 5: 3 64", revised(5), 3, 64, ordinary="kind 4 0 64", strict=NOT_TAKEN)
+both(trace, "revision 1: 2 10", revised(1), 2, 10, ordinary="kind 1 0 26", strict="kind 1 0 26")
+read_bytes("C: revision 5, CORE with reserved flags", revised(5, [core(0, 0), core(1, 1, 2)] + STRUCTURES_OF_A[2:]), NOT_TAKEN, 16)
+read_bytes("C: revision 5, FADT of 47", one(lay([madt(STRUCTURES_OF_A, 5), fadt(size=47)])), refused(28, 294), 16)
+read_bytes("C: revision 5, no list", revised(5), NOT_TAKEN, 0)
 
 # The list as bytes, four little-endian ones a number.
 BYTES_OF_TWO = "read 2" + " 0" * 8 + " 1 0 0 0" * 2

@@ -142,6 +142,8 @@ sci 75 3 11
     "refused-52-at-262": (board([core(0, 0), core(1, 1), core(2, 2, 0), LIO, EIO, msi(63, 193), BIO, LPC]), "refused 52 at 262 with 243\n"),
     # one place alone: of 41, though it has a partner
     "refused-41-at-294": (board(STRUCTURES_OF_A + [eio(4, 0)]), "refused 41 at 294\n"),
+    # board A with a MADT of revision 5: the map program gives the strict reading
+    "refused-29-at-118": (capture([(BASE, lay([madt(STRUCTURES_OF_A, revision=5), fadt()]))]), "refused 29 at 118\n"),
     "refused-29-at-1162": (refused_behind(1000), "refused 29 at 1162\n"),
     "refused-29-at-20162": (refused_behind(20000), "refused 29 at 20162\n"),
 }
