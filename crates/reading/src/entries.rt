@@ -1,7 +1,8 @@
 // The C entries: plain numbers and byte slices in, one number of 64 bits out. include/yasmirand.h declares them. They give the
-// strict reading. The map of a
-// capture that the scan accepts keeps all rules (proofs/AcceptedKeepsRules), so that its answers are had without 61.
+// strict reading. The map of a capture that the scan accepts keeps all rules (proofs/AcceptedKeepsRules), so that its answers are had
+// without 61.
 use crate::Answer;
+use crate::Scan;
 use lines::codes;
 use processors::Filled;
 use tables::Strictness;
@@ -9,7 +10,15 @@ use words::Verdict;
 ghost use mathlib.Core.Path.{_≡_};
 ghost use Rattle.processors.specs.Image.{image};
 ghost use Rattle.processors.specs.Listing.{processors, filled};
+ghost use Rattle.reading.specs.Scan.{scan};
 ghost use Rattle.reading.specs.Entries.{answerIn, readCode, readResult, bytesAfter, routeResult, traceResult};
+
+// What every C entry begins with: the scan of the strict reading.
+fn scan_strictly(capture: &[u8]) -> Scan
+    ensures { λ r. ⌜ r ≡ scan Strictness.Strict (now (capture .entry)) ⌝ }
+{
+    crate::scan_capture(Strictness::Strict, capture)
+}
 
 // The list of bytes filled and its count, or refusal 60.
 fn answer_bytes(table: &[u8], list: &mut [u8]) -> Answer
@@ -38,7 +47,7 @@ pub extern "C" fn yasmirand_read(capture: &[u8], list: &mut [u8]) -> u64
     ensures { λ r. ⌜ r ≡ readResult (now (capture .entry)) (now (list .entry)) ⌝ }
     ensures { λ r. ⌜ now (list .exit) ≡ bytesAfter (now (capture .entry)) (now (list .entry)) ⌝ }
 {
-    let s = crate::scan_capture(Strictness::Strict, capture);
+    let s = scan_strictly(capture);
     let verdict = s.verdict;
     let madt = s.madt;
     match verdict {
@@ -52,7 +61,7 @@ pub extern "C" fn yasmirand_read(capture: &[u8], list: &mut [u8]) -> u64
 pub extern "C" fn yasmirand_route(capture: &[u8], number: u32) -> u64
     ensures { λ r. ⌜ r ≡ routeResult (now (capture .entry)) number ⌝ }
 {
-    let s = crate::scan_capture(Strictness::Strict, capture);
+    let s = scan_strictly(capture);
     let verdict = s.verdict;
     let map = s.map;
     match verdict {
@@ -66,7 +75,7 @@ pub extern "C" fn yasmirand_route(capture: &[u8], number: u32) -> u64
 pub extern "C" fn yasmirand_trace(capture: &[u8], vector: u32, number: u32) -> u64
     ensures { λ r. ⌜ r ≡ traceResult (now (capture .entry)) vector number ⌝ }
 {
-    let s = crate::scan_capture(Strictness::Strict, capture);
+    let s = scan_strictly(capture);
     let verdict = s.verdict;
     let map = s.map;
     match verdict {

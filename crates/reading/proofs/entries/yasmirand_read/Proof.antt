@@ -13,8 +13,8 @@ use borrow.Author.Needs.{needs}
 use Rattle.reading.proofs.entries.yasmirand_read.Statement.{statement}
 use Rattle.reading.proofs.entries.yasmirand_read.Tie as tie
 
-scan-capture-requires : tie.Need-scan-capture-requires
-scan-capture-requires c κs = search needs
+scan-strictly-requires : tie.Need-scan-strictly-requires
+scan-strictly-requires c κs = search needs
 
 enum-known-verdict : tie.Need-enum-known-verdict
 enum-known-verdict c = search needs
@@ -38,7 +38,7 @@ returns : tie.Need-returns
 unfolding readResult bytesAfter
 returns c =
     let s = c .before .before .before .before .before in
-    let refused = ap (λ (x : Scan). x .verdict) (sym (s .scan-capture .ensures)) ∙ c .before .before .verdict .given .1 in
+    let refused = ap (λ (x : Scan). x .verdict) (sym (s .scan-strictly .ensures)) ∙ c .before .before .verdict .given .1 in
     (c .refusal-code .ensures ∙ sym (unless-refused _ _ _ refused), sym (unless-refused _ _ _ refused))
 
 same-length : tie.Need-same-length
@@ -53,15 +53,15 @@ returns-2 c =
     let a = s .before .before .before .args in
     let capture = a .capture .now in
     let list = a .list .now in
-    let sound = ap (λ (x : Scan). x .verdict) (sym (s .scan-capture .ensures)) ∙ m .before .enum-told .given .1 in (
+    let sound = ap (λ (x : Scan). x .verdict) (sym (s .scan-strictly .ensures)) ∙ m .before .enum-told .given .1 in (
       c .read-code .ensures
           ∙ ap readCode (f .answer-bytes .ensures .0)
           ∙ ap (λ (x : List ℕ). readCode (answerIn x list)) (m .madt-bytes .ensures)
-          ∙ ap (λ (x : Scan). readCode (answerIn (madtBytes capture (x .madt)) list)) (s .scan-capture .ensures)
+          ∙ ap (λ (x : Scan). readCode (answerIn (madtBytes capture (x .madt)) list)) (s .scan-strictly .ensures)
           ∙ sym (unless-sound _ _ _ sound),
       f .answer-bytes .ensures .1
           ∙ ap (λ (x : List ℕ). filled (image (processors x)) list) (m .madt-bytes .ensures)
-          ∙ ap (λ (x : Scan). filled (image (processors (madtBytes capture (x .madt)))) list) (s .scan-capture .ensures)
+          ∙ ap (λ (x : Scan). filled (image (processors (madtBytes capture (x .madt)))) list) (s .scan-strictly .ensures)
           ∙ sym (unless-sound _ _ _ sound),
     )
 
@@ -69,7 +69,7 @@ pub yasmirand-read-spec : {M : Type 1} → statement M
 yasmirand-read-spec =
     tie.close
     (tie.spec
-    scan-capture-requires
+    scan-strictly-requires
     enum-known-verdict
     refusal-code-requires
     enum-told

@@ -11,8 +11,8 @@ use borrow.Author.Needs.{needs}
 use Rattle.reading.proofs.entries.yasmirand_trace.Statement.{statement}
 use Rattle.reading.proofs.entries.yasmirand_trace.Tie as tie
 
-scan-capture-requires : tie.Need-scan-capture-requires
-scan-capture-requires c κs = search needs
+scan-strictly-requires : tie.Need-scan-strictly-requires
+scan-strictly-requires c κs = search needs
 
 enum-known-verdict : tie.Need-enum-known-verdict
 enum-known-verdict c = search needs
@@ -34,17 +34,17 @@ unfolding traceResult
 returns c =
     let s = c .before .before .before .before .before in
     c .refusal-code .ensures
-    ∙ sym (unless-refused _ _ _ (ap (λ (x : Scan). x .verdict) (sym (s .scan-capture .ensures)) ∙ c .before .before .verdict .given .1))
+    ∙ sym (unless-refused _ _ _ (ap (λ (x : Scan). x .verdict) (sym (s .scan-strictly .ensures)) ∙ c .before .before .verdict .given .1))
 
 returns-2 : tie.Need-returns-2
 unfolding traceResult
 returns-2 c =
     let s = c .before .before .before .before .before in
     let a = s .before .before .args in
-    let sound = ap (λ (x : Scan). x .verdict) (sym (s .scan-capture .ensures)) ∙ c .before .before .enum-told .given .1 in
+    let sound = ap (λ (x : Scan). x .verdict) (sym (s .scan-strictly .ensures)) ∙ c .before .before .enum-told .given .1 in
     c .trace-code .ensures
     ∙ ap traceCode (c .before .traced .ensures)
-    ∙ ap (λ (x : Scan). traceCode (traced (says (x .map)) (a .vector) (a .number))) (s .scan-capture .ensures)
+    ∙ ap (λ (x : Scan). traceCode (traced (says (x .map)) (a .vector) (a .number))) (s .scan-strictly .ensures)
     ∙ ap traceCode (sym (accepted-trace _ _ sound (a .vector) (a .number)))
     ∙ sym (unless-sound _ _ _ sound)
 
@@ -52,7 +52,7 @@ pub yasmirand-trace-spec : {M : Type 1} → statement M
 yasmirand-trace-spec =
     tie.close
     (tie.spec
-    scan-capture-requires
+    scan-strictly-requires
     enum-known-verdict
     refusal-code-requires
     enum-told
