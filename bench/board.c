@@ -351,7 +351,7 @@ static void write_header(uint8_t *bytes, const struct table *table)
 {
     memcpy(bytes, table->signature, 4);
     put_u32(bytes + 4, (uint32_t)table->length);
-    bytes[8] = table->revision;
+    bytes[TABLE_REVISION] = table->revision;
 }
 
 static void write_madt(const struct board *board, uint8_t *madt)

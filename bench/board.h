@@ -26,6 +26,7 @@ enum {
     CUTS_ROOM = 32,
     RSDP_LENGTH = 36,
     TABLE_HEADER = 36,
+    TABLE_REVISION = 8, /* where the header has it */
     MADT_HEADER = 44,
     FADT_MIN = 48,
 };

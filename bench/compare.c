@@ -1,15 +1,19 @@
 /*
  * Compares Yasmirand with reference.c: both are asked the same questions about the same captures.
  *
- *     compare BOARDS DIFFERENCES PRINTED [SEED [COUNT]]
+ *     compare BOARDS DIFFERENCES PRINTED ASKED [SEED [COUNT]]
  *
  * First the cases of documents 01 and 02 and the captures of the folder BOARDS. Then COUNT generated captures: boards that
- * keep all rules, boards broken on purpose in one or two ways, and noise. Of each, the result of `read`, every byte of the
- * list lent to it, and the answers of `route` and `trace` to a sample of questions are compared. A capture that the two
- * sides tell differently is written to the folder DIFFERENCES.
+ * keep all rules, boards broken on purpose in one or two ways, and noise; the MADTs of some have a revision other than 1.
+ * Of each, the result of `read`, every byte of the list lent to it, and the answers of `route` and `trace` to a sample of
+ * questions are compared. A capture that the two sides tell differently is written to the folder DIFFERENCES.
  *
  * The second place of a refusal is in no result: Yasmirand only prints it. So some refused captures are written to the
  * folder PRINTED, each with the line that reference.c expects, and bench/run compares what ./map prints.
+ *
+ * All that is strict reading. Of Yasmirand's programs only `vectors` answers in the ordinary one (W-207). So questions about
+ * some captures are written to the folder ASKED, with the lines that reference.c expects, and bench/run compares what
+ * `vectors` prints.
  *
  * Captures and lists end where the memory ends that may be touched, so that a byte too far stops the program.
  */
@@ -28,6 +32,7 @@
 #include "damage.h"
 #include "examples.h"
 #include "files.h"
+#include "questions.h"
 #include "random.h"
 #include "readers.h"
 #include "valid.h"
@@ -35,14 +40,25 @@
 enum {
     DEFAULT_SEED = 1,
     DEFAULT_COUNT = 24000,
-    LEAST_HITS = 20,       /* of every refusal */
-    PRINTED_CLASHES = 60,  /* captures of each of 51, 52 and 53 for ./map to print ... */
-    PRINTED_OTHERS = 3,    /* ... and of every other refusal */
-    DIFFERENCES_TOLD = 5,  /* then it ends */
+    LEAST_HITS = 20,        /* of every refusal */
+    PRINTED_CLASHES = 60,   /* captures of each of 51, 52 and 53 for ./map to print ... */
+    PRINTED_REVISIONS = 20, /* ... of 29, which tells the strict reading from the ordinary one ... */
+    PRINTED_OTHERS = 3,     /* ... and of every other refusal */
+    DIFFERENCES_TOLD = 5,   /* then it ends */
     LIST_ROOM = 8 * CORES_MAX + 64,
-    MARGIN = 64,           /* bytes before the list that must stay */
-    SAMPLE = 6,            /* questions of each sort about an accepted capture */
-    THOROUGH = 128,        /* one accepted capture in so many is asked much more */
+    MARGIN = 64,            /* bytes before the list that must stay */
+    SAMPLE = 6,             /* questions of each sort about an accepted capture */
+    THOROUGH = 128,         /* one accepted capture in so many is asked much more */
+};
+
+/* The captures that `vectors` is asked about. */
+enum {
+    ASKED_ACCEPTED = 600,  /* that the ordinary reading accepts, with a MADT revision other than 1 ... */
+    ASKED_REVISIONS = 200, /* ... that it refuses with 29 ... */
+    ASKED_OTHERS = 32,     /* ... and with each other number */
+    FEWER_OF_ONE = 4,      /* with revision 1 there are so many times fewer of each */
+    ASKED_STRICTLY = 4,    /* one in so many is asked about in the strict reading too */
+    ASKED_SAMPLE = 2,      /* questions of each sort about an accepted one */
 };
 
 /* ---- One case: how a capture is made, and what is known of it beforehand ---- */
@@ -56,17 +72,28 @@ enum {
     TRUNCATED = CHANGED + 5, /* and the rest are random bytes */
 };
 
+enum { OTHER_REVISION = 4 }; /* one capture in so many has a MADT revision other than 1, whatever else is done to it */
+
 enum { UNKNOWN = -1, ACCEPTED = 0 };
 
 enum { NUMBERS = 1 << 16 }; /* room for any refusal number that a result can hold */
 
 struct test {
     uint64_t number;
-    int expected; /* ACCEPTED, the refusal number that the capture was made for, or UNKNOWN */
+    int expected[READINGS]; /* ACCEPTED, the refusal number that the capture was made for, or UNKNOWN */
     const char *what[2];
     struct board board;
     struct capture capture;
 };
+
+/* What the board breaks, other than by its MADT's revision, is this rule or none. */
+static void expect(struct test *test, unsigned refusal)
+{
+    uint8_t revision = test->board.table[MADT].revision;
+
+    for (enum reading reading = ORDINARY; reading <= STRICT; reading++)
+        test->expected[reading] = (int)refusal_with_revision(refusal, revision, reading);
+}
 
 static void make_broken(struct random *random, struct test *test, size_t count)
 {
@@ -76,9 +103,9 @@ static void make_broken(struct random *random, struct test *test, size_t count)
         ways[i] = i > 0 && one_in(random, 2) ? pick_way_near(random, ways[0]->refusal) : pick_way(random);
         test->what[i] = ways[i]->what;
     }
-    if (count == 1)
-        test->expected = (int)ways[0]->refusal;
     lay_out_broken(random, &test->board, &test->capture, ways, count);
+    if (count == 1)
+        expect(test, ways[0]->refusal == MADT_REVISION ? ACCEPTED : ways[0]->refusal);
 }
 
 static void make_changed(struct random *random, struct test *test)
@@ -98,11 +125,13 @@ static void make_test(struct random *random, struct test *test)
 {
     uint64_t sort = below(random, 100);
 
-    test->expected = UNKNOWN;
+    test->expected[ORDINARY] = test->expected[STRICT] = UNKNOWN;
     test->what[0] = test->what[1] = "";
     make_valid_board(random, &test->board);
+    if (one_in(random, OTHER_REVISION))
+        test->board.table[MADT].revision = other_revision(random);
     if (sort < VALID) {
-        test->expected = ACCEPTED;
+        expect(test, ACCEPTED);
         test->what[0] = "valid board";
         lay_out(&test->board, &test->capture);
     } else if (sort < BROKEN_ONCE) {
@@ -182,13 +211,14 @@ static uint64_t ask_trace(const struct reader *reader, const uint8_t *capture, s
 static const char *differences_folder;
 static unsigned differences;
 
-/* Says where a difference is, keeps its capture, and ends the program when there are enough. */
-static void tell_difference(const struct test *test, const char *question, const char *yasmirand_says, const char *reference_says)
+/* Says where two differ, keeps the capture, and ends the program when there are enough. */
+static void tell_two(const struct test *test, const char *question, const char *one, const char *one_says, const char *other,
+                     const char *other_says)
 {
     char path[4096];
 
-    printf("compare: case %" PRIu64 " (%s%s%s), %s:\n    Yasmirand: %s\n    reference.c: %s\n", test->number, test->what[0],
-           test->what[1][0] == '\0' ? "" : ", ", test->what[1], question, yasmirand_says, reference_says);
+    printf("compare: case %" PRIu64 " (%s%s%s), %s:\n    %s: %s\n    %s: %s\n", test->number, test->what[0],
+           test->what[1][0] == '\0' ? "" : ", ", test->what[1], question, one, one_says, other, other_says);
     snprintf(path, sizeof path, "%s/case-%" PRIu64 ".cap", differences_folder, test->number);
     save_file(path, test->capture.bytes, test->capture.length);
     printf("    capture: %s\n", path);
@@ -197,6 +227,11 @@ static void tell_difference(const struct test *test, const char *question, const
         printf("compare: %u differences, and no further look\n", differences);
         exit(1);
     }
+}
+
+static void tell_difference(const struct test *test, const char *question, const char *yasmirand_says, const char *reference_says)
+{
+    tell_two(test, question, yasmirand.name, yasmirand_says, reference.name, reference_says);
 }
 
 static void compare_results(const struct test *test, const char *question, uint64_t by_yasmirand, uint64_t by_reference,
@@ -229,16 +264,16 @@ static void compare_lists(const struct test *test, const char *question, const u
         }
 }
 
+static const char *const rest[] = {"changed the list where it had nothing to write", "left the rest of the list alone"};
+
 /* `read` with a list of a given length, filled beforehand; gives the result of reference.c. */
 static uint64_t compare_read(struct random *random, const struct test *test, const uint8_t *capture, size_t list_length)
 {
-    static const char *const rest[] = {"changed the list where it had nothing to write", "left the rest of the list alone"};
     uint8_t before[MARGIN + LIST_ROOM];
     uint8_t *yasmirand_list = yasmirand_list_end - list_length, *reference_list = reference_list_end - list_length;
     char question[64];
 
-    for (size_t i = 0; i < MARGIN + list_length; i++)
-        before[i] = (uint8_t)any(random);
+    fill(any(random), before, MARGIN + list_length);
     memcpy(yasmirand_list - MARGIN, before, MARGIN + list_length);
     memcpy(reference_list - MARGIN, before, MARGIN + list_length);
 
@@ -286,31 +321,38 @@ static bool is_clash(unsigned refusal)
     return refusal >= 51 && refusal <= 53;
 }
 
+static unsigned printed_at_most(unsigned refusal)
+{
+    if (is_clash(refusal))
+        return PRINTED_CLASHES;
+    return refusal == MADT_REVISION ? PRINTED_REVISIONS : PRINTED_OTHERS;
+}
+
 /*
  * reference.c tells a refusal in full as well. Number and place are those that `read` gave with a list long enough; the
  * second place is before the place if it is a clash, and 0 if not.
  */
-static struct reference_refusal check_judgement(const struct test *test, const uint8_t *capture, uint64_t result)
+static struct reference_refusal check_judgement(const struct test *test, const uint8_t *capture, uint64_t result,
+                                                enum reading reading)
 {
-    asked = &reference;
+    asked = reference_in(reading);
 
-    struct reference_refusal judged = reference_judge(capture, test->capture.length);
+    struct reference_refusal judged = judge(capture, test->capture.length, reading);
     uint64_t expected = refusal_number(result) == 0 ? 0 : result;
     bool partner_before = judged.second != 0 && judged.second < judged.place;
     bool second_good = is_clash((unsigned)judged.number) ? partner_before : judged.second == 0;
 
     if (refused(judged.number, judged.place) != expected || !second_good)
-        tell_difference(test, "the refusal in full", tell_read(result).words, tell_refusal(judged).words);
+        tell_two(test, "the refusal in full", asked->name, tell_read(result).words, "in full", tell_refusal(judged).words);
     return judged;
 }
 
 /* Writes a refused capture for ./map to print, unless there are enough of its number. */
 static void keep_for_map(const struct test *test, struct reference_refusal refusal)
 {
-    unsigned wanted = is_clash((unsigned)refusal.number) ? PRINTED_CLASHES : PRINTED_OTHERS;
     char name[64];
 
-    if (printed[refusal.number] == wanted)
+    if (printed[refusal.number] == printed_at_most((unsigned)refusal.number))
         return;
     printed[refusal.number]++;
     snprintf(name, sizeof name, "case-%" PRIu64, test->number);
@@ -350,12 +392,27 @@ static uint32_t interesting_number(struct random *random, const struct board *bo
     }
 }
 
-static void compare_random_trace(struct random *random, const struct test *test, const uint8_t *capture)
+/* What `trace` is asked. */
+struct arrival {
+    uint32_t vector, number;
+};
+
+/* Where the answer of `route` says that a number arrives. */
+static struct arrival arrival_of(uint64_t answer)
+{
+    return (struct arrival){(uint32_t)(answer >> 32), (uint32_t)answer};
+}
+
+/* One that tells readers apart. */
+static struct arrival interesting_arrival(struct random *random, const struct board *board)
 {
     static const uint32_t edges[] = {0, 31, 32, 63, 64, 255, 256};
     uint32_t vector = (uint32_t)between(random, CASCADE_MIN - 1, CASCADE_MAX + 1);
     uint32_t number = (uint32_t)below(random, SLOTS);
 
+    for (size_t i = 0; i < board->structures; i++)
+        if (board->structure[i].bytes[0] == EIO && one_in(random, 2))
+            vector = board->structure[i].bytes[EIO_CASCADE];
     switch (below(random, 6)) {
     case 0:
         number = edges[below(random, sizeof edges / sizeof edges[0])];
@@ -373,16 +430,24 @@ static void compare_random_trace(struct random *random, const struct test *test,
     default:
         break;
     }
-    compare_trace(test, capture, vector, number);
+    return (struct arrival){vector, number};
+}
+
+static void compare_random_trace(struct random *random, const struct test *test, const uint8_t *capture)
+{
+    struct arrival arrival = interesting_arrival(random, &test->board);
+
+    compare_trace(test, capture, arrival.vector, arrival.number);
 }
 
 /* Each number is routed, and traced back from where it arrives. */
 static void compare_way_and_back(const struct test *test, const uint8_t *capture, uint32_t number)
 {
-    uint64_t arrival = compare_route(test, capture, number);
+    uint64_t answer = compare_route(test, capture, number);
+    struct arrival arrival = arrival_of(answer);
 
-    if (refusal_number(arrival) == 0)
-        compare_trace(test, capture, (uint32_t)(arrival >> 32), (uint32_t)arrival);
+    if (refusal_number(answer) == 0)
+        compare_trace(test, capture, arrival.vector, arrival.number);
 }
 
 static void compare_thoroughly(const struct test *test, const uint8_t *capture)
@@ -421,21 +486,169 @@ static size_t random_list_length(struct random *random, size_t needed)
     }
 }
 
-/* A capture was made to be accepted, or for a refusal; both sides must see it so. */
-static void compare_with_intent(const struct test *test, uint64_t result)
+/* A capture was made to be accepted in a reading, or for a refusal, and it must be seen so. */
+static void compare_with_intent(const struct test *test, uint64_t result, enum reading reading)
 {
+    int expected = test->expected[reading];
     char intent[64];
 
-    if (test->expected == UNKNOWN || refusal_number(result) == (unsigned)test->expected)
+    if (expected == UNKNOWN || refusal_number(result) == (unsigned)expected)
         return;
-    if (test->expected == ACCEPTED)
-        snprintf(intent, sizeof intent, "made to be accepted");
+    if (expected == ACCEPTED)
+        snprintf(intent, sizeof intent, "to be accepted");
     else
-        snprintf(intent, sizeof intent, "made for refusal %d", test->expected);
-    tell_difference(test, intent, "as reference.c, or told above", tell_read(result).words);
+        snprintf(intent, sizeof intent, "for refusal %d", expected);
+    tell_two(test, "what it was made for", "made", intent, reference_in(reading)->name, tell_read(result).words);
 }
 
-static void compare_case(struct random *random, struct test *test, unsigned *hits)
+/* ---- The ordinary reading ---- */
+
+/* `read` by reference.c alone, with a list of a given length, filled beforehand. */
+static uint64_t read_ordinarily(struct random *random, const struct test *test, const uint8_t *capture, size_t list_length)
+{
+    uint8_t before[MARGIN + LIST_ROOM];
+    uint8_t *list = reference_list_end - list_length;
+
+    fill(any(random), before, MARGIN + list_length);
+    memcpy(list - MARGIN, before, MARGIN + list_length);
+
+    uint64_t result = ask_read(&ordinary_reference, capture, test->capture.length, list, list_length);
+
+    if (!rest_stayed(result, list, before, list_length))
+        tell_two(test, "read", ordinary_reference.name, rest[false], "must have", rest[true]);
+    return result;
+}
+
+/*
+ * W-207 itself, in the refusals that reference.c gives: the strict reading gives that of the ordinary one, unless the MADT's
+ * revision is above 1 and no rule before 29 is broken; then it gives 29, and the ordinary one goes on to the rules behind.
+ */
+static void check_readings(const struct test *test, struct reference_refusal ordinary, struct reference_refusal strict)
+{
+    bool above_one = strict.number == MADT_REVISION && test->capture.bytes[strict.place + TABLE_REVISION] > 1;
+    bool went_on = ordinary.number == ACCEPTED || ordinary.number > MADT_REVISION;
+    bool equal = ordinary.number == strict.number && ordinary.place == strict.place && ordinary.second == strict.second;
+
+    if (above_one ? !went_on : !equal)
+        tell_two(test, "the two readings", ordinary_reference.name, tell_refusal(ordinary).words, reference.name,
+                 tell_refusal(strict).words);
+}
+
+/* Writes a question about a capture, with the answer of reference.c; gives its result. */
+static uint64_t ask_vectors(const struct test *test, struct query about, enum question question, uint32_t first,
+                            uint32_t second)
+{
+    static const char *const names[] = {[READ] = "read", [ROUTE] = "route", [TRACE] = "trace"};
+    char label[64], answer[ANSWER_ROOM];
+    int length = snprintf(label, sizeof label, "case %" PRIu64 " %s %" PRIu32, test->number, names[question], first);
+
+    if (question == TRACE)
+        snprintf(label + length, sizeof label - (size_t)length, " %" PRIu32, second);
+    about.question = question;
+    about.first = first;
+    about.second = second;
+    asked = reference_in(about.reading);
+
+    uint64_t result = answer_query(asked, &about, answer);
+
+    write_question(label, &about, answer);
+    return result;
+}
+
+/* The questions about an accepted capture with so many processors. */
+static void ask_vectors_more(struct random *random, const struct test *test, struct query about, uint64_t processors)
+{
+    size_t lent = random_list_length(random, 2 * (size_t)processors);
+
+    ask_vectors(test, about, READ, lent > LENT_MAX ? LENT_MAX : (uint32_t)lent, 0);
+    for (int i = 0; i < ASKED_SAMPLE; i++) {
+        uint64_t answer = ask_vectors(test, about, ROUTE, interesting_number(random, &test->board), 0);
+        struct arrival arrival = answer < unwired() ? arrival_of(answer) : interesting_arrival(random, &test->board);
+
+        ask_vectors(test, about, TRACE, arrival.vector, arrival.number);
+    }
+}
+
+/* A refused capture is asked about once more at times: with another list, or another way. */
+static void ask_vectors_again(struct random *random, const struct test *test, struct query about)
+{
+    struct arrival arrival = interesting_arrival(random, &test->board);
+
+    switch (below(random, 6)) {
+    case 0:
+        ask_vectors(test, about, READ, (uint32_t)below(random, LENT_MAX), 0);
+        break;
+    case 1:
+        ask_vectors(test, about, ROUTE, interesting_number(random, &test->board), 0);
+        break;
+    case 2:
+        ask_vectors(test, about, TRACE, arrival.vector, arrival.number);
+        break;
+    default:
+        break;
+    }
+}
+
+/* The generator is handed over as a copy: where the readings agree, both are asked the same. */
+static void ask_vectors_all(struct random random, const struct test *test, const uint8_t *capture, enum reading reading)
+{
+    struct query about = {.reading = reading, .capture = capture, .length = test->capture.length};
+    uint64_t result = ask_vectors(test, about, READ, 2 * CORES_MAX, 0);
+
+    if (refusal_number(result) == 0)
+        ask_vectors_more(&random, test, about, result);
+    else
+        ask_vectors_again(&random, test, about);
+}
+
+static const char *asked_folder;
+static unsigned asked_other[NUMBERS], asked_one[NUMBERS]; /* captures of other revisions and of revision 1, by refusal number */
+
+static unsigned asked_at_most(unsigned refusal)
+{
+    if (refusal == ACCEPTED)
+        return ASKED_ACCEPTED;
+    return refusal == MADT_REVISION ? ASKED_REVISIONS : ASKED_OTHERS;
+}
+
+/*
+ * Has `vectors` asked about a capture that the ordinary reading refuses with a number, or accepts, unless there are enough
+ * of its sort.
+ */
+static void keep_for_vectors(struct random *random, const struct test *test, const uint8_t *capture, unsigned refusal)
+{
+    bool one = test->board.table[MADT].revision == 1;
+    unsigned *kept = one ? &asked_one[refusal] : &asked_other[refusal];
+    char path[4096];
+
+    if (test->capture.length > ASKED_CAPTURE_MAX || *kept == asked_at_most(refusal) / (one ? FEWER_OF_ONE : 1))
+        return;
+    ++*kept;
+    ask_vectors_all(*random, test, capture, ORDINARY);
+    if (one_in(random, ASKED_STRICTLY))
+        ask_vectors_all(*random, test, capture, STRICT);
+    snprintf(path, sizeof path, "%s/case-%" PRIu64 ".cap", asked_folder, test->number);
+    save_file(path, test->capture.bytes, test->capture.length);
+}
+
+/* Looks at a capture in the ordinary reading; what the strict one says is known. */
+static void look_at_ordinary(struct random *random, const struct test *test, const uint8_t *capture,
+                             struct reference_refusal strict, unsigned *hits)
+{
+    uint64_t result = read_ordinarily(random, test, capture, 8 * CORES_MAX);
+    bool accepted = refusal_number(result) == 0;
+    struct reference_refusal judged = check_judgement(test, capture, result, ORDINARY);
+
+    check_readings(test, judged, strict);
+    compare_with_intent(test, result, ORDINARY);
+    result = read_ordinarily(random, test, capture, random_list_length(random, accepted ? 8 * (size_t)result : 16));
+    hits[refusal_number(result)]++;
+    keep_for_vectors(random, test, capture, (unsigned)judged.number);
+}
+
+/* ---- One case ---- */
+
+static void compare_case(struct random *random, const struct test *test, unsigned hits[READINGS][NUMBERS])
 {
     uint8_t *capture = capture_end - test->capture.length;
 
@@ -443,19 +656,20 @@ static void compare_case(struct random *random, struct test *test, unsigned *hit
 
     uint64_t result = compare_read(random, test, capture, 8 * CORES_MAX); /* long enough for any board */
     bool accepted = refusal_number(result) == 0;
-    struct reference_refusal judged = check_judgement(test, capture, result);
+    struct reference_refusal judged = check_judgement(test, capture, result, STRICT);
 
     if (judged.number != 0)
         keep_for_map(test, judged);
-    compare_with_intent(test, result);
+    compare_with_intent(test, result, STRICT);
     result = compare_read(random, test, capture, random_list_length(random, accepted ? 8 * (size_t)result : 16));
-    hits[refusal_number(result)]++;
+    hits[STRICT][refusal_number(result)]++;
     for (int i = 0; i < (accepted ? SAMPLE : 1); i++) {
         compare_way_and_back(test, capture, interesting_number(random, &test->board));
         compare_random_trace(random, test, capture);
     }
     if (accepted && one_in(random, THOROUGH))
         compare_thoroughly(test, capture);
+    look_at_ordinary(random, test, capture, judged, hits[ORDINARY]);
     if (memcmp(capture, test->capture.bytes, test->capture.length) != 0)
         tell_difference(test, "all questions", "the capture was changed, by this side ...", "... or by this one");
 }
@@ -467,13 +681,13 @@ static const unsigned refusals[] = {1,  2,  3,  4,  5,  6,  10, 11, 12, 13, 14, 
                                     32, 33, 34, 35, 71, 72, 73, 74, 75, 76, 77, 37, 38, 39, 40, 41, 42, 43, 51, 52, 53, 54, 60};
 enum { REFUSALS = sizeof refusals / sizeof refusals[0] };
 
-/* Prints how often each refusal was given; gives whether each was given often enough, and no other. */
-static bool hits_suffice(const unsigned *hits)
+/* Prints how often a reading gave each refusal; gives whether each was given often enough, and no other. */
+static bool hits_suffice(enum reading reading, const unsigned *hits)
 {
     bool suffice = true;
-    unsigned known = hits[0], all = 0;
+    unsigned known = hits[ACCEPTED], all = 0;
 
-    printf("accepted %u\nrefused", hits[0]);
+    printf("%s reading: accepted %u\nrefused", name_of_reading(reading), hits[ACCEPTED]);
     for (size_t i = 0; i < REFUSALS; i++) {
         known += hits[refusals[i]];
         printf("%s%4u: %4u", i > 0 && i % 10 == 0 ? "\n       " : "", refusals[i], hits[refusals[i]]);
@@ -506,21 +720,25 @@ static void check_examples(const struct reader *reader, const char *boards)
 int main(int argc, char **argv)
 {
     static struct test test;
-    static unsigned hits[NUMBERS];
+    static unsigned hits[READINGS][NUMBERS];
 
-    if (argc < 4) {
-        fprintf(stderr, "usage: compare BOARDS DIFFERENCES PRINTED [SEED [COUNT]]\n");
+    if (argc < 5) {
+        fprintf(stderr, "usage: compare BOARDS DIFFERENCES PRINTED ASKED [SEED [COUNT]]\n");
         return 2;
     }
     differences_folder = argv[2];
     printed_folder = argv[3];
+    asked_folder = argv[4];
 
-    uint64_t seed = argc > 4 ? strtoull(argv[4], NULL, 10) : DEFAULT_SEED;
-    uint64_t count = argc > 5 ? strtoull(argv[5], NULL, 10) : DEFAULT_COUNT;
+    uint64_t seed = argc > 5 ? strtoull(argv[5], NULL, 10) : DEFAULT_SEED;
+    uint64_t count = argc > 6 ? strtoull(argv[6], NULL, 10) : DEFAULT_COUNT;
 
     check_examples(&reference, argv[1]);
+    check_examples(&ordinary_reference, argv[1]);
     check_examples(&yasmirand, argv[1]);
     save_examples_for_map(argv[1], printed_folder);
+    open_questions(asked_folder);
+    ask_vectors_examples(argv[1]);
     printf("%" PRIu64 " generated captures, seed %" PRIu64 "\n", count, seed);
     fflush(stdout);
     capture_end = end_of_memory(CAPTURE_ROOM);
@@ -537,12 +755,15 @@ int main(int argc, char **argv)
         compare_case(&random, &test, hits);
     }
 
-    bool suffice = hits_suffice(hits);
+    close_questions();
+
+    bool strict_suffices = hits_suffice(STRICT, hits[STRICT]), ordinary_suffices = hits_suffice(ORDINARY, hits[ORDINARY]);
 
     if (differences != 0)
         printf("compare: %u differences\n", differences);
-    if (differences != 0 || !suffice)
+    if (differences != 0 || !strict_suffices || !ordinary_suffices)
         return 1;
-    printf("compare: %" PRIu64 " captures, every refusal at least %d times, no difference\n", count, LEAST_HITS);
+    printf("compare: %" PRIu64 " captures, every refusal at least %d times in both readings, no difference\n", count,
+           LEAST_HITS);
     return 0;
 }

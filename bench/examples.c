@@ -1,11 +1,12 @@
 /*
  * Board A and its neighbours, the five errors that look right, the refusals of request W-202, board A cut into segments for
- * request W-206, and the captures of boards/: see examples.h.
+ * request W-206, all of it with the MADT revisions of request W-207, and the captures of boards/: see examples.h.
  */
 #define _DEFAULT_SOURCE /* opendir */
 
 #include "examples.h"
 
+#include <assert.h>
 #include <dirent.h>
 #include <inttypes.h>
 #include <stdarg.h>
@@ -15,9 +16,10 @@
 #include <string.h>
 
 #include "board.h"
+#include "board_a.h"
 #include "files.h"
-
-enum { WRONG_TOLD = 20 }; /* then they are only counted */
+#include "questions.h"
+#include "readings.h"
 
 /* ---- Asking ---- */
 
@@ -38,116 +40,13 @@ static void expect(struct tally *tally, const struct reader *reader, uint64_t re
 
 /* ---- Board A and its neighbours ---- */
 
-/* The places of "Board A and its neighbours". */
-enum {
-    A_LENGTH = 538,
-    A_MEMORY = 508,
-    A_DESCRIPTOR = 18,
-    A_RSDP = 30,
-    A_XSDT = 66,
-    A_MADT = 118,
-    A_LIO = 207,
-    A_EIO = 230,
-    A_MSI = 243,
-    A_BIO = 262,
-    A_LPC = 279,
-    A_FADT = 294,
-};
-
-static const uint64_t A_ADDRESS = UINT64_C(0x90000000);
-
 static const char A_PRINTED[] =
     "map 1\ncore 0 0\ncore 1 1\nlio 2 16777215\neio 0 3 1\nbio 0 64 127\nmsi 64 255\nlpc 0 19\nsci 75 3 11\n";
-
-static void load_board_a(const char *boards, struct capture *a)
-{
-    static const size_t place[] = {[RSDP] = A_RSDP, [XSDT] = A_XSDT, [MADT] = A_MADT, [FADT] = A_FADT};
-    static const size_t length[] = {[RSDP] = RSDP_LENGTH, [XSDT] = 52, [MADT] = 176, [FADT] = 244};
-    char path[4096];
-
-    snprintf(path, sizeof path, "%s/A.cap", boards);
-    a->length = load_file(path, a->bytes, CAPTURE_ROOM);
-    if (a->length != A_LENGTH) {
-        fprintf(stderr, "%s is not board A: it has %zu bytes\n", path, a->length);
-        exit(2);
-    }
-    a->segments = 1;
-    a->tables = OTHERS;
-    memcpy(a->place, place, sizeof place);
-    memcpy(a->table_length, length, sizeof length);
-    memset(a->sum_error, 0, sizeof a->sum_error);
-}
-
-/* A structure as the documents write it: its kind, and its fields in the order of "MADT structures". Bases and sizes are free. */
-struct written {
-    enum kind kind; /* 0: none */
-    uint32_t field[4];
-};
-
-static struct structure make_written(const struct written *written)
-{
-    const uint32_t *field = written->field;
-    struct random random = {0};
-
-    switch (written->kind) {
-    case CORE:
-        return make_core(&random, field[0], field[1], field[2]);
-    case LIO:
-        return make_lio(&random, (uint8_t[]){(uint8_t)field[0], (uint8_t)field[1]}, field + 2);
-    case HT:
-        return random_structure(&random, HT);
-    case EIO:
-        return make_eio(&random, (uint8_t)field[0], (uint8_t)field[1], field[2]);
-    case MSI:
-        return make_msi(&random, field[0], field[1]);
-    case BIO:
-        return make_bio(&random, (uint16_t)field[0], (uint16_t)field[1]);
-    case LPC:
-        return make_lpc(&random, (uint16_t)field[0]);
-    default:
-        return (struct structure){.length = 0};
-    }
-}
-
-enum { WRITTEN_MAX = 6 };
-
-/* Puts structures in the place of those that board A has from a place on, and mends what this moves. */
-static void replace_structures(struct capture *a, size_t place, const struct written written[WRITTEN_MAX])
-{
-    uint8_t bytes[WRITTEN_MAX * sizeof(struct structure)];
-    uint8_t *fadt_address = a->bytes + A_XSDT + TABLE_HEADER + 8;
-    size_t length = 0;
-
-    for (size_t i = 0; i < WRITTEN_MAX; i++) {
-        struct structure structure = make_written(&written[i]);
-
-        memcpy(bytes + length, structure.bytes, structure.length);
-        length += structure.length;
-    }
-
-    size_t fadt = place + length;
-    long grown = (long)fadt - (long)a->place[FADT];
-
-    memmove(a->bytes + fadt, a->bytes + a->place[FADT], a->table_length[FADT]);
-    memcpy(a->bytes + place, bytes, length);
-    a->length += (size_t)grown;
-    a->place[FADT] = fadt;
-    a->table_length[MADT] += (size_t)grown;
-    put_u32(a->bytes + 6, (uint32_t)a->length);
-    put_u32(a->bytes + A_DESCRIPTOR + 8, (uint32_t)(a->length - A_RSDP));
-    put_u32(a->bytes + A_MADT + 4, (uint32_t)a->table_length[MADT]);
-    put_u64(fadt_address, get_u64(fadt_address) + (uint64_t)grown);
-}
 
 static void no_bio_no_lpc(struct capture *a)
 {
     replace_structures(a, A_MSI, (struct written[WRITTEN_MAX]){{MSI, {0, 256}}});
     put_u16(a->bytes + a->place[FADT] + 46, 26);
-}
-
-static void second_bridge_at_128(struct capture *a)
-{
-    replace_structures(a, A_FADT, (struct written[WRITTEN_MAX]){{EIO, {4, 5, 1}}, {BIO, {5, 128}}});
 }
 
 static void both_halves(struct capture *a)
@@ -164,8 +63,6 @@ static void first_20_bytes_sum_wrong(struct capture *a)
     a->bytes[A_RSDP + 9]++;
     a->bytes[A_RSDP + 33]--;
 }
-
-enum question { READ, ROUTE, TRACE };
 
 struct example {
     const char *what;
@@ -222,7 +119,7 @@ static void ask_neighbours(struct tally *tally, const struct reader *reader, con
     static struct capture a;
 
     for (size_t i = 0; i < sizeof examples / sizeof examples[0]; i++) {
-        load_board_a(boards, &a);
+        load_board_a(boards, 1, &a);
         if (examples[i].edit != NULL)
             examples[i].edit(&a);
         if (examples[i].edit != NULL && examples[i].edit != first_20_bytes_sum_wrong)
@@ -399,42 +296,113 @@ static void expect_refusal(const struct talk *talk, struct reference_refusal ref
            "%s", talk->name);
     expect_route(talk, 72, result);
     expect_trace(talk, 3, 19, result);
-    if (talk->reader == &reference) { /* Yasmirand's entries for C give no second place: ./map prints it */
-        struct reference_refusal judged = reference_judge(talk->capture, talk->length);
+    if (talk->reader != &yasmirand) { /* Yasmirand's entries for C give no second place: ./map and `vectors` print it */
+        struct reference_refusal judged = judge(talk->capture, talk->length, reading_of(talk->reader));
 
         expect(talk->tally, talk->reader, refused(judged.number, judged.place), result, tell_read, "%s, judged", talk->name);
         expect(talk->tally, talk->reader, judged.second, refusal.second, tell_place, "%s, second place", talk->name);
     }
 }
 
+/* The refusal that is printed, or zeros if it is a map. */
+static struct reference_refusal take_refusal(char *printed)
+{
+    struct reference_refusal refusal = {0};
+
+    if (take_word(&printed, "refused "))
+        refusal.number = take_number(&printed);
+    if (take_word(&printed, " at "))
+        refusal.place = take_number(&printed);
+    if (take_word(&printed, " with "))
+        refusal.second = take_number(&printed);
+    return refusal;
+}
+
+static void take_map(char *printed, struct printed *map)
+{
+    memset(map, 0, sizeof *map);
+    for (char *line = strtok(printed, "\n"); line != NULL; line = strtok(NULL, "\n"))
+        take_line(map, line);
+}
+
 /* Holds a reader to what must be printed for a capture. */
 static void expect_printed(const struct talk *talk, char *printed)
 {
-    struct printed map = {0};
+    struct reference_refusal refusal = take_refusal(printed);
+    struct printed map;
 
-    if (take_word(&printed, "refused ")) {
-        struct reference_refusal refusal = {.number = take_number(&printed)};
-
-        if (take_word(&printed, " at "))
-            refusal.place = take_number(&printed);
-        if (take_word(&printed, " with "))
-            refusal.second = take_number(&printed);
+    if (refusal.number != 0) {
         expect_refusal(talk, refusal);
         return;
     }
-    for (char *line = strtok(printed, "\n"); line != NULL; line = strtok(NULL, "\n"))
-        take_line(&map, line);
+    take_map(printed, &map);
     expect_map(talk, &map);
+}
+
+/* ---- MADT revisions ---- */
+
+static const uint8_t revisions[] = {0, 1, 2, 5, 255};
+enum { REVISIONS = sizeof revisions / sizeof revisions[0] };
+
+/* A case that is made of board A. Its MADT is given a revision; with revision 1, both readings print the text for it. */
+struct revised {
+    const char *what, *printed;
+    uint8_t revision;
+    const struct capture *capture;
+};
+
+/* The case's name, which is a label for `vectors` too. */
+static struct text name_revised(const struct revised *revised)
+{
+    struct text name;
+    int length = snprintf(name.words, sizeof name.words, "%s, revision %u", revised->what, revised->revision);
+
+    assert(length < (int)sizeof name.words);
+    return name;
+}
+
+/* What a reading prints for the case: the text for revision 1, or 29 where that comes first. */
+static void print_revised(const struct revised *revised, enum reading reading, char printed[sizeof A_PRINTED])
+{
+    snprintf(printed, sizeof A_PRINTED, "%s", revised->printed);
+
+    unsigned refusal = (unsigned)take_refusal(printed).number;
+
+    if (refusal_with_revision(refusal, revised->revision, reading) != refusal)
+        snprintf(printed, sizeof A_PRINTED, "refused %d at %zu", MADT_REVISION, revised->capture->place[MADT]);
+}
+
+static void ask_revised(struct tally *tally, const struct reader *reader, const struct revised *revised)
+{
+    const struct capture *capture = revised->capture;
+    struct text name = name_revised(revised);
+    char printed[sizeof A_PRINTED];
+
+    print_revised(revised, reading_of(reader), printed);
+    expect_printed(&(struct talk){tally, reader, name.words, capture->bytes, capture->length}, printed);
+}
+
+static void ask_vectors_revised(const struct revised *revised)
+{
+    const struct capture *capture = revised->capture;
+    char printed[sizeof A_PRINTED];
+
+    for (enum reading reading = ORDINARY; reading <= STRICT; reading++) {
+        print_revised(revised, reading, printed);
+        write_question(name_revised(revised).words,
+                       &(struct query){reading, READ, LONG_LIST, 0, capture->bytes, capture->length},
+                       strcmp(printed, A_PRINTED) == 0 ? A_READ : printed);
+    }
 }
 
 static void ask_board_a(struct tally *tally, const struct reader *reader, const char *boards)
 {
     static struct capture a;
-    char printed[sizeof A_PRINTED];
 
-    load_board_a(boards, &a);
-    memcpy(printed, A_PRINTED, sizeof printed);
-    expect_printed(&(struct talk){tally, reader, "board A", a.bytes, a.length}, printed);
+    for (size_t i = 0; i < REVISIONS; i++) {
+        load_board_a(boards, revisions[i], &a);
+        ask_revised(tally, reader, &(struct revised){"board A", A_PRINTED, revisions[i], &a});
+    }
 }
 
 /* ---- Refusals near board A ---- */
@@ -497,7 +465,7 @@ static const struct refused_example refused_examples[] = {
      {{EIO, {2, 0, 1}}, {EIO, {4, 5, 1}}, {BIO, {0, 64}}, {BIO, {5, 127}}}, "refused 51 at 273 with 256"},
     {"EIO cascades 3, 4, 4, 3", A_EIO, {{EIO, {3, 0, 1}}, {EIO, {4, 1, 1}}, {EIO, {4, 2, 1}}, {EIO, {3, 3, 1}}},
      "refused 53 at 256 with 243"},
-    {"EIO cascade 5, EIO cascade 2, LIO cascades 2 and 5", A_LIO,
+    {"EIO cascades 5 and 2, LIO cascades 2 and 5", A_LIO,
      {{EIO, {5, 0, 1}}, {EIO, {2, 1, 1}}, {LIO, {2, 5, 0xFF, 0xFF00}}}, "refused 53 at 233 with 207"},
     {"unused LIO half with byte 3, two EIO of cascade 3", A_LIO,
      {{LIO, {2, 3, 0xFF, 0}}, {EIO, {3, 0, 1}}, {EIO, {3, 5, 1}}}, "refused 53 at 243 with 230"},
@@ -510,23 +478,21 @@ static const struct refused_example refused_examples[] = {
 
 enum { REFUSED_EXAMPLES = sizeof refused_examples / sizeof refused_examples[0] };
 
-static void make_refused(const char *boards, const struct refused_example *example, struct capture *capture)
+static void make_refused(const char *boards, const struct refused_example *example, uint8_t revision, struct capture *capture)
 {
-    load_board_a(boards, capture);
+    load_board_a(boards, revision, capture);
     replace_structures(capture, example->place, example->written);
     make_sums_good(capture);
 }
 
-static void ask_refused(struct tally *tally, const struct reader *reader, const char *boards)
+/* The example of a number with a revision, in a capture that the next one takes over. */
+static struct revised refused_example(const char *boards, size_t number, uint8_t revision)
 {
     static struct capture capture;
-    char printed[64];
+    const struct refused_example *example = &refused_examples[number];
 
-    for (size_t i = 0; i < REFUSED_EXAMPLES; i++) {
-        make_refused(boards, &refused_examples[i], &capture);
-        snprintf(printed, sizeof printed, "%s", refused_examples[i].printed);
-        expect_printed(&(struct talk){tally, reader, refused_examples[i].what, capture.bytes, capture.length}, printed);
-    }
+    make_refused(boards, example, revision, &capture);
+    return (struct revised){example->what, example->printed, revision, &capture};
 }
 
 /* ---- Board A in several segments ---- */
@@ -561,9 +527,9 @@ static const struct cut_example cut_examples[] = {
     {"MADT cut at the LIO's end", A_EIO, 1, .printed = A_PRINTED},
     {"FADT cut inside SCI_INT", A_FADT + 47, 1, .printed = A_PRINTED},
     {"sixteen segments", A_RSDP + 32, 15, 32, .printed = A_PRINTED},
-    {"fifteen bytes of the RSDP, each a segment", A_RSDP + 1, 15, 1, .printed = A_PRINTED},
-    {"fourteen bytes of the MADT's header, each a segment", A_MADT, 15, 1, .printed = A_PRINTED},
-    {"fourteen bytes of the LIO, each a segment", A_LIO + 3, 15, 1, .printed = A_PRINTED},
+    {"15 bytes of the RSDP, each a segment", A_RSDP + 1, 15, 1, .printed = A_PRINTED},
+    {"14 bytes of the MADT's header, each a segment", A_MADT, 15, 1, .printed = A_PRINTED},
+    {"14 bytes of the LIO, each a segment", A_LIO + 3, 15, 1, .printed = A_PRINTED},
     /* A byte is missing between the two: inside a table, or between tables. */
     {"gap at 1 of the RSDP", A_RSDP + 1, 1, 0, A_RSDP + 1, 1, .printed = "refused 10 at 10"},
     {"gap at 20 of the RSDP", A_RSDP + 20, 1, 0, A_RSDP + 20, 1, .printed = "refused 10 at 10"},
@@ -648,11 +614,11 @@ static void exchange_two_segments(struct capture *capture)
     set_segment_length(capture, 1, length);
 }
 
-static void make_cut(const char *boards, const struct cut_example *example, struct capture *capture)
+static void make_cut(const char *boards, const struct cut_example *example, uint8_t revision, struct capture *capture)
 {
     size_t more = DESCRIPTOR_LENGTH * example->cuts;
 
-    load_board_a(boards, capture);
+    load_board_a(boards, revision, capture);
     memmove(capture->bytes + A_RSDP + more, capture->bytes + A_RSDP, A_LENGTH - A_RSDP);
     for (size_t table = 0; table < capture->tables; table++)
         capture->place[table] += more;
@@ -675,46 +641,60 @@ static void make_cut(const char *boards, const struct cut_example *example, stru
         exchange_two_segments(capture);
 }
 
-static void ask_cut(struct tally *tally, const struct reader *reader, const char *boards)
+/* As refused_example(). */
+static struct revised cut_example(const char *boards, size_t number, uint8_t revision)
 {
     static struct capture capture;
-    char printed[sizeof A_PRINTED];
+    const struct cut_example *example = &cut_examples[number];
 
-    for (size_t i = 0; i < CUT_EXAMPLES; i++) {
-        make_cut(boards, &cut_examples[i], &capture);
-        snprintf(printed, sizeof printed, "%s", cut_examples[i].printed);
-        expect_printed(&(struct talk){tally, reader, cut_examples[i].what, capture.bytes, capture.length}, printed);
-    }
+    make_cut(boards, example, revision, &capture);
+    return (struct revised){example->what, example->printed, revision, &capture};
 }
 
-/* ---- All of it ---- */
+/* All of these are asked about with each of the revisions. */
+enum { REVISED_EXAMPLES = REFUSED_EXAMPLES + CUT_EXAMPLES };
 
-void save_examples_for_map(const char *boards, const char *folder)
+static struct revised revised_example(const char *boards, size_t number, uint8_t revision)
 {
-    static struct capture capture;
-    char name[64];
-
-    for (size_t i = 0; i < REFUSED_EXAMPLES; i++) {
-        make_refused(boards, &refused_examples[i], &capture);
-        snprintf(name, sizeof name, "example-%zu", i + 1);
-        save_for_map(folder, name, capture.bytes, capture.length, refused_examples[i].printed);
-    }
-    for (size_t i = 0; i < CUT_EXAMPLES; i++) {
-        if (cut_examples[i].printed == A_PRINTED)
-            continue;
-        make_cut(boards, &cut_examples[i], &capture);
-        snprintf(name, sizeof name, "cut-example-%zu", i + 1);
-        save_for_map(folder, name, capture.bytes, capture.length, cut_examples[i].printed);
-    }
+    return number < REFUSED_EXAMPLES ? refused_example(boards, number, revision)
+                                     : cut_example(boards, number - REFUSED_EXAMPLES, revision);
 }
 
-/* Each NAME.cap of boards/real with its NAME.txt. */
-static void ask_real_captures(struct tally *tally, const struct reader *reader, const char *boards)
+static void ask_revised_examples(struct tally *tally, const struct reader *reader, const char *boards)
 {
-    static uint8_t capture[CAPTURE_ROOM];
-    char folder[4096], path[4096 + 256], printed[16384];
+    for (size_t i = 0; i < REVISED_EXAMPLES; i++)
+        for (size_t j = 0; j < REVISIONS; j++) {
+            struct revised revised = revised_example(boards, i, revisions[j]);
 
-    snprintf(folder, sizeof folder, "%s/real", boards);
+            ask_revised(tally, reader, &revised);
+        }
+}
+
+static void ask_vectors_revised_examples(const char *boards)
+{
+    for (size_t i = 0; i < REVISED_EXAMPLES; i++)
+        for (size_t j = 0; j < REVISIONS; j++) {
+            struct revised revised = revised_example(boards, i, revisions[j]);
+
+            ask_vectors_revised(&revised);
+        }
+}
+
+/* ---- The captures of boards/real ---- */
+
+enum { FOLDER_ROOM = 4096, NAME_ROOM = 256 };
+
+/* One of them: NAME.cap, and what ./map prints for it, NAME.txt. */
+struct real {
+    char name[NAME_ROOM];
+    size_t length;
+    uint8_t capture[CAPTURE_ROOM];
+    char printed[16384];
+};
+
+static DIR *open_real_captures(const char *boards, char folder[FOLDER_ROOM])
+{
+    snprintf(folder, FOLDER_ROOM, "%s/real", boards);
 
     DIR *names = opendir(folder);
 
@@ -722,21 +702,112 @@ static void ask_real_captures(struct tally *tally, const struct reader *reader, 
         perror(folder);
         exit(2);
     }
+    return names;
+}
+
+static void load_real_capture(const char *folder, struct real *real)
+{
+    char path[FOLDER_ROOM + NAME_ROOM + 8];
+
+    snprintf(path, sizeof path, "%s/%s.cap", folder, real->name);
+    real->length = load_file(path, real->capture, sizeof real->capture);
+    snprintf(path, sizeof path, "%s/%s.txt", folder, real->name);
+    real->printed[load_file(path, (uint8_t *)real->printed, sizeof real->printed - 1)] = '\0';
+}
+
+/* Loads the next one; gives whether there was one. */
+static bool next_real_capture(DIR *names, const char *folder, struct real *real)
+{
+    static const char ending[] = ".cap";
+
     for (struct dirent *entry = readdir(names); entry != NULL; entry = readdir(names)) {
-        size_t stem = strlen(entry->d_name);
+        char *dot = strrchr(entry->d_name, '.');
 
-        if (stem < 4 || strcmp(entry->d_name + stem - 4, ".cap") != 0)
+        if (dot == NULL || strcmp(dot, ending) != 0)
             continue;
-        stem -= 4;
-        snprintf(path, sizeof path, "%s/%s", folder, entry->d_name);
+        *dot = '\0';
+        snprintf(real->name, sizeof real->name, "%s", entry->d_name);
+        load_real_capture(folder, real);
+        return true;
+    }
+    return false;
+}
 
-        size_t length = load_file(path, capture, sizeof capture);
+/* ./map is the strict reading. Of a capture that it refuses with 29, its text does not say what the ordinary one prints. */
+static bool text_is_of(enum reading reading, char *printed)
+{
+    return reading == STRICT || take_refusal(printed).number != MADT_REVISION;
+}
 
-        snprintf(path, sizeof path, "%s/%.*s.txt", folder, (int)stem, entry->d_name);
-        printed[load_file(path, (uint8_t *)printed, sizeof printed - 1)] = '\0';
-        expect_printed(&(struct talk){tally, reader, entry->d_name, capture, length}, printed);
+static void ask_real_captures(struct tally *tally, const struct reader *reader, const char *boards)
+{
+    static struct real real;
+    char folder[FOLDER_ROOM];
+    DIR *names = open_real_captures(boards, folder);
+
+    while (next_real_capture(names, folder, &real))
+        if (text_is_of(reading_of(reader), real.printed))
+            expect_printed(&(struct talk){tally, reader, real.name, real.capture, real.length}, real.printed);
+    closedir(names);
+}
+
+/* What `vectors` prints of the processors of a printed map; a refusal stays as it is. */
+static void print_processors(char *printed, char answer[ANSWER_ROOM])
+{
+    struct printed map;
+
+    if (take_refusal(printed).number != 0) {
+        snprintf(answer, ANSWER_ROOM, "%.*s", (int)strcspn(printed, "\n"), printed);
+        return;
+    }
+    take_map(printed, &map);
+
+    int length = snprintf(answer, ANSWER_ROOM, "read %zu", map.cores);
+
+    for (size_t i = 0; i < map.cores; i++)
+        length += snprintf(answer + length, ANSWER_ROOM - (size_t)length, " %" PRIu32 " %" PRIu32, map.uid[i],
+                           map.physical_id[i]);
+}
+
+static void ask_vectors_real_captures(const char *boards)
+{
+    static struct real real;
+    char folder[FOLDER_ROOM], answer[ANSWER_ROOM];
+    DIR *names = open_real_captures(boards, folder);
+
+    while (next_real_capture(names, folder, &real)) {
+        bool of_ordinary = text_is_of(ORDINARY, real.printed);
+
+        print_processors(real.printed, answer);
+        if (of_ordinary)
+            write_question(real.name, &(struct query){ORDINARY, READ, LONG_LIST, 0, real.capture, real.length}, answer);
+        write_question(real.name, &(struct query){STRICT, READ, LONG_LIST, 0, real.capture, real.length}, answer);
     }
     closedir(names);
+}
+
+/* ---- All of it ---- */
+
+void save_examples_for_map(const char *boards, const char *folder)
+{
+    char name[64];
+
+    for (size_t i = 0; i < REVISED_EXAMPLES; i++) {
+        struct revised revised = revised_example(boards, i, 1);
+
+        if (revised.printed == A_PRINTED)
+            continue;
+        snprintf(name, sizeof name, "example-%zu", i + 1);
+        save_for_map(folder, name, revised.capture->bytes, revised.capture->length, revised.printed);
+    }
+    save_reading_examples_for_map(boards, folder);
+}
+
+void ask_vectors_examples(const char *boards)
+{
+    ask_vectors_revised_examples(boards);
+    ask_vectors_reading_examples(boards);
+    ask_vectors_real_captures(boards);
 }
 
 struct tally ask_examples(const struct reader *reader, const char *boards)
@@ -745,8 +816,8 @@ struct tally ask_examples(const struct reader *reader, const char *boards)
 
     ask_board_a(&tally, reader, boards);
     ask_neighbours(&tally, reader, boards);
-    ask_refused(&tally, reader, boards);
-    ask_cut(&tally, reader, boards);
+    ask_revised_examples(&tally, reader, boards);
+    ask_reading_examples(&tally, reader, boards);
     ask_real_captures(&tally, reader, boards);
     return tally;
 }

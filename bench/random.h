@@ -1,5 +1,6 @@
 /*
- * Numbers that look random and are the same on every machine and in every run: splitmix64 over a seed.
+ * Numbers that look random and are the same on every machine and in every run: splitmix64 over a seed. C leaves it to the
+ * compiler which argument of a call comes first, so at most one of them may draw a number.
  */
 #ifndef RANDOM_H
 #define RANDOM_H

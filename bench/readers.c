@@ -4,6 +4,7 @@
 #include "readers.h"
 
 #include <inttypes.h>
+#include <stdbool.h>
 #include <stdio.h>
 
 #include "yasmirand.h"
@@ -26,6 +27,14 @@ const struct reader *reference_in(enum reading reading)
 const char *name_of_reading(enum reading reading)
 {
     return reading == ORDINARY ? "ordinary" : "strict";
+}
+
+unsigned refusal_with_revision(unsigned refusal, uint8_t revision, enum reading reading)
+{
+    bool earlier = refusal != 0 && refusal < MADT_REVISION;
+    bool taken = reading == ORDINARY ? revision != 0 : revision == 1;
+
+    return earlier || taken ? refusal : MADT_REVISION;
 }
 
 struct reference_refusal judge(const uint8_t *capture, size_t capture_len, enum reading reading)
@@ -125,6 +134,17 @@ static struct text tell_answer(uint64_t result, const char *const *kinds, size_t
         snprintf(text.words, sizeof text.words, "%s (%u, %" PRIu32 ")", kinds[kind], byte, value);
     else
         snprintf(text.words, sizeof text.words, "answer %" PRIu64, result);
+    return text;
+}
+
+struct text print_answer(uint64_t result)
+{
+    struct text text;
+
+    if (refusal_number(result) != 0)
+        return tell_refused(result);
+    snprintf(text.words, sizeof text.words, "kind %u %u %" PRIu32, (unsigned)(result >> KIND_SHIFT),
+             (unsigned)(result >> BYTE_SHIFT & 255), (uint32_t)result);
     return text;
 }
 

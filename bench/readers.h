@@ -4,7 +4,6 @@
 #ifndef READERS_H
 #define READERS_H
 
-#include <stdbool.h>
 #include <stddef.h>
 #include <stdint.h>
 
@@ -21,6 +20,8 @@ struct reader {
 /* Yasmirand's entries are the strict reading, and so is `reference`, which is compared with them (W-207). */
 extern const struct reader yasmirand, reference, ordinary_reference;
 
+enum { READINGS = STRICT + 1 };
+
 enum reading reading_of(const struct reader *reader);
 const struct reader *reference_in(enum reading reading);
 const char *name_of_reading(enum reading reading);
@@ -28,8 +29,12 @@ const char *name_of_reading(enum reading reading);
 /* All that reference.c says of a capture's refusal in a reading. */
 struct reference_refusal judge(const uint8_t *capture, size_t capture_len, enum reading reading);
 
-/* Whether a reading takes a MADT revision, as W-207 says it: what this side expects of both. */
-bool takes_revision(uint8_t revision, enum reading reading);
+/*
+ * The refusal number, or 0, that a reading must give to a capture whose MADT has some revision, if `refusal` is what both
+ * give with revision 1. Rule 29 stands behind all rules with lower numbers and before all others (W-207).
+ */
+enum { MADT_REVISION = 29 };
+unsigned refusal_with_revision(unsigned refusal, uint8_t revision, enum reading reading);
 
 /* How results are coded. */
 uint64_t refused(uint64_t number, uint64_t place);
@@ -53,6 +58,9 @@ struct text {
 struct text tell_read(uint64_t result);
 struct text tell_route(uint64_t result);
 struct text tell_trace(uint64_t result);
+
+/* A result of `route` or `trace` as the program `vectors` prints it: "kind 0 3 8", or "refused 29 at 118". */
+struct text print_answer(uint64_t result);
 
 /* A refusal as ./map prints it: "refused 52 at 262 with 243", or "refused 75 at 243" where the second place is 0. */
 struct text tell_refusal(struct reference_refusal refusal);

@@ -1,4 +1,4 @@
--- What is promised of captures. Each statement stands alone; proofs/ has a theorem for it.
+-- What is promised of captures, in either reading: how strict it is, is a parameter. Each statement stands alone; proofs/ has a theorem for it.
 use Prim.Native.Nat.{ℕ}
 use mathlib.Core.Bool.{true}
 use mathlib.Core.List.{List}
@@ -65,7 +65,8 @@ AcceptedIsTrustworthy strictness capture = Accepted strictness capture → Trust
 
 -- and so is the map that the reading hands back with a count
 abbrev pub ReadIsTrustworthy : Strictness → List ℕ → List ℕ → Type 0
-ReadIsTrustworthy strictness capture list = (count : ℕ) → readingOf strictness capture list .answer ≡ Read count → Trustworthy (readingOf strictness capture list .map)
+ReadIsTrustworthy strictness capture list =
+    (count : ℕ) → readingOf strictness capture list .answer ≡ Read count → Trustworthy (readingOf strictness capture list .map)
 
 -- ---- "The map holds the used fields of LIO, EIO, BIO, MSI and LPC, in table order, and the SCI number"
 -- the map of an accepted capture is that of its MADT's structures, and its SCI number is the FADT's
@@ -112,7 +113,8 @@ RulesInOrder strictness capture =
 
 -- "refused for a clash exactly when": each number by itself, over the structures that the walk found; `told n p q` is that n is told
 -- at place p with the second place q
-pub record EachExactly (told : ℕ → ℕ → ℕ → Type 0) (strictness : Strictness) (capture : List ℕ) (t : Tables) (said : Said) (places : Places) : Type 0 where
+pub record EachExactly (told : ℕ → ℕ → ℕ → Type 0) (strictness : Strictness) (capture : List ℕ) (t : Tables) (said : Said) (places : Places)
+    : Type 0 where
   -- "EIO repeats an earlier node"
   pub r41 : NothingBefore41 strictness capture t → Exactly (told 41) (TwoNode said) (OnePlace (NamesLater said places (ShareNode said)))
   -- "BIO without an EIO of its node"
@@ -131,7 +133,8 @@ pub record EachExactly (told : ℕ → ℕ → ℕ → Type 0) (strictness : Str
 -- so of what the capture is refused with
 abbrev pub RefusedExactlyForSharing : Strictness → List ℕ → Tables → Type 0
 RefusedExactlyForSharing strictness capture t =
-    EachExactly (λ n p q. scan strictness capture .verdict ≡ Refused (refusedWith n p q)) strictness capture t (says (walkOf capture t .found .map)) (walkOf capture t .found .places)
+    EachExactly (λ n p q. scan strictness capture .verdict ≡ Refused (refusedWith n p q)) strictness capture t (says (walkOf capture t .found .map))
+    (walkOf capture t .found .places)
 
 -- and so of the reading's answer, whatever list it is lent
 abbrev pub ReadRefusedExactlyForSharing : Strictness → List ℕ → List ℕ → Tables → Type 0

@@ -61,8 +61,8 @@ lengthRules madt fadt =
     ∷ rule (ltb (fadt .length) 48) 28 (fadt .place)
     ∷ []
 
--- 29, as W-207 of document 02 has it: "29 for revision 0 in the ordinary reading, for other than 1 in the strict one". The two
--- readings differ here alone.
+-- 29, by W-207 of document 02: "for revision 0 in the ordinary reading, for other than 1 in the strict one", which keeps document
+-- 01's "MADT: revision 1". The two readings differ here alone.
 unfoldable pub wrongMadtRevision : Strictness → ℕ → Bool
 wrongMadtRevision Ordinary revision = eqb revision 0
 wrongMadtRevision Strict revision = not (eqb revision 1)
@@ -111,9 +111,9 @@ xsdtOf capture = tableNamed capture (xsdtField (rsdpPlace capture))
 unfoldable pub tablesOf : List ℕ → Tables
 tablesOf capture = tablesFrom capture (xsdtOf capture)
 
--- the order of refusals 1 to 28, which no reading asks otherwise than another: "the XSDT goes through 20 to 25, then its entries in turn,
--- each through 20 to 22. 26 and 27 come after all entries". What stands nowhere has place 0: a rule that looks at a place comes after
--- the rule that the thing is there.
+-- the order of refusals 1 to 28, the same in both readings: "the XSDT goes through 20 to 25, then its entries in turn, each through 20
+-- to 22. 26 and 27 come after all entries". What stands nowhere has place 0: a rule that looks at a place comes after the rule that the
+-- thing is there.
 unfoldable pub rulesBefore29 : List ℕ → List Verdict
 rulesBefore29 capture =
     let rsdp = rsdpPlace capture in
@@ -127,7 +127,7 @@ rulesBefore29 capture =
     ++ (nameRules capture xsdt  -- 26, 27
     ++ lengthRules (madtOf capture xsdt) (fadtOf capture xsdt)))))))  -- 28
 
--- and of 1 to 30
+-- and of 1 to 30, by how strict the reading is
 unfoldable pub surveyRules : Strictness → List ℕ → List Verdict
 surveyRules strictness capture = rulesBefore29 capture ++ madtFieldRules strictness capture (madtOf capture (xsdtOf capture))
 

@@ -1,0 +1,94 @@
+/*
+ * Board A of document 01: see board_a.h.
+ */
+#include "board_a.h"
+
+#include <stdio.h>
+#include <stdlib.h>
+#include <string.h>
+
+#include "files.h"
+
+const uint64_t A_ADDRESS = UINT64_C(0x90000000);
+
+const char A_READ[] = "read 2 0 0 1 1";
+
+void load_board_a(const char *boards, uint8_t revision, struct capture *a)
+{
+    static const size_t place[] = {[RSDP] = A_RSDP, [XSDT] = A_XSDT, [MADT] = A_MADT, [FADT] = A_FADT};
+    static const size_t length[] = {[RSDP] = RSDP_LENGTH, [XSDT] = 52, [MADT] = 176, [FADT] = 244};
+    char path[4096];
+
+    snprintf(path, sizeof path, "%s/A.cap", boards);
+    a->length = load_file(path, a->bytes, CAPTURE_ROOM);
+    if (a->length != A_LENGTH) {
+        fprintf(stderr, "%s is not board A: it has %zu bytes\n", path, a->length);
+        exit(2);
+    }
+    a->segments = 1;
+    a->tables = OTHERS;
+    memcpy(a->place, place, sizeof place);
+    memcpy(a->table_length, length, sizeof length);
+    memset(a->sum_error, 0, sizeof a->sum_error);
+    if (revision == 1) /* it has this one */
+        return;
+    a->bytes[A_MADT + TABLE_REVISION] = revision;
+    make_sums_good(a);
+}
+
+static struct structure make_written(const struct written *written)
+{
+    const uint32_t *field = written->field;
+    struct random random = {0};
+
+    switch (written->kind) {
+    case CORE:
+        return make_core(&random, field[0], field[1], field[2]);
+    case LIO:
+        return make_lio(&random, (uint8_t[]){(uint8_t)field[0], (uint8_t)field[1]}, field + 2);
+    case HT:
+        return random_structure(&random, HT);
+    case EIO:
+        return make_eio(&random, (uint8_t)field[0], (uint8_t)field[1], field[2]);
+    case MSI:
+        return make_msi(&random, field[0], field[1]);
+    case BIO:
+        return make_bio(&random, (uint16_t)field[0], (uint16_t)field[1]);
+    case LPC:
+        return make_lpc(&random, (uint16_t)field[0]);
+    default:
+        return (struct structure){.length = 0};
+    }
+}
+
+void replace_structures(struct capture *a, size_t place, const struct written written[WRITTEN_MAX])
+{
+    uint8_t bytes[WRITTEN_MAX * sizeof(struct structure)];
+    uint8_t *fadt_address = a->bytes + A_XSDT + TABLE_HEADER + 8;
+    size_t length = 0;
+
+    for (size_t i = 0; i < WRITTEN_MAX; i++) {
+        struct structure structure = make_written(&written[i]);
+
+        memcpy(bytes + length, structure.bytes, structure.length);
+        length += structure.length;
+    }
+
+    size_t fadt = place + length;
+    long grown = (long)fadt - (long)a->place[FADT];
+
+    memmove(a->bytes + fadt, a->bytes + a->place[FADT], a->table_length[FADT]);
+    memcpy(a->bytes + place, bytes, length);
+    a->length += (size_t)grown;
+    a->place[FADT] = fadt;
+    a->table_length[MADT] += (size_t)grown;
+    put_u32(a->bytes + 6, (uint32_t)a->length);
+    put_u32(a->bytes + A_DESCRIPTOR + 8, (uint32_t)(a->length - A_RSDP));
+    put_u32(a->bytes + A_MADT + 4, (uint32_t)a->table_length[MADT]);
+    put_u64(fadt_address, get_u64(fadt_address) + (uint64_t)grown);
+}
+
+void second_bridge_at_128(struct capture *a)
+{
+    replace_structures(a, A_FADT, (struct written[WRITTEN_MAX]){{EIO, {4, 5, 1}}, {BIO, {5, 128}}});
+}

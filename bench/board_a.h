@@ -1,0 +1,54 @@
+/*
+ * Board A of document 01, to make cases of: its places, its capture with any MADT revision, and other structures in the place
+ * of its own.
+ */
+#ifndef BOARD_A_H
+#define BOARD_A_H
+
+#include <stddef.h>
+#include <stdint.h>
+
+#include "board.h"
+
+/* The places of "Board A and its neighbours". */
+enum {
+    A_LENGTH = 538,
+    A_MEMORY = 508,
+    A_DESCRIPTOR = 18,
+    A_RSDP = 30,
+    A_XSDT = 66,
+    A_MADT = 118,
+    A_CORE = 162,
+    A_LIO = 207,
+    A_EIO = 230,
+    A_MSI = 243,
+    A_BIO = 262,
+    A_LPC = 279,
+    A_FADT = 294,
+};
+
+extern const uint64_t A_ADDRESS; /* of its memory */
+
+enum { LONG_LIST = 2 * CORES_MAX }; /* numbers that are enough for any board */
+
+/* What the program `vectors` prints of its processors. */
+extern const char A_READ[];
+
+/* Board A as it is, or with a MADT revision other than 1 and the sum made good. `boards` is the path of the folder boards/. */
+void load_board_a(const char *boards, uint8_t revision, struct capture *a);
+
+/* A structure as the documents write it: its kind, and its fields in the order of "MADT structures". Bases and sizes are free. */
+struct written {
+    enum kind kind; /* 0: none */
+    uint32_t field[4];
+};
+
+enum { WRITTEN_MAX = 6 };
+
+/* Puts structures in the place of those that board A has from a place on, and mends what this moves. Sums are not made good. */
+void replace_structures(struct capture *a, size_t place, const struct written written[WRITTEN_MAX]);
+
+/* Adds an EIO (node 5, cascade 4) with a BIO whose base is 128. */
+void second_bridge_at_128(struct capture *a);
+
+#endif

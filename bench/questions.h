@@ -1,0 +1,47 @@
+/*
+ * Questions for the program `vectors`, and the lines that it must print for them.
+ *
+ * Yasmirand's entries for C are the strict reading. Of its programs only `vectors` answers in the ordinary one (W-207): it
+ * takes questions about captures from standard input, each in the reading that it names. So the questions are written to
+ * files, READING.in for each reading, the lines to READING.txt beside it, and bench/run compares what `vectors` prints.
+ */
+#ifndef QUESTIONS_H
+#define QUESTIONS_H
+
+#include <stddef.h>
+#include <stdint.h>
+
+#include "readers.h"
+
+/* As `vectors` numbers them. */
+enum question { READ = 4, ROUTE = 5, TRACE = 6 };
+
+enum {
+    ASKED_CAPTURE_MAX = 65537, /* one byte more than a capture may have */
+    LENT_MAX = 520,            /* numbers of a list */
+    ANSWER_ROOM = 64 + 12 * LENT_MAX,
+};
+
+/* One question about a capture. */
+struct query {
+    enum reading reading;
+    enum question question;
+    uint32_t first, second; /* READ: how many numbers the list has; ROUTE: the number; TRACE: the vector and the number */
+    const uint8_t *capture;
+    size_t length;
+};
+
+/* Makes the files in a folder, before the first question, and closes them, after the last. */
+void open_questions(const char *folder);
+void close_questions(void);
+
+/* Writes a question, and the line that must be printed for it: the label, which says what is asked, and the answer. */
+void write_question(const char *label, const struct query *query, const char *answer);
+
+/*
+ * The answer of a reader as `vectors` would print it; its result is given back too. Only of `read` a second place is printed,
+ * and only if the reader is reference.c: Yasmirand's entries for C do not give it.
+ */
+uint64_t answer_query(const struct reader *reader, const struct query *query, char answer[ANSWER_ROOM]);
+
+#endif
