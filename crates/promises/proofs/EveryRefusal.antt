@@ -49,7 +49,7 @@ use Rattle.promises.proofs.Told.{Told, isAfter30, isNot60, told-not-60,
 use Rattle.promises.proofs.WhyRefused.{why-refused}
 use Rattle.promises.proofs.WalkRefusals.{walked-told}
 
--- ---- 31 to 54
+-- ---- 31 to 54, of tables that were found
 abbrev pub rulesFrom31 : List ℕ → Tables → List Verdict
 rulesFrom31 capture t = walkRules (madtBytes capture (t .madt)) (t .madt .place) ++ laterRules capture t
 
@@ -90,7 +90,7 @@ module _ (capture : List ℕ) (t : Tables) (inside : TablesInside capture t) (at
       (walk-stands (madtBytes capture (t .madt)) (t .madt .place) (t .sci) (t .madt .length) (inside .madt .long) (small capture t inside) sound)
       (inside .madt .inside) (t .madt .place) (t .fadt .place) (at .0) (at .1)))
 
-  -- of what comes after the tables that were found
+  -- all of them
   pub after-30-told : Told isAfter30 capture (firstRefusal (rulesFrom31 capture t))
   after-30-told =
       joined-told isAfter30 capture (walkRules (madtBytes capture (t .madt)) (t .madt .place)) (laterRules capture t)
@@ -105,7 +105,9 @@ scan-told strictness capture = go (survey strictness capture) refl (survey-told 
     go : (s : Survey) → survey strictness capture ≡ s → SurveyTold capture s → Told isNot60 capture (scan strictness capture .verdict)
     go (surveys.Refused r) e told = rw (scan-refused strictness capture e) told
     go (surveys.Found t) e told =
-        rw (found-verdict strictness capture e) (told-not-60 isAfter30 refl capture (firstRefusal (rulesFrom31 capture t)) (after-30-told capture t (tables-inside strictness capture t e) told))
+        rw (found-verdict strictness capture e)
+        (told-not-60 isAfter30 refl capture (firstRefusal (rulesFrom31 capture t))
+        (after-30-told capture t (tables-inside strictness capture t e) told))
 
 module _ (strictness : Strictness) (capture : List ℕ) (r : Refusal) (e : scan strictness capture .verdict ≡ verdicts.Refused r) where
   pub of-scan : OfTheTable capture r

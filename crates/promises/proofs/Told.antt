@@ -28,7 +28,7 @@ abbrev pub Told : (ℕ → Bool) → List ℕ → Verdict → Type 0
 Told own capture Sound = 0 < 1
 Told own capture (Refused r) = OfTheRules own capture r
 
--- the numbers of the rules before 29; 29 and 30; those of the rules after them
+-- ---- whose numbers they are: of the rules before 29, 29 and 30, and those after
 abbrev pub isBefore29 : ℕ → Bool
 isBefore29 = among 1 28
 
@@ -38,7 +38,7 @@ is29Or30 = among 29 30
 abbrev pub isAfter30 : ℕ → Bool
 isAfter30 n = among 31 54 n || among 71 77 n
 
--- and every number but 60, the list's
+-- all of them: every number but 60, the list's
 abbrev pub isNot60 : ℕ → Bool
 isNot60 n = not (eqb n 60)
 
@@ -69,7 +69,8 @@ tell own capture n place named at = (
 abbrev pub NamedBoth : (ℕ → Bool) → ℕ → Type 0
 NamedBoth own n = (isRefusalNumber n ≡ true) × (isPlaceless n ≡ false) × (isTwofold n ≡ true) × (own n ≡ true)
 
-pub tell-both : (own : ℕ → Bool) (capture : List ℕ) (n p q : ℕ) → NamedBoth own n → Inside capture p → 0 < q → q < p → OfTheRules own capture (refusedWith n p q)
+pub tell-both : (own : ℕ → Bool) (capture : List ℕ) (n p q : ℕ) → NamedBoth own n → Inside capture p → 0 < q → q < p
+    → OfTheRules own capture (refusedWith n p q)
 tell-both own capture n p q named at some before = (
   record { number = named .0; place = inr (named .1, at .0, at .1); second = inl (named .2, some, before) },
   named .3,
