@@ -38,6 +38,17 @@ def capture(segments, rsdp=None, mark=b"TBC", version=1, count=None, total=None,
     return head + le(total, 4) + le(segments[0][0] if rsdp is None else rsdp, 8) + body
 
 
+def segments_of(data):
+    """The segments (address, bytes) of a sound capture."""
+    count, segments = data[5], []
+    at = 18 + 12 * count
+    for place in range(18, at, 12):
+        address, length = (int.from_bytes(data[a:b], "little") for a, b in ((place, place + 8), (place + 8, place + 12)))
+        segments.append((address, data[at:at + length]))
+        at += length
+    return segments
+
+
 def cut(memory, *at, gap=0, base=BASE):
     """A capture of memory that is cut at offsets into touching segments; what is behind the last cut may lie a gap further on."""
     pieces = [memory[a:b] for a, b in zip((0, *at), (*at, len(memory)))]
@@ -64,6 +75,11 @@ def madt(structures, revision=1, flags=0):
 
 def fadt(sci=75, size=244):
     return table(b"FACP", 4, (le(0, 10) + le(sci, 2) + le(0, 196))[: size - 36])
+
+
+def lengthened(data, at, new):
+    """A table with bytes put in at an offset; its length and its sum made good."""
+    return summed(data[:4] + le(len(data) + len(new), 4) + data[8:at] + new + data[at:], 9)
 
 
 # The MADT's structures.

@@ -12,7 +12,7 @@ import sys
 import listed
 from board import A, BASE, STRUCTURES_OF_A, bio, board, capture, core, cut, eio, fadt, ht, image, lay, le, lio, lpc, madt, msi
 from board import rsdp, structure, summed, table
-from printed import PRINTED
+from printed import PRINTED, REAL
 
 # The kinds of question that crates/vectors/src/main.rt knows.
 CHECK, RSDP, REACH, SURVEY, READ, ROUTE, TRACE, READ_BYTES = range(8)
@@ -300,7 +300,6 @@ survey("after 6", zeros((BASE, 8), (BASE, 8)), refused(6, 30))
 survey("after 10", capture([(BASE, image())], 0), refused(10, 10))
 
 # Tables that nobody here wrote.
-REAL = pathlib.Path(__file__).resolve().parent / "real"
 for name, answer in [
     ("qemu111-smp4", refused(30, 5331)),
     ("edk2-qemu111-smp4-tables", refused(30, 690)),
@@ -438,10 +437,52 @@ read("38: 256 CORE are fine", made(*MANY[:256], L, eio(3, 0)), "read 128" + "".j
 # 39 to 43.
 read("39: UIDs 0, 1, 1, 0: the earliest later one", made(core(0, 0), core(1, 1), core(1, 2), core(0, 3), L, eio(3, 0)), refused(39, 192))
 read("39: physical ID", put(1, core(1, 0)), refused(39, 177))
-read("39: of a disabled CORE", put(2, core(0, 2, 0)), refused(39, 192))
 read("39: UID against physical ID is none", made(core(0, 1), core(1, 0), L, eio(3, 0)), "read 2 0 1 1 0")
 read("39 after 31", made(C, C, b"\0\1"), refused(31, 192))
 read("39 before 40", made(C, C), refused(39, 177))
+
+# W-203: 39 compares enabled CORE alone. CORE stand at 162, 177, 192, 207, 222.
+REST, ONE = (L, eio(3, 0)), "read 1 0 0"
+for label, spare in (("UID", core(0, 5, 0)), ("physical ID", core(5, 0, 0)), ("both IDs", core(0, 0, 0))):
+    both(read, f"39: {label} of a spare CORE behind", made(C, spare, *REST), ordinary=ONE, strict=ONE)
+    both(read, f"39: {label} of a spare CORE before", made(spare, C, *REST), ordinary=ONE, strict=ONE)
+    both(read, f"39: {label} of a spare CORE between", made(C, spare, core(0, 9), *REST), ordinary=refused(39, 192), strict=refused(39, 192))
+    read(f"39: {label} of spare CORE around", made(spare, C, spare, core(9, 0), spare, *REST), refused(39, 207))
+    read(f"39: {label} of a spare CORE behind the repeat", made(C, core(0, 9), spare, *REST), refused(39, 177))
+read("39: board A, the spare CORE with UID 0", put(2, core(0, 2, 0)), TWO)
+read("39: board A, the spare CORE with both IDs of the second", put(2, core(1, 1, 0)), TWO)
+read("39: spare CORE alike, and no other", made(core(7, 7, 0), core(7, 7, 0), C, core(7, 7, 0), *REST), ONE)
+read("39: an enabled CORE takes a spare one's IDs", made(core(7, 7, 0), core(7, 7), core(7, 7, 0), *REST), "read 1 7 7")
+read("39: two enabled ones share a UID, spare ones stand before", made(core(0, 8, 0), core(0, 9, 0), C, core(0, 1), *REST), refused(39, 207))
+read("39: UID of a spare one, physical ID of an enabled one", made(core(1, 4), core(2, 9, 0), core(2, 4), *REST), refused(39, 192))
+read("39: UID of a spare one alone", made(core(1, 4), core(2, 9, 0), core(2, 5), *REST), "read 2 1 4 2 5")
+read("39: spare UID against physical ID is none", made(core(5, 6, 0), core(6, 5), *REST), "read 1 6 5")
+read("39: the earliest later enabled one", made(C, core(1, 1, 0), core(1, 2), core(1, 3), core(0, 4), *REST), refused(39, 207))
+read("39: IDs that fall, among spare ones", made(core(3, 3), core(2, 2, 0), core(2, 2), core(1, 1), core(3, 9), *REST), refused(39, 222))
+ONES = 0xFFFFFFFF
+read("39: highest IDs on spare ones", made(core(ONES, ONES, 0), core(ONES, 0), core(ONES, ONES, 0), core(0, ONES), *REST),
+     f"read 2 {ONES} 0 0 {ONES}")
+read("39: highest UID twice", made(core(ONES, 0), core(1, ONES, 0), core(ONES, ONES), *REST), refused(39, 192))
+SPARES = 100 * [core(0, 0, 0)]
+FEW = "read 4 0 0 1 1 2 2 3 3"
+read("39: 200 spare CORE alike, four enabled", made(*SPARES, C, core(1, 1), *SPARES, core(2, 2), core(3, 3), *REST), FEW)
+read("39: 200 spare CORE alike, four enabled that fall", made(core(3, 3), *SPARES, core(2, 2), core(1, 1), *SPARES, C, *REST),
+     "read 4 3 3 2 2 1 1 0 0")
+read("39: 200 spare CORE, the fifth enabled one repeats", made(C, core(1, 1), *SPARES, core(2, 2), core(3, 3), *SPARES, core(9, 1), *REST),
+     refused(39, 162 + 15 * 204))
+read_bytes("39, for C: 200 spare CORE alike, four enabled", made(*SPARES, C, core(1, 1), *SPARES, core(2, 2), core(3, 3), *REST),
+           "read 4" + "".join(2 * f" {k} 0 0 0" for k in range(4)), 32)
+read_bytes("39, for C: a spare CORE between", made(C, core(0, 0, 0), core(0, 9), *REST), refused(39, 192), 32)
+route("39: a board with a spare CORE routes", put(2, core(0, 0, 0)), 75, "kind 0 3 11")
+trace("39: a board with a spare CORE traces", put(2, core(0, 0, 0)), 3, 11, "kind 2 0 75")
+read("35: a spare CORE with the IDs of an enabled one", made(C, core(0, 0, 2), *REST), refused(35, 177))
+read("38: 257 CORE, the first alone enabled", made(C, *256 * [core(0, 0, 0)], *REST), refused(38, 162 + 15 * 256))
+read("38: 257 CORE, the last alone enabled", made(*256 * [core(0, 0, 0)], C, *REST), refused(38, 162 + 15 * 256))
+read("38: 256 CORE, the last alone enabled", made(*255 * [core(0, 0, 0)], C, *REST), ONE)
+read("40: CORE alike, none enabled", made(core(0, 0, 0), core(0, 0, 0), *REST), refused(40, 118))
+read("60: room for the enabled ones alone", made(C, *SPARES, *REST), ONE, room=2)
+read("60: no room for the enabled one", made(C, *SPARES, *REST), refused(60, 0), room=1)
+
 read("40: no structure", made(), refused(40, 118))
 read("40: no enabled CORE", made(core(0, 0, 0), L, eio(3, 0)), refused(40, 118))
 read("40: no LIO", made(C, eio(3, 0)), refused(40, 118))
@@ -603,6 +644,11 @@ for name, answer in [
         answer = "read " + numbers[0] + "".join(f" {number} 0 0 0" for number in numbers[1:])
     answer = answer.split(" with")[0]  # a C result has no second place
     read_bytes("real, for C: " + name, real, answer, 2048)
+
+SPARE = PRINTED["qemu-spare-cores"][0]
+survey("real, with spare CORE", SPARE, found(670, 371, 1041, 268, 0))
+both(read, "real, with spare CORE", SPARE, ordinary=FEW, strict=FEW)
+route("real, with spare CORE: the SCI", SPARE, 0, "kind 0 3 19")
 
 
 # Board A's neighbours among document 01's twelve examples, which are proved from the boards' bytes.

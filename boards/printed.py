@@ -2,7 +2,12 @@
 
 `boards/cases.py` writes them as boards/NAME.cap and boards/NAME.txt; `boards/check` runs `./map` on them.
 """
-from board import A, BASE, STRUCTURES_OF_A, bio, board, capture, core, cut, eio, fadt, image, lay, le, lio, lpc, madt, msi, table
+import pathlib
+
+from board import A, BASE, STRUCTURES_OF_A, bio, board, capture, core, cut, eio, fadt, image, lay, le, lengthened, lio, lpc, madt, msi
+from board import segments_of, table
+
+REAL = pathlib.Path(__file__).resolve().parent / "real"
 
 EVERY_NODE = (1 << 64) - 1
 
@@ -13,6 +18,13 @@ def refused_behind(padding):
     """A MADT of revision 2 behind a table with `padding` bytes of body; the tables begin at place 126."""
     tables = [table(b"SSDT", 1, bytes(padding)), madt(STRUCTURES_OF_A, revision=2), fadt()]
     return capture([(BASE, lay(tables))])
+
+
+def with_spare_cores(name, at, spare):
+    """A capture of real/ whose MADT, which has a segment of its own, gets spare CORE at an offset."""
+    data = (REAL / (name + ".cap")).read_bytes()
+    segments = [(address, lengthened(held, at, spare) if held.startswith(b"APIC") else held) for address, held in segments_of(data)]
+    return capture(segments, rsdp=int.from_bytes(data[10:18], "little"))
 
 
 # document 01's example
@@ -130,6 +142,8 @@ msi 64 255
 lpc 0 19
 sci 75 3 11
 """),
+    # QEMU's tables with four processors, and behind their CORE twelve spare ones that all have the IDs of the first
+    "qemu-spare-cores": (with_spare_cores("p3-flags-lio-lpc-tables", 104, 12 * core(0, 0, 0)), (REAL / "p3-flags-lio-lpc-tables.txt").read_text()),
     # refusals, with places of one digit to five
     "empty": (b"", "refused 1 at 0\n"),
     "refused-2-at-0": (b"tbc" + A[3:], "refused 2 at 0\n"),
@@ -140,6 +154,8 @@ sci 75 3 11
     "refused-53-at-230": (board([core(0, 0), core(1, 1), core(2, 2, 0), LIO, eio(2, 0), MSI, BIO, LPC]), "refused 53 at 230 with 207\n"),
     # document 02's example
     "refused-52-at-262": (board([core(0, 0), core(1, 1), core(2, 2, 0), LIO, EIO, msi(63, 193), BIO, LPC]), "refused 52 at 262 with 243\n"),
+    # a spare CORE between two enabled ones, all with one UID: the later enabled one is named, and it alone
+    "refused-39-at-192": (board([core(0, 0), core(0, 5, 0), core(0, 1), LIO, EIO, MSI, BIO, LPC]), "refused 39 at 192\n"),
     # one place alone: of 41, though it has a partner
     "refused-41-at-294": (board(STRUCTURES_OF_A + [eio(4, 0)]), "refused 41 at 294\n"),
     # board A with a MADT of revision 5: the map program gives the strict reading

@@ -2,7 +2,7 @@
 -- that a turn can go.
 use mathlib.Core.Path.{_≡_, refl, sym, ap, _∙_}
 use mathlib.Core.Bool.{true, false}
-use mathlib.Core.List.{List, [], _∷_, _++_}
+use mathlib.Core.List.{List, [], _∷_, _++_, map-append}
 use Prim.Native.Nat.{ℕ, _+_, _*_, _/_, _≤_, _<_}
 use native.Mathlib.Nat.{add-zero, zero-add, add-suc, suc-add}
 use native.Mathlib.Omega.{arith}
@@ -10,14 +10,15 @@ use borrow.Author.Tests.{le-leb, lt-leb}
 use lib.ListN.{length, length-append}
 use lib.Seq.{sets, sets-eq, length-sets}
 use Rattle.words.specs.Bytes.{partAt}
-use Rattle.words.specs.Choice.{if}
 use Rattle.words.proofs.Choices.{yes-if, no-if, if-cases}
+use Rattle.words.proofs.Those.{length-map}
 use Rattle.kinds.specs.Makers.{coreOf}
-use Rattle.madt.specs.Pieces.{Piece, whole, cut, pieces}
-use Rattle.madt.proofs.Pieces.{sizeAt, pieces-end, pieces-cut, pieces-next}
-use Rattle.processors.specs.Listing.{isEnabledCore, entriesOf, entriesIn, processors, countOf, countIn, count, hasRoom, written, filled, filling}
+use Rattle.madt.specs.Pieces.{Whole, pieces}
+use Rattle.madt.proofs.Pieces.{sizeAt}
+use Rattle.processors.specs.Listing.{Processor, isEnabledCore, enabledCores, idsOf, listed, numbersOf, processors, count, entriesOf, countOf, hasRoom, written, filled, filling}
+use Rattle.processors.proofs.Cores.{added, added-numbers, added-count, cores-end, cores-cut, cores-next}
 use Rattle.processors.specs.declared.Filled.{Filled}
-use Rattle.processors.specs.declared.Filled.the-variants.{Whole, NoRoom}
+use Rattle.processors.specs.declared.Filled.the-variants as fillings
 
 -- what a structure adds
 module _ (s : List ℕ) where
@@ -29,32 +30,25 @@ module _ (s : List ℕ) where
   unfolding entriesOf
   entries-two h = yes-if _ _ _ h
 
-  twice : length (entriesOf s) ≡ 2 * countOf s
-  unfolding entriesOf countOf if
-  twice = go (isEnabledCore s)
-    where
-      go : (b : _) → length (if b (coreOf s .uid ∷ coreOf s .id ∷ []) []) ≡ 2 * (if b 1 0)
-      go true = refl
-      go false = refl
-
--- two entries for each enabled CORE
-twice-in : (ps : List Piece) → length (entriesIn ps) ≡ 2 * countIn ps
-unfolding entriesIn countIn
-twice-in [] = refl
-twice-in (cut at ∷ ps) = refl
-twice-in (whole at s ∷ ps) =
-    let one = twice s in
-    let rest = twice-in ps in
-    omega (arith, length-append (entriesOf s) (entriesIn ps))
+-- two numbers for each processor
+twice : (ps : List Processor) → length (numbersOf ps) ≡ 2 * length ps
+unfolding numbersOf
+twice [] = refl
+twice (p ∷ ps) = let rest = twice ps in omega arith
 
 pub twice-all : (table : List ℕ) → length (processors table) ≡ 2 * count table
 unfolding processors count
-twice-all table = twice-in (pieces table 44)
+twice-all table = rw (← length-map (λ (x : Whole). idsOf (coreOf (x .bytes))) (enabledCores (pieces table 44))) (twice (listed (enabledCores (pieces table 44))))
+
+numbers-joined : (ps qs : List Processor) → numbersOf (ps ++ qs) ≡ numbersOf ps ++ numbersOf qs
+unfolding numbersOf
+numbers-joined [] qs = refl
+numbers-joined (p ∷ ps) qs = rw (numbers-joined ps qs)
 
 -- ---- counting
 pub record Counting (table : List ℕ) (sofar at : ℕ) : Type 0 where
   pub small : sofar ≤ at
-  pub rest : sofar + countIn (pieces table at) ≡ count table
+  pub rest : sofar + length (enabledCores (pieces table at)) ≡ count table
 
 pub count-start : (table : List ℕ) → Counting table 0 44
 unfolding count
@@ -62,19 +56,17 @@ count-start table = record { small = omega arith; rest = zero-add _ }
 
 module _ {table : List ℕ} {sofar at : ℕ} (inv : Counting table sofar at) where
   pub count-end : length table ≤ at → sofar ≡ count table
-  unfolding countIn
-  count-end h = sym (add-zero sofar) ∙ (rw (pieces-end table at h) at (inv .rest))
+  count-end h = sym (add-zero sofar) ∙ (rw (cores-end table at h) at (inv .rest))
 
   pub count-cut : at < length table → sizeAt table at ≡ 0 → sofar ≡ count table
-  unfolding countIn
-  count-cut more h = sym (add-zero sofar) ∙ (rw (pieces-cut table at more h) at (inv .rest))
+  count-cut more h = sym (add-zero sofar) ∙ (rw (cores-cut table at more h) at (inv .rest))
 
   pub count-next : {one size : ℕ} → size ≡ sizeAt table at → (size ≡ 0 → ⊥) → one ≡ countOf (partAt table at size) → one ≤ 1
       → Counting table (sofar + one) (at + size)
-  unfolding countIn
   count-next {one} {size} e more o least =
       let before : sofar ≤ at = inv .small in
-      let all = rw (pieces-next table at (rw e at more), ← e, ← o) at (inv .rest) in
+      let here = added-count at (partAt table at size) in
+      let all = rw (cores-next table at (rw e at more), ← e, length-append) at (inv .rest) in
       record { small = omega arith; rest = omega arith }
 
 -- ---- writing
@@ -93,37 +85,41 @@ plain xs = xs
 pub plainly : Spelling plain
 plainly = record { none = refl; joined = λ xs ys. refl }
 
--- what the list is once the entries to come are written from place n on is known
+-- the numbers to come from an offset on
+abbrev numbersFrom : List ℕ → ℕ → List ℕ
+numbersFrom table at = numbersOf (listed (enabledCores (pieces table at)))
+
+-- what the list is once they are written from place n on is known
 pub record Writing (g : List ℕ → List ℕ) (table old list : List ℕ) (at n : ℕ) : Type 0 where
-  pub fits : n + length (g (entriesIn (pieces table at))) ≤ length list
+  pub fits : n + length (g (numbersFrom table at)) ≤ length list
   pub same : length list ≡ length old
-  pub rest : sets list n (g (entriesIn (pieces table at))) ≡ written (g (processors table)) old
+  pub rest : sets list n (g (numbersFrom table at)) ≡ written (g (processors table)) old
 
 module _ {g : List ℕ → List ℕ} (spelling : Spelling g) where
   pub write-start : (table old : List ℕ) → length (g (processors table)) ≤ length old → Writing g table old old 44 0
   unfolding written processors
   write-start table old h =
-      record { fits = omega arith; same = refl; rest = rw zero-add at (sets-eq (g (entriesIn (pieces table 44))) old 0 (omega arith)) }
+      record { fits = omega arith; same = refl; rest = rw zero-add at (sets-eq (g (numbersFrom table 44)) old 0 (omega arith)) }
 
   module _ {table old list : List ℕ} {at n : ℕ} (inv : Writing g table old list at n) where
     pub write-end : length table ≤ at → list ≡ written (g (processors table)) old
-    unfolding entriesIn
-    write-end h = rw (pieces-end table at h, spelling .none) at (inv .rest)
+    unfolding numbersOf
+    write-end h = rw (cores-end table at h, spelling .none) at (inv .rest)
 
     pub write-cut : at < length table → sizeAt table at ≡ 0 → list ≡ written (g (processors table)) old
-    unfolding entriesIn
-    write-cut more h = rw (pieces-cut table at more h, spelling .none) at (inv .rest)
+    unfolding numbersOf
+    write-cut more h = rw (cores-cut table at more h, spelling .none) at (inv .rest)
 
     module _ (more : sizeAt table at ≡ 0 → ⊥) where
       abbrev one : List ℕ
       one = g (entriesOf (partAt table at (sizeAt table at)))
 
       abbrev later : List ℕ
-      later = g (entriesIn (pieces table (at + sizeAt table at)))
+      later = g (numbersFrom table (at + sizeAt table at))
 
-      split : g (entriesIn (pieces table at)) ≡ one ++ later
-      unfolding entriesIn
-      split = rw (pieces-next table at more) (spelling .joined _ _)
+      split : g (numbersFrom table at) ≡ one ++ later
+      split =
+          rw (cores-next table at more, map-append _ (added at _) (enabledCores _), numbers-joined, added-numbers at _) (spelling .joined _ _)
 
       room : n + (length one + length later) ≤ length list
       room = rw (split, length-append) at (inv .fits)
@@ -146,18 +142,18 @@ module _ {g : List ℕ → List ℕ} (spelling : Spelling g) where
 
 -- ---- a list that is too short, and one that has room
 module _ (entries list : List ℕ) where
-  pub too-short : (n : ℕ) → length list < length entries → (NoRoom ≡ filling entries n list) × (list ≡ filled entries list)
+  pub too-short : (n : ℕ) → length list < length entries → (fillings.NoRoom ≡ filling entries n list) × (list ≡ filled entries list)
   unfolding hasRoom filling filled
   too-short n h =
       let no = lt-leb (length entries) (length list) h in
       (sym (no-if _ _ _ no refl), sym (no-if _ _ _ no refl))
 
   pub enough-room : (n : ℕ) {m : ℕ} {list′ : List ℕ} → length entries ≤ length list → m ≡ n → list′ ≡ written entries list
-      → (Whole m ≡ filling entries n list) × (list′ ≡ filled entries list)
+      → (fillings.Whole m ≡ filling entries n list) × (list′ ≡ filled entries list)
   unfolding hasRoom filling filled
   enough-room n h k e =
       let yes = le-leb (length entries) (length list) h in
-      (ap Whole k ∙ sym (yes-if _ _ _ yes), e ∙ sym (yes-if _ _ _ yes))
+      (ap fillings.Whole k ∙ sym (yes-if _ _ _ yes), e ∙ sym (yes-if _ _ _ yes))
 
 -- the test by the count
 module _ (table list : List ℕ) {n : ℕ} (e : n ≡ count table) where
@@ -169,14 +165,14 @@ module _ (table list : List ℕ) {n : ℕ} (e : n ≡ count table) where
 
 -- ---- what the answer tells of the room
 module _ (entries list : List ℕ) (n : ℕ) where
-  pub no-room-told : filling entries n list ≡ NoRoom → hasRoom entries list ≡ false
+  pub no-room-told : filling entries n list ≡ fillings.NoRoom → hasRoom entries list ≡ false
   unfolding filling
   no-room-told =
-      if-cases (λ (f : Filled). f ≡ NoRoom → hasRoom entries list ≡ false) (hasRoom entries list) _ _
+      if-cases (λ (f : Filled). f ≡ fillings.NoRoom → hasRoom entries list ≡ false) (hasRoom entries list) _ _
       (λ b e. absurd (let o : _≡_ {A = ℕ} 0 1 = cc in omega arith)) (λ b e. b)
 
-  pub whole-told : {m : ℕ} → filling entries n list ≡ Whole m → (hasRoom entries list ≡ true) × (m ≡ n)
+  pub whole-told : {m : ℕ} → filling entries n list ≡ fillings.Whole m → (hasRoom entries list ≡ true) × (m ≡ n)
   unfolding filling
   whole-told {m} =
-      if-cases (λ (f : Filled). f ≡ Whole m → (hasRoom entries list ≡ true) × (m ≡ n)) (hasRoom entries list) _ _
+      if-cases (λ (f : Filled). f ≡ fillings.Whole m → (hasRoom entries list ≡ true) × (m ≡ n)) (hasRoom entries list) _ _
       (λ b e. (b, cc)) (λ b e. absurd (let o : _≡_ {A = ℕ} 0 1 = cc in omega arith))

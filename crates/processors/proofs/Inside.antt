@@ -1,17 +1,22 @@
 -- The CORE that repeats an ID stands inside the table.
-use mathlib.Core.Path.{_≡_, refl, sym, _∙_}
-use mathlib.Core.List.{List}
+use mathlib.Core.Path.{_≡_, refl, _∙_}
+use mathlib.Core.List.{List, [], _∷_, map}
 use Prim.Native.Nat.{ℕ, zero, suc, _+_, _<_}
+use native.Mathlib.Nat.{zero-add}
 use native.Mathlib.Omega.{arith}
-use lib.ListN.{length}
-use Rattle.words.specs.Lists.{first}
-use Rattle.words.proofs.Choices.{no-if, if-cases}
+use lib.ListN.{length, getD}
+use Rattle.words.specs.Bytes.{partAt}
+use Rattle.words.specs.Lists.{those, numbersBelow}
+use Rattle.words.proofs.Choices.{if-cases}
+use Rattle.words.proofs.Searches.{search-found}
+use Rattle.words.proofs.Those.{length-map}
 use Rattle.tables.specs.Structures.{stepAt}
 use Rattle.tables.specs.declared.Step.{Step}
 use Rattle.tables.specs.declared.Step.the-variants.{End, Structure, Broken}
-use Rattle.madt.specs.Pieces.{Piece, pieceAt, piecesFrom, pieces}
+use Rattle.madt.specs.Pieces.{Piece, Whole, pieceAt, piecesFrom, pieces, structures}
 use Rattle.madt.proofs.Pieces.{step-inside}
-use Rattle.processors.specs.Repeats.{repeats, spot, firstRepeat}
+use Rattle.processors.specs.Listing.{enabledCores, listed}
+use Rattle.processors.specs.Repeats.{firstRepeating, firstRepeat}
 use Rattle.processors.specs.declared.Repeat.{Repeat}
 use Rattle.processors.specs.declared.Repeat.the-variants.{At, Nowhere}
 
@@ -21,23 +26,41 @@ not-at e = let o : _≡_ {A = ℕ} 0 1 = cc in omega arith
 same-at : {a b : ℕ} → _≡_ {A = Repeat} (At a) (At b) → a ≡ b
 same-at e = cc
 
-module _ (table : List ℕ) (all : List Piece) (at : ℕ) where
-  found-piece : (b : ℕ) (step : Step) (later : ℕ → List Piece) → stepAt table b ≡ step
-      → ((size : ℕ) → first (repeats all) spot Nowhere (later size) ≡ At at → at < length table)
-      → first (repeats all) spot Nowhere (pieceAt table b step later) ≡ At at → at < length table
-  unfolding first repeats spot pieceAt
-  found-piece b End later e rest = λ h. absurd (not-at h)
-  found-piece b Broken later e rest = λ h. absurd (not-at (sym (no-if _ _ _ refl refl) ∙ h))
-  found-piece b (Structure size) later e rest =
-      if-cases (λ (r : Repeat). r ≡ At at → at < length table) _ _ _
-      (λ t h. let same : b ≡ at = same-at h in let inside : b < length table = step-inside table b size e .0 in omega arith)
-      (λ t h. rest size h)
+-- each of some structures begins before the table's end
+abbrev AllInside : List ℕ → List Whole → Type 0
+AllInside table cores = (k : ℕ) → k < length cores → getD (map (λ (x : Whole). x .at) cores) k 0 < length table
 
-  found-from : (k b : ℕ) → first (repeats all) spot Nowhere (piecesFrom k table b) ≡ At at → at < length table
-  unfolding piecesFrom first
-  found-from zero b = λ h. absurd (not-at h)
-  found-from (suc k) b = found-piece b (stepAt table b) _ refl (λ size h. found-from k (b + size) h)
+none-inside : (table : List ℕ) → AllInside table []
+none-inside table k l = absurd (omega arith)
+
+one-inside : (table : List ℕ) (x : Whole) (later : List Whole) → x .at < length table → AllInside table later → AllInside table (x ∷ later)
+one-inside table x later here rest zero l = here
+one-inside table x later here rest (suc k) l = rest k (omega arith)
+
+cores-at : (table : List ℕ) (at : ℕ) (step : Step) (later : ℕ → List Piece) → stepAt table at ≡ step
+    → ((size : ℕ) → AllInside table (enabledCores (later size))) → AllInside table (enabledCores (pieceAt table at step later))
+unfolding enabledCores structures those pieceAt
+cores-at table at End later e rest = none-inside table
+cores-at table at Broken later e rest = none-inside table
+cores-at table at (Structure size) later e rest =
+    if-cases (AllInside table) _ _ _
+    (λ t. one-inside table (record { at = at; bytes = partAt table at size }) (enabledCores (later size)) (step-inside table at size e .0) (rest size))
+    (λ t. rest size)
+
+cores-from : (n : ℕ) (table : List ℕ) (at : ℕ) → AllInside table (enabledCores (piecesFrom n table at))
+unfolding enabledCores structures those piecesFrom
+cores-from zero table at = none-inside table
+cores-from (suc n) table at = cores-at table at (stepAt table at) _ refl (λ size. cores-from n table (at + size))
+
+pub cores-inside : (table : List ℕ) (k : ℕ) → k < length (enabledCores (pieces table 44))
+    → getD (map (λ (x : Whole). x .at) (enabledCores (pieces table 44))) k 0 < length table
+unfolding pieces
+cores-inside table = cores-from (length table) table 44
 
 pub repeat-inside : (table : List ℕ) (at : ℕ) → firstRepeat table ≡ At at → at < length table
-unfolding firstRepeat pieces
-repeat-inside table at h = found-from table (pieces table 44) at (length table) 44 h
+unfolding firstRepeat firstRepeating numbersBelow
+repeat-inside table at h =
+    let cores = enabledCores (pieces table 44) in
+    let hit = search-found _ _ Nowhere (At at) 0 (length (listed cores)) (length cores) (zero-add _ ∙ length-map _ cores) h not-at in
+    let same = same-at (hit .told) in
+    rw (← same) (cores-inside table (hit .at) (hit .counted))

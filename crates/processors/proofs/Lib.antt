@@ -1,6 +1,7 @@
+pub mod Cores
 pub mod Filling
-pub mod Image
-pub mod Twins
+pub mod Repeating
 pub mod Inside
+pub mod Image
 pub mod Agreement
 pub mod AtMost256

@@ -1,49 +1,57 @@
 -- Document 01, "What comes back": "The processor list is lent as 32-bit numbers: UID and physical ID of each enabled CORE, in
 -- table order, and the count; entries past 2 × count stay."
-use Prim.Native.Nat.{ℕ, _+_}
+use Prim.Native.Nat.{ℕ}
 use mathlib.Core.Bool.{Bool, _&&_}
-use mathlib.Core.List.{List, [], _∷_, _++_}
+use mathlib.Core.List.{List, [], _∷_, _++_, map}
 use lib.Dec.{leb}
 use lib.ListN.{length, drop}
 use Rattle.words.specs.Choice.{if}
+use Rattle.words.specs.Lists.{those}
 use Rattle.kinds.specs.Makers.{coreOf, isEnabled}
+use Rattle.kinds.specs.declared.makers.Core.{Core}
 use Rattle.madt.specs.Rules.{isType}
-use Rattle.madt.specs.Pieces.{Piece, whole, cut, pieces}
+use Rattle.madt.specs.Pieces.{Piece, Whole, pieces, structures}
 use Rattle.processors.specs.declared.Filled.{Filled}
-use Rattle.processors.specs.declared.Filled.the-variants.{Whole, NoRoom}
+use Rattle.processors.specs.declared.Filled.the-variants as fillings
 
--- a structure, whose own bytes are s, is a CORE; it is an enabled CORE
-abbrev pub isCore : List ℕ → Bool
-isCore s = isType 17 s
-
+-- a structure, whose own bytes are s, is an enabled CORE
 unfoldable pub isEnabledCore : List ℕ → Bool
-isEnabledCore s = isCore s && isEnabled (coreOf s)
+isEnabledCore s = isType 17 s && isEnabled (coreOf s)
 
--- "UID and physical ID of each enabled CORE": what a structure adds to the list
+-- "each enabled CORE, in table order", of some pieces
+unfoldable pub enabledCores : List Piece → List Whole
+enabledCores pieces = those (λ x. isEnabledCore (x .bytes)) (structures pieces)
+
+-- a processor by its UID and its physical ID
+pub record Processor : Type 0 where
+  pub uid : ℕ
+  pub id : ℕ
+
+abbrev pub idsOf : Core → Processor
+idsOf core = record { uid = core .uid; id = core .id }
+
+-- the processors that some CORE stand for
+abbrev pub listed : List Whole → List Processor
+listed cores = map (λ x. idsOf (coreOf (x .bytes))) cores
+
+-- "as 32-bit numbers: UID and physical ID of each"
+unfoldable pub numbersOf : List Processor → List ℕ
+numbersOf [] = []
+numbersOf (p ∷ ps) = p .uid ∷ p .id ∷ numbersOf ps
+
+-- the processor list of the MADT with some bytes, "and the count"
+unfoldable pub processors : List ℕ → List ℕ
+processors table = numbersOf (listed (enabledCores (pieces table 44)))
+
+unfoldable pub count : List ℕ → ℕ
+count table = length (enabledCores (pieces table 44))
+
+-- what one structure adds to the list, and to the count
 unfoldable pub entriesOf : List ℕ → List ℕ
 entriesOf s = if (isEnabledCore s) (coreOf s .uid ∷ coreOf s .id ∷ []) []
 
--- "in table order": what whole structures add, one after the other
-unfoldable pub entriesIn : List Piece → List ℕ
-entriesIn [] = []
-entriesIn (cut at ∷ pieces) = []
-entriesIn (whole at s ∷ pieces) = entriesOf s ++ entriesIn pieces
-
--- the processor list of the MADT with some bytes
-unfoldable pub processors : List ℕ → List ℕ
-processors table = entriesIn (pieces table 44)
-
--- "and the count": how many CORE are enabled
 unfoldable pub countOf : List ℕ → ℕ
 countOf s = if (isEnabledCore s) 1 0
-
-unfoldable pub countIn : List Piece → ℕ
-countIn [] = 0
-countIn (cut at ∷ pieces) = 0
-countIn (whole at s ∷ pieces) = countOf s + countIn pieces
-
-unfoldable pub count : List ℕ → ℕ
-count table = countIn (pieces table 44)
 
 -- a list has room for entries
 unfoldable pub hasRoom : List ℕ → List ℕ → Bool
@@ -59,4 +67,4 @@ filled entries list = if (hasRoom entries list) (written entries list) list
 
 -- what comes of filling a list with the entries of some processors
 unfoldable pub filling : List ℕ → ℕ → List ℕ → Filled
-filling entries processors list = if (hasRoom entries list) (Whole processors) NoRoom
+filling entries processors list = if (hasRoom entries list) (fillings.Whole processors) fillings.NoRoom

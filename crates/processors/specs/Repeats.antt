@@ -1,43 +1,39 @@
--- Document 01, "All CORE structures, enabled or not, have different UIDs and different physical IDs", and refusal 39: "CORE
--- repeats an ID of an earlier one"; "the place is the later one's; the first in table order is named".
+-- Document 01's rule on different UIDs and different physical IDs, which by W-203 of document 02 "binds enabled entries only", and
+-- refusal 39: "CORE repeats an ID of an earlier one"; "the place is the later one's; the first in table order is named".
 use Prim.Native.Nat.{ℕ}
-use mathlib.Core.Bool.{Bool, true, false, _&&_, _||_}
-use mathlib.Core.List.{List}
-use lib.Dec.{eqb, ltb}
-use Rattle.words.specs.Lists.{first}
-use Rattle.kinds.specs.Makers.{coreOf}
-use Rattle.kinds.specs.declared.makers.Core.{Core}
-use Rattle.madt.specs.Pieces.{Piece, whole, cut, pieces}
-use Rattle.processors.specs.Listing.{isCore}
+use mathlib.Core.Bool.{Bool, true, false, _||_}
+use mathlib.Core.List.{List, map}
+use lib.Dec.{eqb}
+use lib.ListN.{length, getD, take}
+use Rattle.words.specs.Lists.{first, numbersBelow}
+use Rattle.madt.specs.Pieces.{pieces}
+use Rattle.processors.specs.Listing.{Processor, enabledCores, listed}
 use Rattle.processors.specs.declared.Repeat.{Repeat}
 use Rattle.processors.specs.declared.Repeat.the-variants.{At, Nowhere}
 
--- two CORE share their UID or their physical ID
-abbrev pub sameId : Core → Core → Bool
-sameId core other = eqb (core .uid) (other .uid) || eqb (core .id) (other .id)
+-- ---- of any list of processors
+-- two of them share an ID: UIDs are compared with UIDs, physical IDs with physical IDs
+abbrev pub shareId : Processor → Processor → Bool
+shareId p q = eqb (p .uid) (q .uid) || eqb (p .id) (q .id)
 
--- a structure with the bytes q is a CORE that shares an ID with the CORE with the bytes s
-unfoldable pub twins : List ℕ → List ℕ → Bool
-twins s q = isCore q && sameId (coreOf s) (coreOf q)
+-- p shares an ID with one of some others
+unfoldable pub sharesWithOne : List Processor → Processor → Bool
+sharesWithOne others p = first (shareId p) (λ q. true) false others
 
--- a piece stands before the CORE with the bytes s at an offset, and shares an ID with it
-unfoldable pub earlierTwin : ℕ → List ℕ → Piece → Bool
-earlierTwin at s (cut b) = false
-earlierTwin at s (whole b q) = ltb b at && twins s q
+-- processor k of a list shares an ID with one before it; past its end there is none
+abbrev pub noProcessor : Processor
+noProcessor = record { uid = 0; id = 0 }
 
--- one of some pieces does
-unfoldable pub hasTwin : ℕ → List ℕ → List Piece → Bool
-hasTwin at s pieces = first (earlierTwin at s) (λ piece. true) false pieces
+unfoldable pub repeatsId : List Processor → ℕ → Bool
+repeatsId list k = sharesWithOne (take k list) (getD list k noProcessor)
 
--- a piece is a CORE that repeats an ID of an earlier one
-unfoldable pub repeats : List Piece → Piece → Bool
-repeats pieces (cut at) = false
-repeats pieces (whole at s) = isCore s && hasTwin at s pieces
+-- what is told of the first that does, by the number of those before it
+unfoldable pub firstRepeating : {R : Type 0} → (ℕ → R) → R → List Processor → R
+firstRepeating told none list = first (repeatsId list) told none (numbersBelow (length list))
 
-unfoldable pub spot : Piece → Repeat
-spot (cut at) = At at
-spot (whole at s) = At at
-
--- 39: the first piece that repeats an ID
+-- ---- "39 compares enabled entries alone"
+-- the offset of the first enabled CORE of the MADT with some bytes that shares an ID with an earlier enabled one
 unfoldable pub firstRepeat : List ℕ → Repeat
-firstRepeat table = first (repeats (pieces table 44)) spot Nowhere (pieces table 44)
+firstRepeat table =
+    let cores = enabledCores (pieces table 44) in
+    firstRepeating (λ k. At (getD (map (λ x. x .at) cores) k 0)) Nowhere (listed cores)

@@ -2,7 +2,7 @@
 // (document 01, "What comes back" and "Refusals in order"). The table is read again for each of the three.
 pub mod bytes; // the same list as bytes, for the C entry
 pub mod list; // UID and physical ID of each enabled CORE
-pub mod repeats; // 39: a CORE that repeats an ID of an earlier one
+pub mod repeats; // 39: an enabled CORE that repeats an ID of an earlier one
 
 // What came of filling a list: the number of processors written, or that it had no room.
 pub enum Filled {
@@ -10,7 +10,7 @@ pub enum Filled {
     NoRoom,
 }
 
-// The offset of the first CORE that repeats an ID of an earlier one, if there is such a CORE.
+// The offset of the first enabled CORE that repeats an ID of an earlier enabled one, if there is such a CORE.
 pub enum Repeat {
     At(usize),
     Nowhere,

@@ -1,5 +1,5 @@
-// Refusal 39: the earliest CORE that repeats the UID or the physical ID of an earlier one, enabled or not. The table is read
-// again for each CORE; of those before it only the highest IDs are kept, since a CORE above them repeats none.
+// Refusal 39: the earliest enabled CORE that repeats the UID or the physical ID of an earlier enabled one. The table is read
+// again for each of them; of those before it only the highest IDs are kept, since a CORE above them repeats none.
 use crate::Repeat;
 use crate::list;
 use kinds::makers::Core;
@@ -9,8 +9,8 @@ ghost use mathlib.Core.Bool.{_&&_};
 ghost use mathlib.Core.Logic.{_⊎_};
 ghost use Prim.Native.Nat.{_<_, _≤_};
 ghost use Rattle.kinds.specs.Makers.{coreOf};
-ghost use Rattle.processors.specs.Listing.{isCore};
-ghost use Rattle.processors.specs.Repeats.{sameId, firstRepeat};
+ghost use Rattle.processors.specs.Listing.{isEnabledCore, idsOf};
+ghost use Rattle.processors.specs.Repeats.{shareId, firstRepeat};
 
 // Every UID and every physical ID so far is below these.
 struct Seen {
@@ -19,20 +19,20 @@ struct Seen {
 }
 
 // UIDs are compared with UIDs, physical IDs with physical IDs.
-fn same_id(core: Core, other: Core) -> bool
-    ensures { λ r. ⌜ r ≡ sameId core other ⌝ }
+fn share_id(core: Core, other: Core) -> bool
+    ensures { λ r. ⌜ r ≡ shareId (idsOf core) (idsOf other) ⌝ }
 {
     (core.uid == other.uid) | (core.id == other.id)
 }
 
-// Whether a structure, given by its own bytes, is a CORE that shares an ID with a CORE.
+// Whether a structure, given by its own bytes, is an enabled CORE that shares an ID with a CORE.
 fn is_twin(core: Core, structure: &[u8]) -> bool
-    ensures { λ r. ⌜ r ≡ isCore (now (structure .entry)) && sameId core (coreOf (now (structure .entry))) ⌝ }
+    ensures { λ r. ⌜ r ≡ isEnabledCore (now (structure .entry)) && shareId (idsOf core) (idsOf (coreOf (now (structure .entry)))) ⌝ }
 {
-    if !list::is_core(structure) {
+    if !list::is_enabled_core(structure) {
         return false;
     }
-    same_id(core, Core::from_bytes(structure))
+    share_id(core, Core::from_bytes(structure))
 }
 
 // A number above another, and above a bound that stays if it is the higher one.
@@ -79,7 +79,7 @@ pub fn first_repeat(table: &[u8]) -> Repeat
         if size == 0 {
             break;
         }
-        if !list::is_core(words::part(table, at, size)) {
+        if !list::is_enabled_core(words::part(table, at, size)) {
             at += size;
             continue;
         }

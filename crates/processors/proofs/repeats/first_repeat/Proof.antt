@@ -1,4 +1,4 @@
--- `first_repeat` searches the table for a CORE that has an earlier twin, and for each CORE that may have one the table again.
+-- `first_repeat` searches the table for an enabled CORE that has an earlier twin, and for each that may have one the table again.
 use mathlib.Core.Path.{ap, sym, _∙_}
 use native.Mathlib.Omega.{arith}
 use Prim.Native.Nat.{_-_}
@@ -7,13 +7,14 @@ use borrow.Author.Tests.{not-true, not-false}
 use Rattle.words.specs.Bytes.{partAt}
 use Rattle.kinds.specs.Makers.{coreOf}
 use Rattle.madt.proofs.Pieces.{sizeAt}
-use Rattle.processors.proofs.Twins.{Inner, Outer, start, reach-size, pass, caught, past, stopped, skip, enter, leave, named, twin-told}
+use Rattle.processors.specs.Listing.{idsOf}
+use Rattle.processors.proofs.Repeating.{Inner, Outer, start, reach-size, pass, caught, past, stopped, skip, enter, leave, named, twin-told}
 use borrow.Author.Needs.{needs}
 use Rattle.processors.proofs.repeats.first_repeat.Statement.{statement}
 use Rattle.processors.proofs.repeats.first_repeat.Tie as tie
 
 abbrev Inv-loop : tie.InvT-loop
-Inv-loop table repeat₀ seen at size core earlier₀ repeat earlier = Inner table (partAt table at (sizeAt table at)) at repeat earlier
+Inv-loop table repeat₀ seen at size core earlier₀ repeat earlier = Inner table (idsOf core) at repeat earlier
 
 abbrev μ-loop : tie.MeasureT-loop
 μ-loop table repeat₀ seen at size core earlier₀ repeat earlier = at - earlier
@@ -33,8 +34,8 @@ size-at-requires c κs = search needs
 part-requires : tie.Need-part-requires Inv-loop μ-loop Inv-table μ-table
 part-requires c κs = search needs
 
-is-core-requires : tie.Need-is-core-requires Inv-loop μ-loop Inv-table μ-table
-is-core-requires c κs = search needs
+is-enabled-core-requires : tie.Need-is-enabled-core-requires Inv-loop μ-loop Inv-table μ-table
+is-enabled-core-requires c κs = search needs
 
 add-at : tie.Need-add-at Inv-loop μ-loop Inv-table μ-table
 add-at c = search needs
@@ -44,9 +45,10 @@ table-less c = search needs
 
 table-again : tie.Need-table-again Inv-loop μ-loop Inv-table μ-table
 table-again c =
-    skip (c .before .before .before .before .before .before .table .inv) (λ h. c .before .before .before .if1 .left (c .before .before .before .before .size-at .ensures .0 ∙ h))
-    (sym (c .before .is-core .ensures ∙ (rw (c .before .before .part .ensures, c .before .before .before .before .size-at .ensures .0))) ∙ not-true _ (c .if2 .taken))
-    (rw (c .before .before .before .before .size-at .ensures .0))
+    let size = c .before .before .before .before .size-at .ensures .0 in
+    let here = rw size at (c .before .before .part .ensures) in
+    let told = rw here at (c .before .is-enabled-core .ensures) in
+    skip (c .before .before .before .before .before .before .table .inv) (λ h. c .before .before .before .if1 .left (size ∙ h)) (sym told ∙ not-true _ (c .if2 .taken)) (rw size)
 
 part-requires-2 : tie.Need-part-requires-2 Inv-loop μ-loop Inv-table μ-table
 part-requires-2 c κs = search needs
@@ -58,7 +60,7 @@ search-from-requires : tie.Need-search-from-requires Inv-loop μ-loop Inv-table 
 search-from-requires c κs = search needs
 
 loop-holds : tie.Need-loop-holds Inv-loop μ-loop Inv-table μ-table
-loop-holds c = enter (c .before .before .before .before .before .before .before .before .before .table .inv) (c .before .from-bytes .ensures ∙ ap coreOf (c .before .before .part2 .ensures ∙ (rw (c .before .before .before .before .before .before .before .size-at .ensures .0)))) (c .search-from .ensures)
+loop-holds c = enter (c .before .before .before .before .before .before .before .before .before .table .inv) (c .search-from .ensures)
 
 size-at-requires-2 : tie.Need-size-at-requires-2 Inv-loop μ-loop Inv-table μ-table
 size-at-requires-2 c κs = search needs
@@ -81,7 +83,9 @@ loop-less c =
 
 loop-again : tie.Need-loop-again Inv-loop μ-loop Inv-table μ-table
 loop-again c =
-    pass (c .before .before .before .before .before .loop .inv) (c .before .before .before .before .loop-test .taken) (twin-told _ _ (c .before .before .before .before .before .before .before .from-bytes .ensures ∙ ap coreOf (c .before .before .before .before .before .before .before .before .part2 .ensures ∙ (rw (c .before .before .before .before .before .before .before .before .before .before .before .before .before .size-at .ensures .0)))) (c .before .before .part3 .ensures ∙ (rw (c .before .before .before .size-at2 .ensures .0))) (c .before .is-twin .ensures) ∙ c .if3 .left) (rw (c .before .before .before .size-at2 .ensures .0))
+    let size = c .before .before .before .size-at2 .ensures .0 in
+    let told = twin-told _ _ (rw size at (c .before .before .part3 .ensures)) (c .before .is-twin .ensures) in
+    pass (c .before .before .before .before .before .loop .inv) (c .before .before .before .before .loop-test .taken) (told ∙ c .if3 .left) (rw size)
 
 seen-with-requires : tie.Need-seen-with-requires Inv-loop μ-loop Inv-table μ-table
 seen-with-requires c κs = search needs
@@ -94,8 +98,12 @@ table-less-2 c = search needs
 
 table-again-2 : tie.Need-table-again-2 Inv-loop μ-loop Inv-table μ-table
 table-again-2 c =
-    leave (c .before .before .before .before .before .before .before .before .before .before .before .before .table .inv) (λ h. c .before .before .before .before .before .before .before .before .before .if1 .left (c .before .before .before .before .before .before .before .before .before .before .size-at .ensures .0 ∙ h)) (sym (c .before .before .before .before .before .before .before .is-core .ensures ∙ (rw (c .before .before .before .before .before .before .before .before .part .ensures, c .before .before .before .before .before .before .before .before .before .before .size-at .ensures .0))) ∙ not-false _ (c .before .before .before .before .before .before .if2 .left))
-    (c .before .before .loop .inv) (c .before .loop-test .left) (c .before .before .before .before .from-bytes .ensures ∙ ap coreOf (c .before .before .before .before .before .part2 .ensures ∙ (rw (c .before .before .before .before .before .before .before .before .before .before .size-at .ensures .0)))) (c .seen-with .ensures) (rw (c .before .before .before .before .before .before .before .before .before .before .size-at .ensures .0))
+    let size = c .before .before .before .before .before .before .before .before .before .before .size-at .ensures .0 in
+    let here = rw size at (c .before .before .before .before .before .before .before .before .part .ensures) in
+    let told = rw here at (c .before .before .before .before .before .before .before .is-enabled-core .ensures) in
+    let core = c .before .before .before .before .from-bytes .ensures ∙ ap coreOf (rw size at (c .before .before .before .before .before .part2 .ensures)) in
+    leave (c .before .before .before .before .before .before .before .before .before .before .before .before .table .inv) (λ h. c .before .before .before .before .before .before .before .before .before .if1 .left (size ∙ h)) (sym told ∙ not-false _ (c .before .before .before .before .before .before .if2 .left))
+    (c .before .before .loop .inv) (c .before .loop-test .left) core (c .seen-with .ensures) (rw size)
 
 returns : tie.Need-returns Inv-loop μ-loop Inv-table μ-table
 returns c = past (c .before .table .inv) (c .table-test .left)
@@ -105,8 +113,13 @@ returns-2 c = stopped (c .before .before .before .table .inv) (c .before .before
 
 returns-3 : tie.Need-returns-3 Inv-loop μ-loop Inv-table μ-table
 returns-3 c =
-    named (c .before .before .before .before .before .before .before .before .before .before .before .before .before .before .before .table .inv) (λ h. c .before .before .before .before .before .before .before .before .before .before .before .before .if1 .left (c .before .before .before .before .before .before .before .before .before .before .before .before .before .size-at .ensures .0 ∙ h)) (sym (c .before .before .before .before .before .before .before .before .before .before .is-core .ensures ∙ (rw (c .before .before .before .before .before .before .before .before .before .before .before .part .ensures, c .before .before .before .before .before .before .before .before .before .before .before .before .before .size-at .ensures .0))) ∙ not-false _ (c .before .before .before .before .before .before .before .before .before .if2 .left))
-    (caught (c .before .before .before .before .before .loop .inv) (c .before .before .before .before .loop-test .taken) (twin-told _ _ (c .before .before .before .before .before .before .before .from-bytes .ensures ∙ ap coreOf (c .before .before .before .before .before .before .before .before .part2 .ensures ∙ (rw (c .before .before .before .before .before .before .before .before .before .before .before .before .before .size-at .ensures .0)))) (c .before .before .part3 .ensures ∙ (rw (c .before .before .before .size-at2 .ensures .0))) (c .before .is-twin .ensures) ∙ c .if3 .taken))
+    let size = c .before .before .before .before .before .before .before .before .before .before .before .before .before .size-at .ensures .0 in
+    let here = rw size at (c .before .before .before .before .before .before .before .before .before .before .before .part .ensures) in
+    let told = rw here at (c .before .before .before .before .before .before .before .before .before .before .is-enabled-core .ensures) in
+    let core = c .before .before .before .before .before .before .before .from-bytes .ensures ∙ ap coreOf (rw size at (c .before .before .before .before .before .before .before .before .part2 .ensures)) in
+    let twin = twin-told _ _ (rw (c .before .before .before .size-at2 .ensures .0) at (c .before .before .part3 .ensures)) (c .before .is-twin .ensures) in
+    named (c .before .before .before .before .before .before .before .before .before .before .before .before .before .before .before .table .inv) (λ h. c .before .before .before .before .before .before .before .before .before .before .before .before .if1 .left (size ∙ h)) (sym told ∙ not-false _ (c .before .before .before .before .before .before .before .before .before .if2 .left)) core
+    (caught (c .before .before .before .before .before .loop .inv) (c .before .before .before .before .loop-test .taken) (twin ∙ c .if3 .taken))
 
 pub first-repeat-spec : {M : Type 1} → statement M
 first-repeat-spec =
@@ -119,7 +132,7 @@ first-repeat-spec =
     table-holds
     size-at-requires
     part-requires
-    is-core-requires
+    is-enabled-core-requires
     add-at
     table-less
     table-again
