@@ -1,6 +1,7 @@
 pub mod Cores
 pub mod Filling
 pub mod Repeating
+pub mod Sharing
 pub mod Inside
 pub mod Image
 pub mod Agreement

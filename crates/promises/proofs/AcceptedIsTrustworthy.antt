@@ -79,7 +79,7 @@ pub accepted-is-trustworthy : (strictness : Strictness) (capture : List ℕ) →
 accepted-is-trustworthy strictness capture h =
     trustworthy (scan strictness capture .map) (accepted-keeps-rules strictness capture h) (accepted-is-normal strictness capture h)
 
-refused-read : {refusal : Refusal} {count : ℕ} {X : Type 0} → _≡_ {A = Answer} (Refused refusal) (Read count) → X
+pub refused-read : {refusal : Refusal} {count : ℕ} {X : Type 0} → _≡_ {A = Answer} (Refused refusal) (Read count) → X
 refused-read e = absurd (let o : _≡_ {A = ℕ} 0 1 = cc in omega arith)
 
 pub read-is-trustworthy : (strictness : Strictness) (capture list : List ℕ) → ReadIsTrustworthy strictness capture list

@@ -4,7 +4,7 @@ use Prim.Native.Nat.{ℕ, _+_, _≤_}
 use native.Mathlib.Omega.{arith}
 use mathlib.Core.Path.{_≡_, refl, sym, ap, _∙_}
 use mathlib.Core.Logic.{inl, inr, ⊎-elim}
-use mathlib.Core.List.{List, _++_}
+use mathlib.Core.List.{List, _∷_, _++_}
 use mathlib.Core.Bool.{Bool, true, false, true≢false}
 use lib.ListN.{length}
 use Rattle.words.specs.declared.Refusal.{Refusal}
@@ -20,7 +20,8 @@ use Rattle.tables.specs.declared.Survey.the-variants as surveys
 use Rattle.tables.proofs.Inside.{Accepted as TablesInside, tables-inside}
 use Rattle.tables.specs.declared.Strictness.{Strictness}
 use Rattle.tables.specs.declared.Strictness.the-variants.{Strict}
-use Rattle.lines.specs.Rules.{keepsRules}
+use Rattle.lines.specs.Says.{says}
+use Rattle.lines.specs.Rules.{mapRules, keepsRules}
 use Rattle.lines.specs.declared.Map.{Map}
 use Rattle.lines.specs.declared.Route.{Route}
 use Rattle.lines.specs.declared.Route.the-variants as routes
@@ -45,13 +46,20 @@ use Rattle.promises.proofs.AcceptedIsTrustworthy.{accepted-is-trustwort
 use Rattle.promises.proofs.MapRefusals.{map-told}
 use Rattle.reading.proofs.Scanned.{found-verdict}
 use Rattle.promises.proofs.TableRefusals.{SurveyTold, survey-told}
-use Rattle.promises.proofs.Told.{Told, isAfter30, isNot60, told-not-60, Inside, tell, tell-none, more-told, joined-told}
+use Rattle.promises.proofs.Told.{Told, isOfStructures, is39, isFrom40, isTo30, isAfter38, isAfter30, isNot60, told-left, told-right, told-not-60, Inside, tell, tell-none, more-told, joined-told}
 use Rattle.promises.proofs.WhyRefused.{why-refused}
 use Rattle.promises.proofs.WalkRefusals.{walked-told}
 
 -- ---- 31 to 54, of tables that were found
 abbrev pub rulesFrom31 : List ℕ → Tables → List Verdict
 rulesFrom31 capture t = walkRules (madtBytes capture (t .madt)) (t .madt .place) ++ laterRules capture t
+
+-- those behind 39
+abbrev pub rulesFrom40 : List ℕ → Tables → List Verdict
+rulesFrom40 capture t =
+    let found = walkOf capture t .found in
+    processorRule (t .madt .place) (count (madtBytes capture (t .madt)))
+    ∷ mapRules (says (found .map)) (found .places) (t .madt .place) (t .fadt .place)
 
 module _ (capture : List ℕ) (t : Tables) (inside : TablesInside capture t) where
   abbrev table : List ℕ
@@ -64,38 +72,46 @@ module _ (capture : List ℕ) (t : Tables) (inside : TablesInside capture t) whe
   small = bytes-small capture (t .madt)
 
   -- of the structures
-  pub walk-of-told : Told isAfter30 capture (walkOf capture t .verdict)
+  pub walk-of-told : Told isOfStructures capture (walkOf capture t .verdict)
   walk-of-told = walked-told capture base (t .madt .length) (inside .madt .inside) table (t .sci) (inside .madt .long) small
 
 module _ (capture : List ℕ) (t : Tables) (inside : TablesInside capture t) (at : Inside capture (t .madt .place) × Inside capture (t .fadt .place)) where
   -- 39
-  repeat-told : (r : Repeat) → firstRepeat (madtBytes capture (t .madt)) ≡ r → Told isAfter30 capture (repeatRule (t .madt .place) r)
+  repeat-told : (r : Repeat) → firstRepeat (madtBytes capture (t .madt)) ≡ r → Told is39 capture (repeatRule (t .madt .place) r)
   unfolding repeatRule
   repeat-told Nowhere e = omega arith
   repeat-told (At offset) e =
       let there = repeat-inside (madtBytes capture (t .madt)) offset e in
-      tell isAfter30 capture 39 (t .madt .place + offset) (refl, refl, refl, refl)
+      tell is39 capture 39 (t .madt .place + offset) (refl, refl, refl, refl)
       (omega (arith, at .0 .0), omega (arith, there, small capture t inside, inside .madt .inside))
 
   -- 40, of the processors
-  processors-told : Told isAfter30 capture (processorRule (t .madt .place) (count (madtBytes capture (t .madt))))
+  processors-told : Told isFrom40 capture (processorRule (t .madt .place) (count (madtBytes capture (t .madt))))
   unfolding processorRule
-  processors-told = if-cases (Told isAfter30 capture) _ _ _ (λ z. tell isAfter30 capture 40 (t .madt .place) (refl, refl, refl, refl) (at .0)) (λ z. omega arith)
+  processors-told = if-cases (Told isFrom40 capture) _ _ _ (λ z. tell isFrom40 capture 40 (t .madt .place) (refl, refl, refl, refl) (at .0)) (λ z. omega arith)
 
-  rules-told : walkOf capture t .verdict ≡ verdicts.Sound → Told isAfter30 capture (firstRefusal (laterRules capture t))
-  rules-told sound =
-      more-told isAfter30 capture _ _ (repeat-told (firstRepeat (madtBytes capture (t .madt))) refl)
-      (λ z. more-told isAfter30 capture _ _ processors-told
+  -- 40 to 54
+  pub after-39-told : walkOf capture t .verdict ≡ verdicts.Sound → Told isFrom40 capture (firstRefusal (rulesFrom40 capture t))
+  after-39-told sound =
+      more-told isFrom40 capture _ _ processors-told
       (λ z. map-told capture
       (walk-stands (madtBytes capture (t .madt)) (t .madt .place) (t .sci) (t .madt .length) (inside .madt .long) (small capture t inside) sound)
-      (inside .madt .inside) (t .madt .place) (t .fadt .place) (at .0) (at .1)))
+      (inside .madt .inside) (t .madt .place) (t .fadt .place) (at .0) (at .1))
+
+  rules-told : walkOf capture t .verdict ≡ verdicts.Sound → Told isAfter38 capture (firstRefusal (laterRules capture t))
+  rules-told sound =
+      let repeat = firstRepeat (madtBytes capture (t .madt)) in
+      more-told isAfter38 capture _ _ (told-left is39 isFrom40 capture (repeatRule (t .madt .place) repeat) (repeat-told repeat refl))
+      (λ z. told-right is39 isFrom40 capture (firstRefusal (rulesFrom40 capture t)) (after-39-told sound))
 
   -- all of them
   pub after-30-told : Told isAfter30 capture (firstRefusal (rulesFrom31 capture t))
   after-30-told =
-      joined-told isAfter30 capture (walkRules (madtBytes capture (t .madt)) (t .madt .place)) (laterRules capture t)
-      (rw (sym (walk-verdict (madtBytes capture (t .madt)) (t .madt .place) (t .sci))) (walk-of-told capture t inside))
-      (λ sound. rules-told (walk-verdict _ _ _ ∙ sound))
+      let structures = walkRules (madtBytes capture (t .madt)) (t .madt .place) in
+      joined-told isAfter30 capture structures (laterRules capture t)
+      (told-left isOfStructures isAfter38 capture (firstRefusal structures)
+      (rw (sym (walk-verdict (madtBytes capture (t .madt)) (t .madt .place) (t .sci))) (walk-of-told capture t inside)))
+      (λ sound. told-right isOfStructures isAfter38 capture (firstRefusal (laterRules capture t)) (rules-told (walk-verdict _ _ _ ∙ sound)))
 
 -- ---- 1 to 54
 scan-told : (strictness : Strictness) (capture : List ℕ) → Told isNot60 capture (scan strictness capture .verdict)
@@ -103,7 +119,7 @@ unfolding turnedDown
 scan-told strictness capture = go (survey strictness capture) refl (survey-told strictness capture)
   where
     go : (s : Survey) → survey strictness capture ≡ s → SurveyTold capture s → Told isNot60 capture (scan strictness capture .verdict)
-    go (surveys.Refused r) e told = rw (scan-refused strictness capture e) told
+    go (surveys.Refused r) e told = rw (scan-refused strictness capture e) (told-not-60 isTo30 refl capture (verdicts.Refused r) told)
     go (surveys.Found t) e told =
         rw (found-verdict strictness capture e)
         (told-not-60 isAfter30 refl capture (firstRefusal (rulesFrom31 capture t))

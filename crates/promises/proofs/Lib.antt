@@ -16,3 +16,4 @@ pub mod RulesInOrder
 pub mod MapOfMadt
 pub mod Memory
 pub mod Readings
+pub mod Processors

@@ -34,12 +34,12 @@ use Rattle.map_promises.specs.Structures.{Structure, lio, eio, bio, msi, placeO
 use Rattle.map_promises.proofs.Meetings.{of-member}
 use Rattle.map_promises.proofs.SearchNames.{search-names}
 use Rattle.map_promises.proofs.WalkKeepsBooks.{Standing}
-use Rattle.promises.proofs.Told.{isAfter30, Told, Named, NamedBoth, Inside, tell, tell-both, none-told, more-told, fold-told}
+use Rattle.promises.proofs.Told.{isFrom40, Told, Named, NamedBoth, Inside, tell, tell-both, none-told, more-told, fold-told}
 
 module _ (capture : List ℕ) where
   -- a rule that is broken at a place inside the capture
-  broken-told : (n : ℕ) (bad : Bool) (place : ℕ) → Named isAfter30 n → (bad ≡ true → Inside capture place) → Told isAfter30 capture (rule bad n place)
-  broken-told n bad place named at = if-cases (Told isAfter30 capture) bad _ _ (λ t. tell isAfter30 capture n place named (at t)) (λ t. omega arith)
+  broken-told : (n : ℕ) (bad : Bool) (place : ℕ) → Named isFrom40 n → (bad ≡ true → Inside capture place) → Told isFrom40 capture (rule bad n place)
+  broken-told n bad place named at = if-cases (Told isFrom40 capture) bad _ _ (λ t. tell isFrom40 capture n place named (at t)) (λ t. omega arith)
 
   -- a search that finds nothing, or names a place inside the capture
   abbrev SpotTold : Spot → Type 0
@@ -51,20 +51,20 @@ module _ (capture : List ℕ) where
   PairTold None = 0 < 1
   PairTold (Two p q) = Inside capture p × (0 < q) × (q < p)
 
-  later-told : (n : ℕ) (c : Pair) → Named isAfter30 n → PairTold c → Told isAfter30 capture (atLater n c)
+  later-told : (n : ℕ) (c : Pair) → Named isFrom40 n → PairTold c → Told isFrom40 capture (atLater n c)
   unfolding atLater
   later-told n None named at = at
-  later-told n (Two p q) named at = tell isAfter30 capture n p named (at .0)
+  later-told n (Two p q) named at = tell isFrom40 capture n p named (at .0)
 
-  both-told : (n : ℕ) (c : Pair) → NamedBoth isAfter30 n → PairTold c → Told isAfter30 capture (atBoth n c)
+  both-told : (n : ℕ) (c : Pair) → NamedBoth isFrom40 n → PairTold c → Told isFrom40 capture (atBoth n c)
   unfolding atBoth
   both-told n None named at = at
-  both-told n (Two p q) named at = tell-both isAfter30 capture n p q named (at .0) (at .1) (at .2)
+  both-told n (Two p q) named at = tell-both isFrom40 capture n p q named (at .0) (at .1) (at .2)
 
-  spotted-told : (n : ℕ) (s : Spot) → Named isAfter30 n → SpotTold s → Told isAfter30 capture (spotted n s)
+  spotted-told : (n : ℕ) (s : Spot) → Named isFrom40 n → SpotTold s → Told isFrom40 capture (spotted n s)
   unfolding spotted
   spotted-told n Nowhere named at = at
-  spotted-told n (At p) named at = tell isAfter30 capture n p named at
+  spotted-told n (At p) named at = tell isFrom40 capture n p named at
 
   sooner-told : (best : Spot) (p : ℕ) → SpotTold best → Inside capture p → SpotTold (sooner best p)
   unfolding sooner
@@ -146,18 +146,18 @@ module _ (capture : List ℕ) {next : ℕ} {map : Map} {places : Places} (b : St
       (b .lpcbehind there, omega (arith, b .lpcbefore))
 
   -- 40 to 54
-  pub map-told : (madt fadt : ℕ) → Inside capture madt → Inside capture fadt → Told isAfter30 capture (firstRefusal (mapRules (says map) places madt fadt))
+  pub map-told : (madt fadt : ℕ) → Inside capture madt → Inside capture fadt → Told isFrom40 capture (firstRefusal (mapRules (says map) places madt fadt))
   unfolding mapRules rulesTo43 rulesFrom51
   map-told madt fadt m f =
       let all = claims (says map) places in
-      more-told isAfter30 capture _ _ (broken-told capture 40 _ madt (refl, refl, refl, refl) (λ t. m))
+      more-told isFrom40 capture _ _ (broken-told capture 40 _ madt (refl, refl, refl, refl) (λ t. m))
       (λ kept.
       let present = sym (lio-present (map .lio)) ∙ lio-there (says map) madt kept in
       let clash = clash-told capture all (claims-inside present) in
-      more-told isAfter30 capture _ _ (later-told capture 41 (firstClash 41 all) (refl, refl, refl, refl) (clash 41))
-      (λ z. more-told isAfter30 capture _ _ (spotted-told capture 42 (firstLone all) (refl, refl, refl, refl) (lone-told capture all (lone-inside all)))
-      (λ z. more-told isAfter30 capture _ _ (broken-told capture 43 _ (places .lpc) (refl, refl, refl, refl) lpc-inside)
-      (λ z. more-told isAfter30 capture _ _ (both-told capture 51 (firstClash 51 all) (refl, refl, refl, refl) (clash 51))
-      (λ z. more-told isAfter30 capture _ _ (both-told capture 52 (firstClash 52 all) (refl, refl, refl, refl) (clash 52))
-      (λ z. more-told isAfter30 capture _ _ (both-told capture 53 (firstClash 53 all) (refl, refl, refl, refl) (clash 53))
-      (λ z. more-told isAfter30 capture _ _ (broken-told capture 54 _ fadt (refl, refl, refl, refl) (λ t. f)) (λ z. none-told isAfter30 capture))))))))
+      more-told isFrom40 capture _ _ (later-told capture 41 (firstClash 41 all) (refl, refl, refl, refl) (clash 41))
+      (λ z. more-told isFrom40 capture _ _ (spotted-told capture 42 (firstLone all) (refl, refl, refl, refl) (lone-told capture all (lone-inside all)))
+      (λ z. more-told isFrom40 capture _ _ (broken-told capture 43 _ (places .lpc) (refl, refl, refl, refl) lpc-inside)
+      (λ z. more-told isFrom40 capture _ _ (both-told capture 51 (firstClash 51 all) (refl, refl, refl, refl) (clash 51))
+      (λ z. more-told isFrom40 capture _ _ (both-told capture 52 (firstClash 52 all) (refl, refl, refl, refl) (clash 52))
+      (λ z. more-told isFrom40 capture _ _ (both-told capture 53 (firstClash 53 all) (refl, refl, refl, refl) (clash 53))
+      (λ z. more-told isFrom40 capture _ _ (broken-told capture 54 _ fadt (refl, refl, refl, refl) (λ t. f)) (λ z. none-told isFrom40 capture))))))))

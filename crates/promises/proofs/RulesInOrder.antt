@@ -28,7 +28,7 @@ use Rattle.promises.specs.Captures.{NothingBefore51, NotRefusedBefore51,
 use Rattle.promises.proofs.RefusedExactlyForSharing.{enabled}
 
 -- 39
-no-repeat : (base : ℕ) (r : Repeat) → repeatRule base r ≡ Sound → r ≡ Nowhere
+pub no-repeat : (base : ℕ) (r : Repeat) → repeatRule base r ≡ Sound → r ≡ Nowhere
 unfolding repeatRule
 no-repeat base Nowhere h = refl
 no-repeat base (At offset) h = not-sound h

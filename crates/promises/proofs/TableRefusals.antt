@@ -26,7 +26,7 @@ use Rattle.tables.specs.declared.Survey.{Survey}
 use Rattle.tables.specs.declared.Survey.the-variants.{Found, Refused}
 use Rattle.tables.proofs.Inside.{Lies, named-inside, both-inside, kept-inside, tables-inside, survey-told as told-by}
 use Rattle.tables.specs.declared.Strictness.{Strictness}
-use Rattle.promises.proofs.Told.{OfTheRules, Told, isBefore29, is29Or30, isNot60, told-not-60, Inside, tell, none-told, more-told, rule-told, joined-told, each-told, search-told}
+use Rattle.promises.proofs.Told.{OfTheRules, Told, isBefore29, is29Or30, isTo30, told-left, told-right, Inside, tell, none-told, more-told, rule-told, joined-told, each-told, search-told}
 use Rattle.promises.proofs.CaptureRefusals.{container-told, presence-told}
 
 -- a table that lies inside the capture stands there
@@ -169,18 +169,18 @@ before-29-told capture =
     lengths-told capture (madtOf capture xsdt) (fadtOf capture xsdt) (stands (both .0) (omega arith)) (stands (both .1) (omega arith)))))))))
 
 -- 1 to 30
-rules-told : (strictness : Strictness) (capture : List ℕ) → Told isNot60 capture (firstRefusal (surveyRules strictness capture))
+rules-told : (strictness : Strictness) (capture : List ℕ) → Told isTo30 capture (firstRefusal (surveyRules strictness capture))
 unfolding surveyRules tablesOf tablesFrom withSci
 rules-told strictness capture =
     let madt = madtOf capture (xsdtOf capture) in
-    joined-told isNot60 capture (rulesBefore29 capture) _
-    (told-not-60 isBefore29 refl capture (firstRefusal (rulesBefore29 capture)) (before-29-told capture))
-    (λ kept. told-not-60 is29Or30 refl capture (firstRefusal (madtFieldRules strictness capture madt))
+    joined-told isTo30 capture (rulesBefore29 capture) _
+    (told-left isBefore29 is29Or30 capture (firstRefusal (rulesBefore29 capture)) (before-29-told capture))
+    (λ kept. told-right isBefore29 is29Or30 capture (firstRefusal (madtFieldRules strictness capture madt))
     (fields-told strictness capture madt (stands (kept-inside capture kept .madt) (omega arith))))
 
 abbrev pub SurveyTold : List ℕ → Survey → Type 0
 SurveyTold capture (Found t) = Inside capture (t .madt .place) × Inside capture (t .fadt .place)
-SurveyTold capture (Refused r) = OfTheRules isNot60 capture r
+SurveyTold capture (Refused r) = OfTheRules isTo30 capture r
 
 pub survey-told : (strictness : Strictness) (capture : List ℕ) → SurveyTold capture (survey strictness capture)
 survey-told strictness capture = go (survey strictness capture) refl

@@ -15,6 +15,7 @@ use Rattle.words.specs.declared.Refusal.{Refusal}
 use Rattle.words.specs.declared.Verdict.{Verdict}
 use Rattle.words.specs.declared.Verdict.the-variants.{Sound, Refused}
 use Rattle.clashes.specs.Folds.{fold}
+use Rattle.clashes.proofs.Logic.{left-true, right-true}
 use Rattle.words.proofs.Choices.{if-cases}
 use Rattle.words.proofs.Verdicts.{first-none, first-joined}
 use Rattle.promises.specs.RefusalTable.{among, isRefusalNumber, isPlaceless, isTwofold, OfTheTable}
@@ -28,15 +29,31 @@ abbrev pub Told : (ℕ → Bool) → List ℕ → Verdict → Type 0
 Told own capture Sound = 0 < 1
 Told own capture (Refused r) = OfTheRules own capture r
 
--- ---- whose numbers they are: of the rules before 29, 29 and 30, and those after
+-- ---- whose numbers they are: of the rules before 29, 29 and 30, those of a structure, 39, and those after it
 abbrev pub isBefore29 : ℕ → Bool
 isBefore29 = among 1 28
 
 abbrev pub is29Or30 : ℕ → Bool
 is29Or30 = among 29 30
 
+abbrev pub isOfStructures : ℕ → Bool
+isOfStructures n = among 31 38 n || among 71 77 n
+
+abbrev pub is39 : ℕ → Bool
+is39 = eqb 39
+
+abbrev pub isFrom40 : ℕ → Bool
+isFrom40 = among 40 54
+
+-- joined: all before 31, all after 38, all after 30
+abbrev pub isTo30 : ℕ → Bool
+isTo30 n = isBefore29 n || is29Or30 n
+
+abbrev pub isAfter38 : ℕ → Bool
+isAfter38 n = is39 n || isFrom40 n
+
 abbrev pub isAfter30 : ℕ → Bool
-isAfter30 n = among 31 54 n || among 71 77 n
+isAfter30 n = isOfStructures n || isAfter38 n
 
 -- all of them: every number but 60, the list's
 abbrev pub isNot60 : ℕ → Bool
@@ -47,6 +64,12 @@ pub told-wider : (own more : ℕ → Bool) → ((n : ℕ) → own n ≡ true →
     → Told own capture v → Told more capture v
 told-wider own more wider capture Sound told = told
 told-wider own more wider capture (Refused r) told = (told .0, wider (r .number) (told .1))
+
+pub told-left : (own more : ℕ → Bool) (capture : List ℕ) (v : Verdict) → Told own capture v → Told (λ n. own n || more n) capture v
+told-left own more = told-wider own (λ n. own n || more n) (λ n h. left-true (own n) (more n) h)
+
+pub told-right : (more own : ℕ → Bool) (capture : List ℕ) (v : Verdict) → Told own capture v → Told (λ n. more n || own n) capture v
+told-right more own = told-wider own (λ n. more n || own n) (λ n h. right-true (more n) (own n) h)
 
 pub told-not-60 : (own : ℕ → Bool) → own 60 ≡ false → (capture : List ℕ) (v : Verdict) → Told own capture v → Told isNot60 capture v
 told-not-60 own h = told-wider own isNot60 (λ n t. ap not (ne-eqb n 60 (λ e. true≢false (sym t ∙ ap own e ∙ h))))

@@ -74,13 +74,14 @@ module _ {A : Type 0} {test : A → Bool} {answer : Bool} {rest : List A} {sofar
   unfolding every
   test-over e = sym (and-true sofar) ∙ (rw e at (s .gives))
 
--- what a search of numbers tells: where it found its answer, or that its test takes none of them
+-- what a search of numbers tells: where it first found its answer, or that its test takes none of them
 pub record Hit {R : Type 0} (test : ℕ → Bool) (found : ℕ → R) (answer : R) (from until : ℕ) : Type 0 where
   pub at : ℕ
   pub begun : from ≤ at
   pub counted : at < until
   pub taken : test at ≡ true
   pub told : found at ≡ answer
+  pub before : (j : ℕ) → from ≤ j → j < at → test j ≡ false
 
 module _ {R : Type 0} (test : ℕ → Bool) (found : ℕ → R) (none answer : R) where
   pub search-found : (from k until : ℕ) → from + k ≡ until → first test found none (numbersFrom from k) ≡ answer → (none ≡ answer → ⊥)
@@ -93,10 +94,19 @@ module _ {R : Type 0} (test : ℕ → Bool) (found : ℕ → R) (none answer : R
       go : (b : Bool) → test from ≡ b → if b (found from) (first test found none (numbersFrom (from + 1) k)) ≡ answer
           → (first test found none (numbersFrom (from + 1) k) ≡ answer → Hit test found answer (from + 1) until)
           → Hit test found answer from until
-      go true t g later = record { at = from; begun = omega arith; counted = omega arith; taken = t; told = g }
+      go true t g later =
+          record { at = from; begun = omega arith; counted = omega arith; taken = t; told = g; before = λ j low high. absurd (omega arith) }
       go false t g later =
           let l = later g in
-          record { at = l .at; begun = omega arith; counted = l .counted; taken = l .taken; told = l .told }
+          record {
+            at = l .at;
+            begun = omega arith;
+            counted = l .counted;
+            taken = l .taken;
+            told = l .told;
+            before = λ j low high.
+                ⊎-elim (λ (e : from ≡ j). rw (← e) t) (λ (less : from < j). l .before j (omega arith) high) (eq-or-lt-of-le low);
+          }
 
   pub search-none : (from k j : ℕ) → first test found none (numbersFrom from k) ≡ answer
       → ((i : ℕ) → test i ≡ true → found i ≡ answer → ⊥) → from ≤ j → j < from + k → test j ≡ false
