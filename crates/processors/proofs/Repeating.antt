@@ -15,8 +15,9 @@ use Rattle.words.specs.Lists.{first, numbersFrom, numbersBelow}
 use Rattle.words.proofs.Choices.{no-if, passed}
 use Rattle.words.proofs.Searches.{Searching, search-hit, search-miss, search-over}
 use Rattle.words.proofs.Those.{length-map}
-use Rattle.kinds.specs.Makers.{coreOf}
+use Rattle.kinds.specs.Makers.{coreOf, isEnabled}
 use Rattle.kinds.specs.declared.makers.Core.{Core}
+use Rattle.madt.specs.Rules.{isType}
 use Rattle.madt.specs.Pieces.{Whole, pieces}
 use Rattle.madt.proofs.Pieces.{sizeAt}
 use Rattle.processors.specs.Listing.{Processor, isEnabledCore, enabledCores, idsOf, listed}
@@ -124,6 +125,16 @@ module _ (cores front : List Whole) (x : Whole) (back : List Whole) (e : cores �
 one-number : {k n k′ n′ : ℕ} → n ≡ suc n′ → k′ ≡ k + 1 → numbersFrom k n ≡ k ∷ numbersFrom k′ n′
 unfolding numbersFrom
 one-number e f = rw (e, f) refl
+
+-- what the tests of type and flags tell of a structure
+module _ (s : List ℕ) {s′ : List ℕ} {type : Bool} (e : s′ ≡ s) (t : type ≡ isType 17 s′) where
+  pub of-another-type : type ≡ false → isEnabledCore s ≡ false
+  unfolding isEnabledCore
+  of-another-type none = rw (sym (ap (isType 17) e) ∙ sym t ∙ none)
+
+  pub by-its-flags : {core : Core} {live : Bool} → type ≡ true → core ≡ coreOf s → live ≡ isEnabled core → isEnabledCore s ≡ live
+  unfolding isEnabledCore
+  by-its-flags core-type c l = rw (sym (ap (isType 17) e) ∙ sym t ∙ core-type) (sym (l ∙ ap isEnabled c))
 
 -- ---- the inner loop: is there one before `at` that shares an ID with p?
 abbrev pub isTwin : Processor → List ℕ → Bool

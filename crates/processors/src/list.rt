@@ -6,14 +6,22 @@ ghost use mathlib.Core.Path.{_≡_};
 ghost use Prim.Native.Nat.{_+_, _≤_};
 ghost use lib.ListN.{length};
 ghost use lib.Seq.{sets};
+ghost use Rattle.madt.specs.Rules.{isType};
 ghost use Rattle.processors.specs.Listing.{isEnabledCore, entriesOf, processors, countOf, count, written, filled, filling};
 
-// Whether a structure, given by its own bytes, is an enabled CORE.
+// Whether a structure, given by its own bytes, is a CORE.
+pub(crate) fn is_core(structure: &[u8]) -> bool
+    ensures { λ r. ⌜ r ≡ isType 17 (now (structure .entry)) ⌝ }
+{
+    words::byte_at(structure, steps::TYPE) == Core::TYPE
+}
+
+// Whether it is an enabled CORE.
 pub(crate) fn is_enabled_core(structure: &[u8]) -> bool
     ensures { λ r. ⌜ r ≡ isEnabledCore (now (structure .entry)) ⌝ }
 {
     let core = Core::from_bytes(structure);
-    (words::byte_at(structure, steps::TYPE) == Core::TYPE) & core.is_enabled()
+    is_core(structure) & core.is_enabled()
 }
 
 // 1 for an enabled CORE, 0 for any other structure.

@@ -29,10 +29,11 @@ fn share_id(core: Core, other: Core) -> bool
 fn is_twin(core: Core, structure: &[u8]) -> bool
     ensures { λ r. ⌜ r ≡ isEnabledCore (now (structure .entry)) && shareId (idsOf core) (idsOf (coreOf (now (structure .entry)))) ⌝ }
 {
-    if !list::is_enabled_core(structure) {
+    if !list::is_core(structure) {
         return false;
     }
-    share_id(core, Core::from_bytes(structure))
+    let other = Core::from_bytes(structure);
+    other.is_enabled() & share_id(core, other)
 }
 
 // A number above another, and above a bound that stays if it is the higher one.
@@ -79,11 +80,15 @@ pub fn first_repeat(table: &[u8]) -> Repeat
         if size == 0 {
             break;
         }
-        if !list::is_enabled_core(words::part(table, at, size)) {
+        if !list::is_core(words::part(table, at, size)) {
             at += size;
             continue;
         }
         let core = Core::from_bytes(words::part(table, at, size));
+        if !core.is_enabled() {
+            at += size;
+            continue;
+        }
         let mut earlier = search_from(seen, core, at);
         while earlier < at {
             let length = steps::size_at(table, earlier);

@@ -8,7 +8,7 @@ use Rattle.words.specs.Bytes.{partAt}
 use Rattle.kinds.specs.Makers.{coreOf}
 use Rattle.madt.proofs.Pieces.{sizeAt}
 use Rattle.processors.specs.Listing.{idsOf}
-use Rattle.processors.proofs.Repeating.{Inner, Outer, start, reach-size, pass, caught, past, stopped, skip, enter, leave, named, twin-told}
+use Rattle.processors.proofs.Repeating.{Inner, Outer, start, reach-size, pass, caught, past, stopped, skip, enter, leave, named, of-another-type, by-its-flags, twin-told}
 use borrow.Author.Needs.{needs}
 use Rattle.processors.proofs.repeats.first_repeat.Statement.{statement}
 use Rattle.processors.proofs.repeats.first_repeat.Tie as tie
@@ -34,8 +34,8 @@ size-at-requires c κs = search needs
 part-requires : tie.Need-part-requires Inv-loop μ-loop Inv-table μ-table
 part-requires c κs = search needs
 
-is-enabled-core-requires : tie.Need-is-enabled-core-requires Inv-loop μ-loop Inv-table μ-table
-is-enabled-core-requires c κs = search needs
+is-core-requires : tie.Need-is-core-requires Inv-loop μ-loop Inv-table μ-table
+is-core-requires c κs = search needs
 
 add-at : tie.Need-add-at Inv-loop μ-loop Inv-table μ-table
 add-at c = search needs
@@ -46,9 +46,8 @@ table-less c = search needs
 table-again : tie.Need-table-again Inv-loop μ-loop Inv-table μ-table
 table-again c =
     let size = c .before .before .before .before .size-at .ensures .0 in
-    let here = rw size at (c .before .before .part .ensures) in
-    let told = rw here at (c .before .is-enabled-core .ensures) in
-    skip (c .before .before .before .before .before .before .table .inv) (λ h. c .before .before .before .if1 .left (size ∙ h)) (sym told ∙ not-true _ (c .if2 .taken)) (rw size)
+    let told = of-another-type _ (rw size at (c .before .before .part .ensures)) (c .before .is-core .ensures) (not-true _ (c .if2 .taken)) in
+    skip (c .before .before .before .before .before .before .table .inv) (λ h. c .before .before .before .if1 .left (size ∙ h)) told (rw size)
 
 part-requires-2 : tie.Need-part-requires-2 Inv-loop μ-loop Inv-table μ-table
 part-requires-2 c κs = search needs
@@ -56,11 +55,28 @@ part-requires-2 c κs = search needs
 from-bytes-requires : tie.Need-from-bytes-requires Inv-loop μ-loop Inv-table μ-table
 from-bytes-requires c κs = search needs
 
+is-enabled-requires : tie.Need-is-enabled-requires Inv-loop μ-loop Inv-table μ-table
+is-enabled-requires c κs = search needs
+
+add-at-2 : tie.Need-add-at-2 Inv-loop μ-loop Inv-table μ-table
+add-at-2 c = search needs
+
+table-less-2 : tie.Need-table-less-2 Inv-loop μ-loop Inv-table μ-table
+table-less-2 c = search needs
+
+table-again-2 : tie.Need-table-again-2 Inv-loop μ-loop Inv-table μ-table
+table-again-2 c =
+    let size = c .before .before .before .before .before .before .before .before .size-at .ensures .0 in
+    let core = c .before .before .from-bytes .ensures ∙ ap coreOf (rw size at (c .before .before .before .part2 .ensures)) in
+    let type = not-false _ (c .before .before .before .before .if2 .left) in
+    let told = by-its-flags _ (rw size at (c .before .before .before .before .before .before .part .ensures)) (c .before .before .before .before .before .is-core .ensures) type core (c .before .is-enabled .ensures) in
+    skip (c .before .before .before .before .before .before .before .before .before .before .table .inv) (λ h. c .before .before .before .before .before .before .before .if1 .left (size ∙ h)) (told ∙ not-true _ (c .if3 .taken)) (rw size)
+
 search-from-requires : tie.Need-search-from-requires Inv-loop μ-loop Inv-table μ-table
 search-from-requires c κs = search needs
 
 loop-holds : tie.Need-loop-holds Inv-loop μ-loop Inv-table μ-table
-loop-holds c = enter (c .before .before .before .before .before .before .before .before .before .table .inv) (c .search-from .ensures)
+loop-holds c = enter (c .before .before .before .before .before .before .before .before .before .before .before .table .inv) (c .search-from .ensures)
 
 size-at-requires-2 : tie.Need-size-at-requires-2 Inv-loop μ-loop Inv-table μ-table
 size-at-requires-2 c κs = search needs
@@ -85,24 +101,24 @@ loop-again : tie.Need-loop-again Inv-loop μ-loop Inv-table μ-table
 loop-again c =
     let size = c .before .before .before .size-at2 .ensures .0 in
     let told = twin-told _ _ (rw size at (c .before .before .part3 .ensures)) (c .before .is-twin .ensures) in
-    pass (c .before .before .before .before .before .loop .inv) (c .before .before .before .before .loop-test .taken) (told ∙ c .if3 .left) (rw size)
+    pass (c .before .before .before .before .before .loop .inv) (c .before .before .before .before .loop-test .taken) (told ∙ c .if4 .left) (rw size)
 
 seen-with-requires : tie.Need-seen-with-requires Inv-loop μ-loop Inv-table μ-table
 seen-with-requires c κs = search needs
 
-add-at-2 : tie.Need-add-at-2 Inv-loop μ-loop Inv-table μ-table
-add-at-2 c = search needs
+add-at-3 : tie.Need-add-at-3 Inv-loop μ-loop Inv-table μ-table
+add-at-3 c = search needs
 
-table-less-2 : tie.Need-table-less-2 Inv-loop μ-loop Inv-table μ-table
-table-less-2 c = search needs
+table-less-3 : tie.Need-table-less-3 Inv-loop μ-loop Inv-table μ-table
+table-less-3 c = search needs
 
-table-again-2 : tie.Need-table-again-2 Inv-loop μ-loop Inv-table μ-table
-table-again-2 c =
-    let size = c .before .before .before .before .before .before .before .before .before .before .size-at .ensures .0 in
-    let here = rw size at (c .before .before .before .before .before .before .before .before .part .ensures) in
-    let told = rw here at (c .before .before .before .before .before .before .before .is-enabled-core .ensures) in
-    let core = c .before .before .before .before .from-bytes .ensures ∙ ap coreOf (rw size at (c .before .before .before .before .before .part2 .ensures)) in
-    leave (c .before .before .before .before .before .before .before .before .before .before .before .before .table .inv) (λ h. c .before .before .before .before .before .before .before .before .before .if1 .left (size ∙ h)) (sym told ∙ not-false _ (c .before .before .before .before .before .before .if2 .left))
+table-again-3 : tie.Need-table-again-3 Inv-loop μ-loop Inv-table μ-table
+table-again-3 c =
+    let size = c .before .before .before .before .before .before .before .before .before .before .before .before .size-at .ensures .0 in
+    let core = c .before .before .before .before .before .before .from-bytes .ensures ∙ ap coreOf (rw size at (c .before .before .before .before .before .before .before .part2 .ensures)) in
+    let type = not-false _ (c .before .before .before .before .before .before .before .before .if2 .left) in
+    let told = by-its-flags _ (rw size at (c .before .before .before .before .before .before .before .before .before .before .part .ensures)) (c .before .before .before .before .before .before .before .before .before .is-core .ensures) type core (c .before .before .before .before .before .is-enabled .ensures) in
+    leave (c .before .before .before .before .before .before .before .before .before .before .before .before .before .before .table .inv) (λ h. c .before .before .before .before .before .before .before .before .before .before .before .if1 .left (size ∙ h)) (told ∙ not-false _ (c .before .before .before .before .if3 .left))
     (c .before .before .loop .inv) (c .before .loop-test .left) core (c .seen-with .ensures) (rw size)
 
 returns : tie.Need-returns Inv-loop μ-loop Inv-table μ-table
@@ -113,13 +129,13 @@ returns-2 c = stopped (c .before .before .before .table .inv) (c .before .before
 
 returns-3 : tie.Need-returns-3 Inv-loop μ-loop Inv-table μ-table
 returns-3 c =
-    let size = c .before .before .before .before .before .before .before .before .before .before .before .before .before .size-at .ensures .0 in
-    let here = rw size at (c .before .before .before .before .before .before .before .before .before .before .before .part .ensures) in
-    let told = rw here at (c .before .before .before .before .before .before .before .before .before .before .is-enabled-core .ensures) in
-    let core = c .before .before .before .before .before .before .before .from-bytes .ensures ∙ ap coreOf (rw size at (c .before .before .before .before .before .before .before .before .part2 .ensures)) in
+    let size = c .before .before .before .before .before .before .before .before .before .before .before .before .before .before .before .size-at .ensures .0 in
+    let core = c .before .before .before .before .before .before .before .before .before .from-bytes .ensures ∙ ap coreOf (rw size at (c .before .before .before .before .before .before .before .before .before .before .part2 .ensures)) in
+    let type = not-false _ (c .before .before .before .before .before .before .before .before .before .before .before .if2 .left) in
+    let told = by-its-flags _ (rw size at (c .before .before .before .before .before .before .before .before .before .before .before .before .before .part .ensures)) (c .before .before .before .before .before .before .before .before .before .before .before .before .is-core .ensures) type core (c .before .before .before .before .before .before .before .before .is-enabled .ensures) in
     let twin = twin-told _ _ (rw (c .before .before .before .size-at2 .ensures .0) at (c .before .before .part3 .ensures)) (c .before .is-twin .ensures) in
-    named (c .before .before .before .before .before .before .before .before .before .before .before .before .before .before .before .table .inv) (λ h. c .before .before .before .before .before .before .before .before .before .before .before .before .if1 .left (size ∙ h)) (sym told ∙ not-false _ (c .before .before .before .before .before .before .before .before .before .if2 .left)) core
-    (caught (c .before .before .before .before .before .loop .inv) (c .before .before .before .before .loop-test .taken) (twin ∙ c .if3 .taken))
+    named (c .before .before .before .before .before .before .before .before .before .before .before .before .before .before .before .before .before .table .inv) (λ h. c .before .before .before .before .before .before .before .before .before .before .before .before .before .before .if1 .left (size ∙ h)) (told ∙ not-false _ (c .before .before .before .before .before .before .before .if3 .left)) core
+    (caught (c .before .before .before .before .before .loop .inv) (c .before .before .before .before .loop-test .taken) (twin ∙ c .if4 .taken))
 
 pub first-repeat-spec : {M : Type 1} → statement M
 first-repeat-spec =
@@ -132,12 +148,16 @@ first-repeat-spec =
     table-holds
     size-at-requires
     part-requires
-    is-enabled-core-requires
+    is-core-requires
     add-at
     table-less
     table-again
     part-requires-2
     from-bytes-requires
+    is-enabled-requires
+    add-at-2
+    table-less-2
+    table-again-2
     search-from-requires
     loop-holds
     size-at-requires-2
@@ -147,9 +167,9 @@ first-repeat-spec =
     loop-less
     loop-again
     seen-with-requires
-    add-at-2
-    table-less-2
-    table-again-2
+    add-at-3
+    table-less-3
+    table-again-3
     returns
     returns-2
     returns-3)
