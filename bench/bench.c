@@ -170,6 +170,22 @@ static void make_many_processors(struct random *random, struct capture *capture)
     lay_out(&board, capture);
 }
 
+/*
+ * The server of W-203: the CORE of its four processors stand far apart, and its firmware has filled all others, which are
+ * disabled, with one and the same ID.
+ */
+static void make_spare_cores(struct random *random, struct capture *capture)
+{
+    const size_t processors = 4, distance = (CORES_MAX - 1) / (processors - 1);
+    const uint32_t spare_id = UINT32_MAX;
+
+    start_like_board_a(random, &board, CORES_MAX);
+    for (size_t i = 0; i < CORES_MAX; i++)
+        if (i % distance != 0)
+            board.structure[i] = make_core(random, spare_id, spare_id, 0);
+    lay_out(&board, capture);
+}
+
 static void make_one_table_named_often(struct random *random, struct capture *capture)
 {
     start_like_board_a(random, &board, 2);
@@ -415,11 +431,12 @@ static bool all_answer(const struct row *row)
 
 int main(int argc, char **argv)
 {
-    static struct capture a, large_tables, many_processors, one_table_often, touching_segments;
+    static struct capture a, large_tables, many_processors, spare_cores, one_table_often, touching_segments;
     const struct row rows[] = {
         {"board A", READ, &a},
         {"large tables that are passed over", READ, &large_tables},
         {"256 processors", READ, &many_processors},
+        {"256 CORE, 4 of them enabled, the others alike", READ, &spare_cores},
         {"32 XSDT entries, 30 of them naming one large table", READ, &one_table_often},
         {"a board like A, each table across 4 of 16 segments", READ, &touching_segments},
         {"one route (board A, 72)", ROUTE, &a},
@@ -437,6 +454,7 @@ int main(int argc, char **argv)
     load_board_a(argv[1], &a);
     make_large_tables(&random, &large_tables);
     make_many_processors(&random, &many_processors);
+    make_spare_cores(&random, &spare_cores);
     make_one_table_named_often(&random, &one_table_often);
     make_touching_segments(&random, &touching_segments);
     for (size_t i = 0; i < count; i++)

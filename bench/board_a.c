@@ -3,6 +3,7 @@
  */
 #include "board_a.h"
 
+#include <assert.h>
 #include <stdio.h>
 #include <stdlib.h>
 #include <string.h>
@@ -61,10 +62,27 @@ static struct structure make_written(const struct written *written)
     }
 }
 
+/* Puts bytes in the place of those from one place of the MADT to another, and mends what this moves: the FADT is behind it. */
+static void replace_bytes(struct capture *a, size_t place, size_t end, const uint8_t *bytes, size_t length)
+{
+    uint8_t *fadt_address = a->bytes + A_XSDT + TABLE_HEADER + 8;
+    size_t new_end = place + length;
+    long grown = (long)new_end - (long)end;
+
+    memmove(a->bytes + new_end, a->bytes + end, a->length - end);
+    memcpy(a->bytes + place, bytes, length);
+    a->length += (size_t)grown;
+    a->place[FADT] += (size_t)grown;
+    a->table_length[MADT] += (size_t)grown;
+    put_u32(a->bytes + 6, (uint32_t)a->length);
+    put_u32(a->bytes + A_DESCRIPTOR + 8, (uint32_t)(a->length - A_RSDP));
+    put_u32(a->bytes + A_MADT + 4, (uint32_t)a->table_length[MADT]);
+    put_u64(fadt_address, get_u64(fadt_address) + (uint64_t)grown);
+}
+
 void replace_structures(struct capture *a, size_t place, const struct written written[WRITTEN_MAX])
 {
     uint8_t bytes[WRITTEN_MAX * sizeof(struct structure)];
-    uint8_t *fadt_address = a->bytes + A_XSDT + TABLE_HEADER + 8;
     size_t length = 0;
 
     for (size_t i = 0; i < WRITTEN_MAX; i++) {
@@ -73,19 +91,24 @@ void replace_structures(struct capture *a, size_t place, const struct written wr
         memcpy(bytes + length, structure.bytes, structure.length);
         length += structure.length;
     }
+    replace_bytes(a, place, a->place[FADT], bytes, length);
+}
 
-    size_t fadt = place + length;
-    long grown = (long)fadt - (long)a->place[FADT];
+void replace_cores(struct capture *a, const struct equal_cores cores[EQUAL_CORES_MAX])
+{
+    static uint8_t bytes[(CORES_MAX + 1) * sizeof(struct structure)];
+    struct random random = {0};
+    size_t length = 0;
 
-    memmove(a->bytes + fadt, a->bytes + a->place[FADT], a->table_length[FADT]);
-    memcpy(a->bytes + place, bytes, length);
-    a->length += (size_t)grown;
-    a->place[FADT] = fadt;
-    a->table_length[MADT] += (size_t)grown;
-    put_u32(a->bytes + 6, (uint32_t)a->length);
-    put_u32(a->bytes + A_DESCRIPTOR + 8, (uint32_t)(a->length - A_RSDP));
-    put_u32(a->bytes + A_MADT + 4, (uint32_t)a->table_length[MADT]);
-    put_u64(fadt_address, get_u64(fadt_address) + (uint64_t)grown);
+    for (size_t i = 0; i < EQUAL_CORES_MAX; i++)
+        for (size_t j = 0; j < cores[i].count; j++) {
+            struct structure core = make_core(&random, cores[i].uid, cores[i].physical_id, cores[i].flags);
+
+            assert(length + core.length <= sizeof bytes);
+            memcpy(bytes + length, core.bytes, core.length);
+            length += core.length;
+        }
+    replace_bytes(a, A_CORE, A_LIO, bytes, length);
 }
 
 void second_bridge_at_128(struct capture *a)

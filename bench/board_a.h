@@ -48,6 +48,17 @@ enum { WRITTEN_MAX = 6 };
 /* Puts structures in the place of those that board A has from a place on, and mends what this moves. Sums are not made good. */
 void replace_structures(struct capture *a, size_t place, const struct written written[WRITTEN_MAX]);
 
+/* CORE that say the same, one behind another. */
+struct equal_cores {
+    size_t count; /* 0: none */
+    uint32_t uid, physical_id, flags;
+};
+
+enum { EQUAL_CORES_MAX = 8 };
+
+/* Puts these CORE, 257 at most, in the place of board A's own; its other structures stay. Sums are not made good. */
+void replace_cores(struct capture *a, const struct equal_cores cores[EQUAL_CORES_MAX]);
+
 /* Adds an EIO (node 5, cascade 4) with a BIO whose base is 128. */
 void second_bridge_at_128(struct capture *a);
 

@@ -1,6 +1,7 @@
 /*
- * Board A and its neighbours, the five errors that look right, the refusals of request W-202, board A cut into segments for
- * request W-206, all of it with the MADT revisions of request W-207, and the captures of boards/: see examples.h.
+ * Board A and its neighbours, the five errors that look right, the refusals of request W-202, board A with spare CORE for
+ * request W-203 and cut into segments for request W-206, all of it with the MADT revisions of request W-207, and the captures
+ * of boards/: see examples.h.
  */
 #define _DEFAULT_SOURCE /* opendir */
 
@@ -40,8 +41,11 @@ static void expect(struct tally *tally, const struct reader *reader, uint64_t re
 
 /* ---- Board A and its neighbours ---- */
 
-static const char A_PRINTED[] =
-    "map 1\ncore 0 0\ncore 1 1\nlio 2 16777215\neio 0 3 1\nbio 0 64 127\nmsi 64 255\nlpc 0 19\nsci 75 3 11\n";
+/* What is printed for board A with some processors, given as their lines. */
+#define A_PRINTED_WITH(processors)                                                                                     \
+    "map 1\n" processors "lio 2 16777215\neio 0 3 1\nbio 0 64 127\nmsi 64 255\nlpc 0 19\nsci 75 3 11\n"
+
+static const char A_PRINTED[] = A_PRINTED_WITH("core 0 0\ncore 1 1\n");
 
 static void no_bio_no_lpc(struct capture *a)
 {
@@ -339,6 +343,29 @@ static void expect_printed(const struct talk *talk, char *printed)
     expect_map(talk, &map);
 }
 
+static bool is_map(const char *printed)
+{
+    return strncmp(printed, "map ", 4) == 0;
+}
+
+/* What `vectors` prints of the processors of a printed map; a refusal stays as it is. */
+static void print_processors(char *printed, char answer[ANSWER_ROOM])
+{
+    struct printed map;
+
+    if (!is_map(printed)) {
+        snprintf(answer, ANSWER_ROOM, "%.*s", (int)strcspn(printed, "\n"), printed);
+        return;
+    }
+    take_map(printed, &map);
+
+    int length = snprintf(answer, ANSWER_ROOM, "read %zu", map.cores);
+
+    for (size_t i = 0; i < map.cores; i++)
+        length += snprintf(answer + length, ANSWER_ROOM - (size_t)length, " %" PRIu32 " %" PRIu32, map.uid[i],
+                           map.physical_id[i]);
+}
+
 /* ---- MADT revisions ---- */
 
 static const uint8_t revisions[] = {0, 1, 2, 5, 255};
@@ -361,22 +388,26 @@ static struct text name_revised(const struct revised *revised)
     return name;
 }
 
+enum { PRINTED_ROOM = 256 };
+
 /* What a reading prints for the case: the text for revision 1, or 29 where that comes first. */
-static void print_revised(const struct revised *revised, enum reading reading, char printed[sizeof A_PRINTED])
+static void print_revised(const struct revised *revised, enum reading reading, char printed[PRINTED_ROOM])
 {
-    snprintf(printed, sizeof A_PRINTED, "%s", revised->printed);
+    int length = snprintf(printed, PRINTED_ROOM, "%s", revised->printed);
+
+    assert(length < PRINTED_ROOM);
 
     unsigned refusal = (unsigned)take_refusal(printed).number;
 
     if (refusal_with_revision(refusal, revised->revision, reading) != refusal)
-        snprintf(printed, sizeof A_PRINTED, "refused %d at %zu", MADT_REVISION, revised->capture->place[MADT]);
+        snprintf(printed, PRINTED_ROOM, "refused %d at %zu", MADT_REVISION, revised->capture->place[MADT]);
 }
 
 static void ask_revised(struct tally *tally, const struct reader *reader, const struct revised *revised)
 {
     const struct capture *capture = revised->capture;
     struct text name = name_revised(revised);
-    char printed[sizeof A_PRINTED];
+    char printed[PRINTED_ROOM];
 
     print_revised(revised, reading_of(reader), printed);
     expect_printed(&(struct talk){tally, reader, name.words, capture->bytes, capture->length}, printed);
@@ -385,13 +416,13 @@ static void ask_revised(struct tally *tally, const struct reader *reader, const 
 static void ask_vectors_revised(const struct revised *revised)
 {
     const struct capture *capture = revised->capture;
-    char printed[sizeof A_PRINTED];
+    char printed[PRINTED_ROOM], answer[ANSWER_ROOM];
 
     for (enum reading reading = ORDINARY; reading <= STRICT; reading++) {
         print_revised(revised, reading, printed);
+        print_processors(printed, answer);
         write_question(name_revised(revised).words,
-                       &(struct query){reading, READ, LONG_LIST, 0, capture->bytes, capture->length},
-                       strcmp(printed, A_PRINTED) == 0 ? A_READ : printed);
+                       &(struct query){reading, READ, LONG_LIST, 0, capture->bytes, capture->length}, answer);
     }
 }
 
@@ -492,6 +523,89 @@ static struct revised refused_example(const char *boards, size_t number, uint8_t
     const struct refused_example *example = &refused_examples[number];
 
     make_refused(boards, example, revision, &capture);
+    return (struct revised){example->what, example->printed, revision, &capture};
+}
+
+/* ---- Board A with spare CORE ---- */
+
+/* Board A with these CORE in place of its own. */
+struct spare_example {
+    const char *what;
+    struct equal_cores cores[EQUAL_CORES_MAX];
+    const char *printed;
+};
+
+/*
+ * In a name, a CORE is its UID and its physical ID; in the list, how many there are comes before these, and the flags behind.
+ * The first one is at 162, and each is 15 bytes behind the one before: the next are at 177, 192 and 207, the 102nd is at
+ * 1677, the 256th at 3987, and the 257th at 4002.
+ */
+static const struct spare_example spare_examples[] = {
+    /* W-203: a disabled CORE may have an ID of an enabled one, or both, before it or behind it. */
+    {"enabled (0, 0), disabled (0, 5)", {{1, 0, 0, 1}, {1, 0, 5, 0}}, A_PRINTED_WITH("core 0 0\n")},
+    {"disabled (0, 5), enabled (0, 0)", {{1, 0, 5, 0}, {1, 0, 0, 1}}, A_PRINTED_WITH("core 0 0\n")},
+    {"enabled (0, 0), disabled (5, 0)", {{1, 0, 0, 1}, {1, 5, 0, 0}}, A_PRINTED_WITH("core 0 0\n")},
+    {"disabled (5, 0), enabled (0, 0)", {{1, 5, 0, 0}, {1, 0, 0, 1}}, A_PRINTED_WITH("core 0 0\n")},
+    {"enabled (0, 0), disabled (0, 0)", {{1, 0, 0, 1}, {1, 0, 0, 0}}, A_PRINTED_WITH("core 0 0\n")},
+    {"disabled (0, 0), enabled (0, 0)", {{1, 0, 0, 0}, {1, 0, 0, 1}}, A_PRINTED_WITH("core 0 0\n")},
+    {"enabled (0, 0), disabled (0, 1), enabled (1, 1)", {{1, 0, 0, 1}, {1, 0, 1, 0}, {1, 1, 1, 1}},
+     A_PRINTED_WITH("core 0 0\ncore 1 1\n")},
+    {"greatest IDs, the third of four enabled",
+     {{2, UINT32_MAX, UINT32_MAX, 0}, {1, UINT32_MAX, UINT32_MAX, 1}, {1, UINT32_MAX, UINT32_MAX, 0}},
+     A_PRINTED_WITH("core 4294967295 4294967295\n")},
+    /* It may have those of other disabled ones. */
+    {"two disabled (0, 0), enabled (0, 0)", {{2, 0, 0, 0}, {1, 0, 0, 1}}, A_PRINTED_WITH("core 0 0\n")},
+    {"enabled (0, 0), two disabled (0, 0)", {{1, 0, 0, 1}, {2, 0, 0, 0}}, A_PRINTED_WITH("core 0 0\n")},
+    {"enabled (0, 0), two disabled (5, 5)", {{1, 0, 0, 1}, {2, 5, 5, 0}}, A_PRINTED_WITH("core 0 0\n")},
+    {"disabled (5, 5), (5, 6) and (6, 5)", {{1, 5, 5, 0}, {1, 5, 6, 0}, {1, 6, 5, 0}, {1, 0, 0, 1}},
+     A_PRINTED_WITH("core 0 0\n")},
+    {"200 disabled (7, 7), four enabled",
+     {{1, 0, 0, 1}, {66, 7, 7, 0}, {1, 1, 1, 1}, {67, 7, 7, 0}, {1, 2, 2, 1}, {67, 7, 7, 0}, {1, 3, 3, 1}},
+     A_PRINTED_WITH("core 0 0\ncore 1 1\ncore 2 2\ncore 3 3\n")},
+    {"200 disabled (2, 2), four enabled",
+     {{66, 2, 2, 0}, {1, 0, 0, 1}, {70, 2, 2, 0}, {1, 3, 3, 1}, {1, 2, 2, 1}, {64, 2, 2, 0}, {1, 1, 1, 1}},
+     A_PRINTED_WITH("core 0 0\ncore 3 3\ncore 2 2\ncore 1 1\n")},
+    {"252 disabled (0, 0), four enabled", {{252, 0, 0, 0}, {1, 3, 3, 1}, {1, 2, 2, 1}, {1, 1, 1, 1}, {1, 0, 0, 1}},
+     A_PRINTED_WITH("core 3 3\ncore 2 2\ncore 1 1\ncore 0 0\n")},
+    /* A UID is no physical ID. */
+    {"enabled (0, 1), enabled (1, 0)", {{1, 0, 1, 1}, {1, 1, 0, 1}}, A_PRINTED_WITH("core 0 1\ncore 1 0\n")},
+    /* Two enabled ones still may not have an ID in common, and the later of them is named. */
+    {"enabled, disabled, enabled of a UID", {{1, 0, 0, 1}, {1, 0, 5, 0}, {1, 0, 1, 1}}, "refused 39 at 192"},
+    {"enabled, disabled, enabled of a physical ID", {{1, 0, 0, 1}, {1, 5, 0, 0}, {1, 1, 0, 1}}, "refused 39 at 192"},
+    {"disabled, two enabled of a UID", {{1, 0, 5, 0}, {1, 0, 0, 1}, {1, 0, 1, 1}}, "refused 39 at 192"},
+    {"disabled, two enabled of a physical ID", {{1, 5, 0, 0}, {1, 0, 0, 1}, {1, 1, 0, 1}}, "refused 39 at 192"},
+    {"two enabled, disabled of a UID", {{1, 0, 0, 1}, {1, 0, 1, 1}, {1, 0, 5, 0}}, "refused 39 at 177"},
+    {"two enabled, disabled of a physical ID", {{1, 0, 0, 1}, {1, 1, 0, 1}, {1, 5, 0, 0}}, "refused 39 at 177"},
+    {"one repeats a disabled one, the next an enabled", {{1, 0, 0, 1}, {1, 1, 5, 0}, {1, 1, 1, 1}, {1, 2, 1, 1}},
+     "refused 39 at 207"},
+    {"102 CORE (0, 0), first and last enabled", {{1, 0, 0, 1}, {100, 0, 0, 0}, {1, 0, 0, 1}}, "refused 39 at 1677"},
+    {"256 CORE (0, 0), last two enabled", {{254, 0, 0, 0}, {2, 0, 0, 1}}, "refused 39 at 3987"},
+    /* Reserved flags are checked on disabled ones too. */
+    {"enabled (0, 0), then (0, 0) with flags 2", {{1, 0, 0, 1}, {1, 0, 0, 2}}, "refused 35 at 177"},
+    {"(0, 0) with flags 2, then enabled (0, 0)", {{1, 0, 0, 2}, {1, 0, 0, 1}}, "refused 35 at 162"},
+    {"enabled (0, 0), then (5, 5) with the highest flag", {{1, 0, 0, 1}, {1, 5, 5, UINT32_C(1) << 31}}, "refused 35 at 177"},
+    {"two enabled (0, 0), then (0, 0) with flags 2", {{2, 0, 0, 1}, {1, 0, 0, 2}}, "refused 35 at 192"},
+    {"255 disabled, enabled, then flags 2", {{255, 5, 5, 0}, {1, 0, 0, 1}, {1, 5, 5, 2}}, "refused 35 at 4002"},
+    /* 38 counts them, and 40 does not. */
+    {"256 disabled, enabled", {{256, 5, 5, 0}, {1, 0, 0, 1}}, "refused 38 at 4002"},
+    {"enabled, 256 disabled", {{1, 0, 0, 1}, {256, 5, 5, 0}}, "refused 38 at 4002"},
+    {"two enabled (0, 0), 255 disabled", {{2, 0, 0, 1}, {255, 5, 5, 0}}, "refused 38 at 4002"},
+    {"257 disabled", {{257, 5, 5, 0}}, "refused 38 at 4002"},
+    {"256 disabled", {{256, 5, 5, 0}}, "refused 40 at 118"},
+    {"three disabled (0, 0)", {{3, 0, 0, 0}}, "refused 40 at 118"},
+};
+
+enum { SPARE_EXAMPLES = sizeof spare_examples / sizeof spare_examples[0] };
+
+/* As refused_example(). */
+static struct revised spare_example(const char *boards, size_t number, uint8_t revision)
+{
+    static struct capture capture;
+    const struct spare_example *example = &spare_examples[number];
+
+    load_board_a(boards, revision, &capture);
+    replace_cores(&capture, example->cores);
+    make_sums_good(&capture);
     return (struct revised){example->what, example->printed, revision, &capture};
 }
 
@@ -652,12 +766,15 @@ static struct revised cut_example(const char *boards, size_t number, uint8_t rev
 }
 
 /* All of these are asked about with each of the revisions. */
-enum { REVISED_EXAMPLES = REFUSED_EXAMPLES + CUT_EXAMPLES };
+enum { REVISED_EXAMPLES = REFUSED_EXAMPLES + SPARE_EXAMPLES + CUT_EXAMPLES };
 
 static struct revised revised_example(const char *boards, size_t number, uint8_t revision)
 {
-    return number < REFUSED_EXAMPLES ? refused_example(boards, number, revision)
-                                     : cut_example(boards, number - REFUSED_EXAMPLES, revision);
+    if (number < REFUSED_EXAMPLES)
+        return refused_example(boards, number, revision);
+    number -= REFUSED_EXAMPLES;
+    return number < SPARE_EXAMPLES ? spare_example(boards, number, revision)
+                                   : cut_example(boards, number - SPARE_EXAMPLES, revision);
 }
 
 static void ask_revised_examples(struct tally *tally, const struct reader *reader, const char *boards)
@@ -751,24 +868,6 @@ static void ask_real_captures(struct tally *tally, const struct reader *reader, 
     closedir(names);
 }
 
-/* What `vectors` prints of the processors of a printed map; a refusal stays as it is. */
-static void print_processors(char *printed, char answer[ANSWER_ROOM])
-{
-    struct printed map;
-
-    if (take_refusal(printed).number != 0) {
-        snprintf(answer, ANSWER_ROOM, "%.*s", (int)strcspn(printed, "\n"), printed);
-        return;
-    }
-    take_map(printed, &map);
-
-    int length = snprintf(answer, ANSWER_ROOM, "read %zu", map.cores);
-
-    for (size_t i = 0; i < map.cores; i++)
-        length += snprintf(answer + length, ANSWER_ROOM - (size_t)length, " %" PRIu32 " %" PRIu32, map.uid[i],
-                           map.physical_id[i]);
-}
-
 static void ask_vectors_real_captures(const char *boards)
 {
     static struct real real;
@@ -795,7 +894,7 @@ void save_examples_for_map(const char *boards, const char *folder)
     for (size_t i = 0; i < REVISED_EXAMPLES; i++) {
         struct revised revised = revised_example(boards, i, 1);
 
-        if (revised.printed == A_PRINTED)
+        if (is_map(revised.printed))
             continue;
         snprintf(name, sizeof name, "example-%zu", i + 1);
         save_for_map(folder, name, revised.capture->bytes, revised.capture->length, revised.printed);

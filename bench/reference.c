@@ -1,5 +1,5 @@
 /*
- * The reference: document 01 and requests W-202, W-206 and W-207 of document 02 written down in plain C, from the
+ * The reference: document 01 and requests W-202, W-203, W-206 and W-207 of document 02 written down in plain C, from the
  * documents alone, without a look at the proved reader, so that an error would have to be made twice to go unseen.
  *
  * Titles in quotation marks are sections of document 01; the numbers given to refuse() are those of its table
@@ -331,7 +331,6 @@ enum {
 struct core {
     uint64_t place;
     uint32_t uid, physical_id;
-    bool enabled;
 };
 
 struct half {
@@ -374,13 +373,13 @@ struct clash {
 struct board {
     uint64_t madt, fadt; /* places */
     uint16_t sci;
-    size_t cores, enabled, lios, eios, msis, bios, lpcs;
+    size_t cores, enabled, lios, eios, msis, bios, lpcs; /* `cores` counts all CORE, enabled or not */
     struct lio lio;
     struct lpc lpc;
     struct eio eio[EIOS_MAX];
     struct msi msi[MSIS_MAX];
     struct bio bio[BIOS_MAX];
-    struct core core[CORES_MAX];
+    struct core core[CORES_MAX]; /* the enabled ones */
     struct clash clash; /* what the board is refused for, if by 51 to 53 */
 };
 
@@ -389,6 +388,7 @@ static bool cascade_in_range(uint8_t cascade)
     return cascade >= CASCADE_MIN && cascade <= CASCADE_MAX;
 }
 
+/* 35 and 38 are about every CORE. Of a disabled one nothing else counts: its IDs mean nothing (W-203), so they are not kept. */
 static uint64_t take_core(struct board *board, const uint8_t *bytes, uint64_t place)
 {
     uint32_t flags = u32(bytes + 11);
@@ -397,8 +397,9 @@ static uint64_t take_core(struct board *board, const uint8_t *bytes, uint64_t pl
         return refuse(35, place);
     if (board->cores == CORES_MAX)
         return refuse(38, place);
-    board->core[board->cores++] = (struct core){place, u32(bytes + 3), u32(bytes + 7), flags == 1};
-    board->enabled += flags;
+    board->cores++;
+    if (flags == 1)
+        board->core[board->enabled++] = (struct core){place, u32(bytes + 3), u32(bytes + 7)};
     return 0;
 }
 
@@ -669,9 +670,10 @@ static uint64_t refuse_clash(uint64_t number, const struct clash *clash)
     return clash->named == NO_CLASH.named ? 0 : refuse(number, clash->named);
 }
 
+/* Rule 39. It binds the enabled CORE only (W-203), and these are all that the board has kept. */
 static uint64_t check_ids(const struct board *board)
 {
-    for (size_t i = 0; i < board->cores; i++)
+    for (size_t i = 0; i < board->enabled; i++)
         for (size_t j = 0; j < i; j++)
             if (board->core[i].uid == board->core[j].uid || board->core[i].physical_id == board->core[j].physical_id)
                 return refuse(39, board->core[i].place);
@@ -799,12 +801,9 @@ static uint64_t fill_list(const uint8_t *capture, size_t capture_len, uint8_t *l
         return refusal;
     if (list_len < 8 * board.enabled)
         return refuse(60, 0);
-    for (size_t i = 0; i < board.cores; i++) {
-        if (!board.core[i].enabled)
-            continue;
-        put_u32(list, board.core[i].uid);
-        put_u32(list + 4, board.core[i].physical_id);
-        list += 8;
+    for (size_t i = 0; i < board.enabled; i++) {
+        put_u32(list + 8 * i, board.core[i].uid);
+        put_u32(list + 8 * i + 4, board.core[i].physical_id);
     }
     return board.enabled;
 }

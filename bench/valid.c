@@ -1,6 +1,7 @@
 /*
  * Random boards that keep every rule of document 01: see valid.h. They are varied on purpose in what the rules do not
- * fix: the order of structures and tables, the segments, what runs across segments that touch, the free bytes.
+ * fix: the order of structures and tables, the IDs of disabled CORE, the segments, what runs across segments that touch, the
+ * free bytes.
  */
 #include "valid.h"
 
@@ -22,22 +23,76 @@ static size_t random_core_count(struct random *random)
     }
 }
 
-/* IDs in steps of an odd number are all different. */
+/* An ID of a CORE: the least one, the greatest, or any. */
+static uint32_t random_id(struct random *random)
+{
+    switch (below(random, 4)) {
+    case 0:
+        return 0;
+    case 1:
+        return UINT32_MAX;
+    default:
+        return (uint32_t)any(random);
+    }
+}
+
+struct ids {
+    uint32_t uid, physical_id;
+};
+
+/* IDs for a spare CORE of a board that has nothing but CORE yet: those of any CORE, or one of them, or filled in. */
+static struct ids spare_ids(struct random *random, const struct board *board)
+{
+    const uint8_t *twin = board->structure[below(random, board->structures)].bytes;
+    uint32_t filled_in = random_id(random);
+    uint32_t uid = one_in(random, 3) ? filled_in : get_u32(twin + CORE_UID);
+    uint32_t physical_id = one_in(random, 3) ? filled_in : get_u32(twin + CORE_PHYSICAL_ID);
+
+    return (struct ids){uid, physical_id};
+}
+
+/*
+ * The IDs of spare CORE, the disabled ones, mean nothing (W-203): they may be those of enabled CORE, before them or behind
+ * them, and of each other. Firmware gives all of them one and the same.
+ */
+static void give_spare_ids(struct random *random, struct board *board)
+{
+    bool alike = one_in(random, 2);
+    struct ids ids = spare_ids(random, board);
+
+    for (size_t i = 0; i < board->structures; i++) {
+        uint8_t *core = board->structure[i].bytes;
+
+        if (get_u32(core + CORE_FLAGS) != 0)
+            continue;
+        put_u32(core + CORE_UID, ids.uid);
+        put_u32(core + CORE_PHYSICAL_ID, ids.physical_id);
+        if (!alike)
+            ids = spare_ids(random, board);
+    }
+}
+
+/*
+ * IDs in steps of an odd number are all different; those of the spare CORE do not stay so on most boards. About
+ * `spare_of_four` in four CORE are spare: on some boards none, on some all but one.
+ */
 static void add_cores(struct random *random, struct board *board)
 {
     bool plain = one_in(random, 2);
-    uint32_t uid = plain ? 0 : (uint32_t)any(random), uid_step = plain ? 1 : (uint32_t)any(random) | 1;
-    uint32_t id = plain ? 0 : (uint32_t)any(random), id_step = plain ? 1 : (uint32_t)any(random) | 1;
+    uint32_t uid = plain ? 0 : random_id(random), uid_step = plain ? 1 : (uint32_t)any(random) | 1;
+    uint32_t id = plain ? 0 : random_id(random), id_step = plain ? 1 : (uint32_t)any(random) | 1;
     size_t count = random_core_count(random);
-    size_t surely_enabled = below(random, count);
+    size_t surely_enabled = below(random, count), spare_of_four = below(random, 5);
 
     for (size_t i = 0; i < count; i++) {
-        uint32_t enabled = i == surely_enabled || !one_in(random, 4);
+        uint32_t enabled = i == surely_enabled || below(random, 4) >= spare_of_four;
 
         append_structure(board, make_core(random, uid, id, enabled));
         uid += uid_step;
         id += id_step;
     }
+    if (!one_in(random, 8))
+        give_spare_ids(random, board);
 }
 
 /* The core's hardware lines in random order: taking them one by one, no two controllers enter one core vector. */

@@ -1,6 +1,7 @@
 /*
- * Random boards that keep every rule of document 01, with the meaning that W-206 gives to a stretch that is present. Their
- * MADT has revision 1, which both readings of W-207 take.
+ * Random boards that keep every rule of document 01, with the meaning that W-206 gives to a stretch that is present. W-203
+ * leaves the IDs of disabled CORE free, and theirs often repeat others. Their MADT has revision 1, which both readings of
+ * W-207 take.
  */
 #ifndef VALID_H
 #define VALID_H

@@ -167,6 +167,45 @@ static enum kind known_kind(struct random *random)
     return (enum kind)between(random, CORE, LPC);
 }
 
+/* ---- CORE that are enabled, and spare ones, whose IDs mean nothing (W-203) ---- */
+
+static void enable(uint8_t *core)
+{
+    core[CORE_FLAGS] |= 1;
+}
+
+/* Disables all CORE of a board. They get the UID of one of them, or its physical ID, or both. */
+static void make_all_spare(struct random *random, struct board *board)
+{
+    const uint8_t *one = some(random, board, CORE);
+    uint32_t uid = get_u32(one + CORE_UID), physical_id = get_u32(one + CORE_PHYSICAL_ID);
+    bool uid_alike = !one_in(random, 3), physical_id_alike = !uid_alike || one_in(random, 2);
+
+    for (size_t i = 0; i < board->structures; i++) {
+        uint8_t *bytes = board->structure[i].bytes;
+
+        if (bytes[0] != CORE)
+            continue;
+        if (uid_alike)
+            put_u32(bytes + CORE_UID, uid);
+        if (physical_id_alike)
+            put_u32(bytes + CORE_PHYSICAL_ID, physical_id);
+        put_u32(bytes + CORE_FLAGS, 0);
+    }
+}
+
+/* Puts some spare CORE that have an ID here and there: before, between and behind those that have it already. */
+static void insert_spares(struct random *random, struct board *board, size_t field, uint32_t id)
+{
+    for (size_t more = below(random, 8); more > 0 && count_kind(board, CORE) < CORES_MAX; more--) {
+        struct structure spare = random_structure(random, CORE);
+
+        put_u32(spare.bytes + CORE_FLAGS, 0);
+        put_u32(spare.bytes + field, id);
+        insert(random, board, spare);
+    }
+}
+
 /* ---- 31 to 38 and 71 to 77: structures in turn ---- */
 
 static void one_byte_left(struct random *random, struct board *board)
@@ -222,11 +261,24 @@ static void ht(struct random *random, struct board *board)
     insert_fresh(random, board, HT);
 }
 
+static uint32_t reserved_flag(struct random *random)
+{
+    return UINT32_C(1) << between(random, 1, 31);
+}
+
 static void reserved_flags(struct random *random, struct board *board)
 {
     uint8_t *core = some(random, board, CORE);
 
-    put_u32(core + CORE_FLAGS, get_u32(core + CORE_FLAGS) | UINT32_C(1) << between(random, 1, 31));
+    put_u32(core + CORE_FLAGS, get_u32(core + CORE_FLAGS) | reserved_flag(random));
+}
+
+/* They are checked there too (W-203). */
+static void reserved_flags_of_disabled(struct random *random, struct board *board)
+{
+    uint8_t *core = some(random, board, CORE);
+
+    put_u32(core + CORE_FLAGS, reserved_flag(random));
 }
 
 /* 71 to 77. Of several fields out of their range the lowest number is told, so some ways break more than the field they name. */
@@ -408,7 +460,7 @@ static void have(struct random *random, struct board *board, enum kind kind, siz
 static void surplus_core_with_flags(struct random *random, struct board *board)
 {
     have(random, board, CORE, CORES_MAX);
-    append_structure(board, make_core(random, 0, 0, UINT32_C(1) << between(random, 1, 31)));
+    append_structure(board, make_core(random, 0, 0, reserved_flag(random)));
 }
 
 static void surplus_cascade(struct random *random, struct board *board)
@@ -480,6 +532,15 @@ static void too_many_cores(struct random *random, struct board *board)
     have(random, board, CORE, CORES_MAX + 1);
 }
 
+/* Those that are disabled count as well. */
+static void too_many_spare_cores(struct random *random, struct board *board)
+{
+    have(random, board, CORE, CORES_MAX + 1);
+    make_all_spare(random, board);
+    if (one_in(random, 2))
+        enable(some(random, board, CORE));
+}
+
 static void two_lios(struct random *random, struct board *board)
 {
     have(random, board, LIO, 2);
@@ -507,12 +568,30 @@ static void two_lpcs(struct random *random, struct board *board)
 
 /* ---- 39 to 54: the board as a whole ---- */
 
+/*
+ * Two enabled CORE have an ID in common (W-203). Spare ones that have it too are around them: a reader that names one of
+ * these, compares with one or stops at one gives another place or another number.
+ */
+
 static void repeated_id(struct random *random, struct board *board)
 {
     struct pair cores = some_two(random, board, CORE, CORES_MAX);
     size_t field = one_in(random, 2) ? CORE_UID : CORE_PHYSICAL_ID;
+    uint32_t id = get_u32(cores.first + field);
 
-    memcpy(cores.second + field, cores.first + field, 4);
+    put_u32(cores.second + field, id);
+    enable(cores.first);
+    enable(cores.second);
+    insert_spares(random, board, field, id);
+}
+
+static void all_alike_two_enabled(struct random *random, struct board *board)
+{
+    struct pair cores = some_two(random, board, CORE, CORES_MAX);
+
+    make_all_spare(random, board);
+    enable(cores.first);
+    enable(cores.second);
 }
 
 static void none_enabled(struct random *random, struct board *board)
@@ -755,6 +834,7 @@ const struct way madt_ways[] = {
     {33, "structure version", .in_board = wrong_structure_version},
     {34, "HT", .in_board = ht},
     {35, "reserved CORE flags", .in_board = reserved_flags},
+    {35, "reserved flags of a disabled CORE", .in_board = reserved_flags_of_disabled},
     {35, "reserved flags of the 257th CORE", .in_board = surplus_core_with_flags},
     {71, "LIO cascade", .in_board = lio_cascade},
     {71, "LIO cascade, and masks that share a bit", .in_board = lio_cascade_and_shared_bit},
@@ -784,13 +864,16 @@ const struct way madt_ways[] = {
     {37, "LIO masks share a bit", .in_board = masks_share_a_bit},
     {37, "second LIO whose masks share a bit", .in_board = surplus_lio_with_shared_bit},
     {38, "257 CORE", .in_board = too_many_cores},
+    {38, "257 CORE, alike, at most one of them enabled", .in_board = too_many_spare_cores},
     {38, "two LIO", .in_board = two_lios},
     {38, "five EIO", .in_board = too_many_eios},
     {38, "five MSI", .in_board = too_many_msis},
     {38, "five BIO", .in_board = too_many_bios},
     {38, "two LPC", .in_board = two_lpcs},
     {39, "repeated ID", .in_board = repeated_id},
+    {39, "all CORE alike, two of them enabled", .in_board = all_alike_two_enabled},
     {40, "no enabled CORE", .in_board = none_enabled},
+    {40, "all CORE alike, none of them enabled", .in_board = make_all_spare},
     {40, "no LIO", .in_board = no_lio},
     {40, "no EIO", .in_board = no_eio},
     {41, "repeated node", .in_board = repeated_node},
