@@ -2,16 +2,22 @@
 use mathlib.Core.Path.{_≡_, refl}
 use mathlib.Core.Bool.{Bool, true, false}
 use mathlib.Core.List.{List, [], _∷_, _++_}
-use Prim.Native.Nat.{ℕ, _+_, _≤_, _<_}
+use Prim.Native.Nat.{ℕ, _+_, _%_, _≤_, _<_}
+use native.Mathlib.Omega.{arith}
 use lib.ListN.{length}
-use Rattle.words.specs.Bytes.{partAt}
+use Rattle.words.specs.Bytes.{byteAt, numberAt, partAt}
 use Rattle.words.specs.Choice.{if}
 use Rattle.words.specs.Lists.{those}
 use Rattle.words.proofs.Choices.{yes-if, no-if}
 use Rattle.kinds.specs.Makers.{coreOf}
 use Rattle.madt.specs.Pieces.{Piece, whole, cut, Whole, pieces, structures}
 use Rattle.madt.proofs.Pieces.{sizeAt, pieces-end, pieces-cut, pieces-next}
-use Rattle.processors.specs.Listing.{isEnabledCore, enabledCores, listed, numbersOf, entriesOf, countOf}
+use Rattle.processors.specs.Listing.{isEnabledCore, enabledCores, listed, numbersOf, entriesOf}
+
+-- bit 0 of the flags is in their first byte
+pub lowest-bit : (s : List ℕ) → byteAt s 11 % 2 ≡ coreOf s .flags % 2
+unfolding coreOf numberAt
+lowest-bit s = omega arith
 
 -- what a structure adds to them
 abbrev pub alone : ℕ → List ℕ → List Whole
@@ -29,20 +35,12 @@ module _ (at : ℕ) (s : List ℕ) where
   unfolding added
   added-one h = yes-if _ _ _ h
 
-  -- as numbers, and how many
+  -- as numbers
   pub added-numbers : numbersOf (listed (added at s)) ≡ entriesOf s
   unfolding added numbersOf entriesOf if
   added-numbers = go (isEnabledCore s)
     where
       go : (b : Bool) → numbersOf (listed (if b (alone at s) [])) ≡ if b (coreOf s .uid ∷ coreOf s .id ∷ []) []
-      go true = refl
-      go false = refl
-
-  pub added-count : length (added at s) ≡ countOf s
-  unfolding added countOf if
-  added-count = go (isEnabledCore s)
-    where
-      go : (b : Bool) → length (if b (alone at s) []) ≡ if b 1 0
       go true = refl
       go false = refl
 

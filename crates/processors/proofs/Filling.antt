@@ -15,8 +15,8 @@ use Rattle.words.proofs.Those.{length-map}
 use Rattle.kinds.specs.Makers.{coreOf}
 use Rattle.madt.specs.Pieces.{Whole, pieces}
 use Rattle.madt.proofs.Pieces.{sizeAt}
-use Rattle.processors.specs.Listing.{Processor, isEnabledCore, enabledCores, idsOf, listed, numbersOf, processors, count, entriesOf, countOf, hasRoom, written, filled, filling}
-use Rattle.processors.proofs.Cores.{added, added-numbers, added-count, cores-end, cores-cut, cores-next}
+use Rattle.processors.specs.Listing.{Processor, isEnabledCore, enabledCores, idsOf, listed, numbersOf, processors, count, entriesOf, hasRoom, written, filled, filling}
+use Rattle.processors.proofs.Cores.{added, added-none, added-one, added-numbers, cores-end, cores-cut, cores-next}
 use Rattle.processors.specs.declared.Filled.{Filled}
 use Rattle.processors.specs.declared.Filled.the-variants as fillings
 
@@ -61,13 +61,23 @@ module _ {table : List ℕ} {sofar at : ℕ} (inv : Counting table sofar at) whe
   pub count-cut : at < length table → sizeAt table at ≡ 0 → sofar ≡ count table
   count-cut more h = sym (add-zero sofar) ∙ (rw (cores-cut table at more h) at (inv .rest))
 
-  pub count-next : {one size : ℕ} → size ≡ sizeAt table at → (size ≡ 0 → ⊥) → one ≡ countOf (partAt table at size) → one ≤ 1
-      → Counting table (sofar + one) (at + size)
-  count-next {one} {size} e more o least =
-      let before : sofar ≤ at = inv .small in
-      let here = added-count at (partAt table at size) in
-      let all = rw (cores-next table at (rw e at more), ← e, length-append) at (inv .rest) in
-      record { small = omega arith; rest = omega arith }
+  module _ {size : ℕ} (e : size ≡ sizeAt table at) (more : size ≡ 0 → ⊥) where
+    -- what is still to come, by the structure at hand
+    counted-on : {here : List Whole} → added at (partAt table at size) ≡ here
+        → sofar + (length here + length (enabledCores (pieces table (at + size)))) ≡ count table
+    counted-on h = rw (cores-next table at (rw e at more), ← e, h, length-append) at (inv .rest)
+
+    pub count-same : isEnabledCore (partAt table at size) ≡ false → Counting table sofar (at + size)
+    count-same h =
+        let before : sofar ≤ at = inv .small in
+        let all = counted-on (added-none at (partAt table at size) h) in
+        record { small = omega arith; rest = omega arith }
+
+    pub count-more : isEnabledCore (partAt table at size) ≡ true → Counting table (sofar + 1) (at + size)
+    count-more h =
+        let before : sofar ≤ at = inv .small in
+        let all = counted-on (added-one at (partAt table at size) h) in
+        record { small = omega arith; rest = omega arith }
 
 -- ---- writing
 pub sets-append : (l : List ℕ) (i : ℕ) (vs us : List ℕ) → sets l i (vs ++ us) ≡ sets (sets l i vs) (i + length vs) us

@@ -132,9 +132,9 @@ module _ (s : List ℕ) {s′ : List ℕ} {type : Bool} (e : s′ ≡ s) (t : ty
   unfolding isEnabledCore
   of-another-type none = rw (sym (ap (isType 17) e) ∙ sym t ∙ none)
 
-  pub by-its-flags : {core : Core} {live : Bool} → type ≡ true → core ≡ coreOf s → live ≡ isEnabled core → isEnabledCore s ≡ live
+  pub by-its-flags : {live : Bool} → type ≡ true → live ≡ isEnabled (coreOf s′) → isEnabledCore s ≡ live
   unfolding isEnabledCore
-  by-its-flags core-type c l = rw (sym (ap (isType 17) e) ∙ sym t ∙ core-type) (sym (l ∙ ap isEnabled c))
+  by-its-flags core-type l = rw (sym (ap (isType 17) e) ∙ sym t ∙ core-type) (sym (l ∙ ap (λ (x : List ℕ). isEnabled (coreOf x)) e))
 
 -- ---- the inner loop: is there one before `at` that shares an ID with p?
 abbrev pub isTwin : Processor → List ℕ → Bool

@@ -46,12 +46,9 @@ processors table = numbersOf (listed (enabledCores (pieces table 44)))
 unfoldable pub count : List ℕ → ℕ
 count table = length (enabledCores (pieces table 44))
 
--- what one structure adds to the list, and to the count
+-- what one structure adds to the list
 unfoldable pub entriesOf : List ℕ → List ℕ
 entriesOf s = if (isEnabledCore s) (coreOf s .uid ∷ coreOf s .id ∷ []) []
-
-unfoldable pub countOf : List ℕ → ℕ
-countOf s = if (isEnabledCore s) 1 0
 
 -- a list has room for entries
 unfoldable pub hasRoom : List ℕ → List ℕ → Bool

@@ -6,8 +6,12 @@ ghost use mathlib.Core.Path.{_≡_};
 ghost use Prim.Native.Nat.{_+_, _≤_};
 ghost use lib.ListN.{length};
 ghost use lib.Seq.{sets};
+ghost use Rattle.kinds.specs.Makers.{coreOf, isEnabled};
 ghost use Rattle.madt.specs.Rules.{isType};
-ghost use Rattle.processors.specs.Listing.{isEnabledCore, entriesOf, processors, countOf, count, written, filled, filling};
+ghost use Rattle.processors.specs.Listing.{isEnabledCore, entriesOf, processors, count, written, filled, filling};
+
+// Where a CORE says its flags.
+const FLAGS: usize = 11;
 
 // Whether a structure, given by its own bytes, is a CORE.
 pub(crate) fn is_core(structure: &[u8]) -> bool
@@ -16,20 +20,21 @@ pub(crate) fn is_core(structure: &[u8]) -> bool
     words::byte_at(structure, steps::TYPE) == Core::TYPE
 }
 
+// Whether a CORE is enabled. Bit 0 of its flags is in their first byte: the others need not be there to be read.
+pub(crate) fn is_enabled(structure: &[u8]) -> bool
+    ensures { λ r. ⌜ r ≡ isEnabled (coreOf (now (structure .entry))) ⌝ }
+{
+    words::byte_at(structure, FLAGS) % 2 == 1
+}
+
 // Whether it is an enabled CORE.
 pub(crate) fn is_enabled_core(structure: &[u8]) -> bool
     ensures { λ r. ⌜ r ≡ isEnabledCore (now (structure .entry)) ⌝ }
 {
-    let core = Core::from_bytes(structure);
-    is_core(structure) & core.is_enabled()
-}
-
-// 1 for an enabled CORE, 0 for any other structure.
-fn count_of(structure: &[u8]) -> usize
-    ensures { λ r. ⌜ r ≡ countOf (now (structure .entry)) ⌝ }
-    ensures { λ r. ⌜ r ≤ 1 ⌝ }
-{
-    if is_enabled_core(structure) { 1 } else { 0 }
+    if !is_core(structure) {
+        return false;
+    }
+    is_enabled(structure)
 }
 
 // How many processors of a MADT are enabled.
@@ -43,7 +48,9 @@ pub fn count(table: &[u8]) -> usize
         if size == 0 {
             return count;
         }
-        count += count_of(words::part(table, at, size));
+        if is_enabled_core(words::part(table, at, size)) {
+            count += 1;
+        }
         at += size;
     }
     count

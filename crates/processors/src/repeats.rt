@@ -32,8 +32,7 @@ fn is_twin(core: Core, structure: &[u8]) -> bool
     if !list::is_core(structure) {
         return false;
     }
-    let other = Core::from_bytes(structure);
-    other.is_enabled() & share_id(core, other)
+    list::is_enabled(structure) & share_id(core, Core::from_bytes(structure))
 }
 
 // A number above another, and above a bound that stays if it is the higher one.
@@ -80,15 +79,16 @@ pub fn first_repeat(table: &[u8]) -> Repeat
         if size == 0 {
             break;
         }
-        if !list::is_core(words::part(table, at, size)) {
+        let structure = words::part(table, at, size);
+        if !list::is_core(structure) {
             at += size;
             continue;
         }
-        let core = Core::from_bytes(words::part(table, at, size));
-        if !core.is_enabled() {
+        if !list::is_enabled(structure) {
             at += size;
             continue;
         }
+        let core = Core::from_bytes(structure);
         let mut earlier = search_from(seen, core, at);
         while earlier < at {
             let length = steps::size_at(table, earlier);

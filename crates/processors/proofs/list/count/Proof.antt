@@ -1,8 +1,9 @@
--- `count` adds up what each structure counts.
+-- `count` counts each structure that is an enabled CORE.
 use mathlib.Core.Path.{sym, _∙_}
+use mathlib.Core.Logic.{⊎-elim}
 use Prim.Native.Nat.{_-_}
 use lib.ListN.{length}
-use Rattle.processors.proofs.Filling.{Counting, count-start, count-end, count-cut, count-next}
+use Rattle.processors.proofs.Filling.{Counting, count-start, count-end, count-cut, count-same, count-more}
 use borrow.Author.Needs.{needs}
 use Rattle.processors.proofs.list.count.Statement.{statement}
 use Rattle.processors.proofs.list.count.Tie as tie
@@ -25,11 +26,11 @@ returns c = count-cut (c .before .before .before .loop .inv) (c .before .before 
 part-requires : tie.Need-part-requires Inv-loop μ-loop
 part-requires c κs = search needs
 
-count-of-requires : tie.Need-count-of-requires Inv-loop μ-loop
-count-of-requires c κs = search needs
+is-enabled-core-requires : tie.Need-is-enabled-core-requires Inv-loop μ-loop
+is-enabled-core-requires c κs = search needs
 
 add-count : tie.Need-add-count Inv-loop μ-loop
-add-count c = let small = c .before .before .before .before .before .loop .inv .small in search needs
+add-count c = search needs
 
 add-at : tie.Need-add-at Inv-loop μ-loop
 add-at c = search needs
@@ -39,8 +40,12 @@ loop-less c = search needs
 
 loop-again : tie.Need-loop-again Inv-loop μ-loop
 loop-again c =
-    count-next (c .before .before .before .before .before .loop .inv) (c .before .before .before .size-at .ensures .0) (c .before .before .if1 .left)
-    (rw (c .count-of .ensures .0, c .before .part .ensures)) (c .count-of .ensures .1)
+    let size = c .before .before .before .before .size-at .ensures .0 in
+    let told = sym (rw (c .before .before .part .ensures) at (c .before .is-enabled-core .ensures)) in
+    ⊎-elim
+    (λ w. rw (w .1) (count-more (c .before .before .before .before .before .before .loop .inv) size (c .before .before .before .if1 .left) (told ∙ w .0 .taken)))
+    (λ w. rw (w .1) (count-same (c .before .before .before .before .before .before .loop .inv) size (c .before .before .before .if1 .left) (told ∙ w .0 .left)))
+    (c .if2 .came)
 
 returns-2 : tie.Need-returns-2 Inv-loop μ-loop
 returns-2 c = count-end (c .before .loop .inv) (c .loop-test .left)
@@ -55,7 +60,7 @@ count-spec =
     size-at-requires
     returns
     part-requires
-    count-of-requires
+    is-enabled-core-requires
     add-count
     add-at
     loop-less

@@ -46,14 +46,9 @@ table-less c = search needs
 table-again : tie.Need-table-again Inv-loop μ-loop Inv-table μ-table
 table-again c =
     let size = c .before .before .before .before .size-at .ensures .0 in
-    let told = of-another-type _ (rw size at (c .before .before .part .ensures)) (c .before .is-core .ensures) (not-true _ (c .if2 .taken)) in
+    let here = rw size at (c .before .before .part .ensures) in
+    let told = of-another-type _ here (c .before .is-core .ensures) (not-true _ (c .if2 .taken)) in
     skip (c .before .before .before .before .before .before .table .inv) (λ h. c .before .before .before .if1 .left (size ∙ h)) told (rw size)
-
-part-requires-2 : tie.Need-part-requires-2 Inv-loop μ-loop Inv-table μ-table
-part-requires-2 c κs = search needs
-
-from-bytes-requires : tie.Need-from-bytes-requires Inv-loop μ-loop Inv-table μ-table
-from-bytes-requires c κs = search needs
 
 is-enabled-requires : tie.Need-is-enabled-requires Inv-loop μ-loop Inv-table μ-table
 is-enabled-requires c κs = search needs
@@ -66,23 +61,26 @@ table-less-2 c = search needs
 
 table-again-2 : tie.Need-table-again-2 Inv-loop μ-loop Inv-table μ-table
 table-again-2 c =
-    let size = c .before .before .before .before .before .before .before .before .size-at .ensures .0 in
-    let core = c .before .before .from-bytes .ensures ∙ ap coreOf (rw size at (c .before .before .before .part2 .ensures)) in
-    let type = not-false _ (c .before .before .before .before .if2 .left) in
-    let told = by-its-flags _ (rw size at (c .before .before .before .before .before .before .part .ensures)) (c .before .before .before .before .before .is-core .ensures) type core (c .before .is-enabled .ensures) in
-    skip (c .before .before .before .before .before .before .before .before .before .before .table .inv) (λ h. c .before .before .before .before .before .before .before .if1 .left (size ∙ h)) (told ∙ not-true _ (c .if3 .taken)) (rw size)
+    let size = c .before .before .before .before .before .before .size-at .ensures .0 in
+    let here = rw size at (c .before .before .before .before .part .ensures) in
+    let type = not-false _ (c .before .before .if2 .left) in
+    let told = by-its-flags _ here (c .before .before .before .is-core .ensures) type (c .before .is-enabled .ensures) in
+    skip (c .before .before .before .before .before .before .before .before .table .inv) (λ h. c .before .before .before .before .before .if1 .left (size ∙ h)) (told ∙ not-true _ (c .if3 .taken)) (rw size)
+
+from-bytes-requires : tie.Need-from-bytes-requires Inv-loop μ-loop Inv-table μ-table
+from-bytes-requires c κs = search needs
 
 search-from-requires : tie.Need-search-from-requires Inv-loop μ-loop Inv-table μ-table
 search-from-requires c κs = search needs
 
 loop-holds : tie.Need-loop-holds Inv-loop μ-loop Inv-table μ-table
-loop-holds c = enter (c .before .before .before .before .before .before .before .before .before .before .before .table .inv) (c .search-from .ensures)
+loop-holds c = enter (c .before .before .before .before .before .before .before .before .before .before .table .inv) (c .search-from .ensures)
 
 size-at-requires-2 : tie.Need-size-at-requires-2 Inv-loop μ-loop Inv-table μ-table
 size-at-requires-2 c κs = search needs
 
-part-requires-3 : tie.Need-part-requires-3 Inv-loop μ-loop Inv-table μ-table
-part-requires-3 c κs = search needs
+part-requires-2 : tie.Need-part-requires-2 Inv-loop μ-loop Inv-table μ-table
+part-requires-2 c κs = search needs
 
 is-twin-requires : tie.Need-is-twin-requires Inv-loop μ-loop Inv-table μ-table
 is-twin-requires c κs = search needs
@@ -100,7 +98,7 @@ loop-less c =
 loop-again : tie.Need-loop-again Inv-loop μ-loop Inv-table μ-table
 loop-again c =
     let size = c .before .before .before .size-at2 .ensures .0 in
-    let told = twin-told _ _ (rw size at (c .before .before .part3 .ensures)) (c .before .is-twin .ensures) in
+    let told = twin-told _ _ (rw size at (c .before .before .part2 .ensures)) (c .before .is-twin .ensures) in
     pass (c .before .before .before .before .before .loop .inv) (c .before .before .before .before .loop-test .taken) (told ∙ c .if4 .left) (rw size)
 
 seen-with-requires : tie.Need-seen-with-requires Inv-loop μ-loop Inv-table μ-table
@@ -114,12 +112,12 @@ table-less-3 c = search needs
 
 table-again-3 : tie.Need-table-again-3 Inv-loop μ-loop Inv-table μ-table
 table-again-3 c =
-    let size = c .before .before .before .before .before .before .before .before .before .before .before .before .size-at .ensures .0 in
-    let core = c .before .before .before .before .before .before .from-bytes .ensures ∙ ap coreOf (rw size at (c .before .before .before .before .before .before .before .part2 .ensures)) in
-    let type = not-false _ (c .before .before .before .before .before .before .before .before .if2 .left) in
-    let told = by-its-flags _ (rw size at (c .before .before .before .before .before .before .before .before .before .before .part .ensures)) (c .before .before .before .before .before .before .before .before .before .is-core .ensures) type core (c .before .before .before .before .before .is-enabled .ensures) in
-    leave (c .before .before .before .before .before .before .before .before .before .before .before .before .before .before .table .inv) (λ h. c .before .before .before .before .before .before .before .before .before .before .before .if1 .left (size ∙ h)) (told ∙ not-false _ (c .before .before .before .before .if3 .left))
-    (c .before .before .loop .inv) (c .before .loop-test .left) core (c .seen-with .ensures) (rw size)
+    let size = c .before .before .before .before .before .before .before .before .before .before .before .size-at .ensures .0 in
+    let here = rw size at (c .before .before .before .before .before .before .before .before .before .part .ensures) in
+    let type = not-false _ (c .before .before .before .before .before .before .before .if2 .left) in
+    let told = by-its-flags _ here (c .before .before .before .before .before .before .before .before .is-core .ensures) type (c .before .before .before .before .before .before .is-enabled .ensures) in
+    leave (c .before .before .before .before .before .before .before .before .before .before .before .before .before .table .inv) (λ h. c .before .before .before .before .before .before .before .before .before .before .if1 .left (size ∙ h)) (told ∙ not-false _ (c .before .before .before .before .before .if3 .left))
+    (c .before .before .loop .inv) (c .before .loop-test .left) (c .before .before .before .before .from-bytes .ensures ∙ ap coreOf here) (c .seen-with .ensures) (rw size)
 
 returns : tie.Need-returns Inv-loop μ-loop Inv-table μ-table
 returns c = past (c .before .table .inv) (c .table-test .left)
@@ -129,12 +127,13 @@ returns-2 c = stopped (c .before .before .before .table .inv) (c .before .before
 
 returns-3 : tie.Need-returns-3 Inv-loop μ-loop Inv-table μ-table
 returns-3 c =
-    let size = c .before .before .before .before .before .before .before .before .before .before .before .before .before .before .before .size-at .ensures .0 in
-    let core = c .before .before .before .before .before .before .before .before .before .from-bytes .ensures ∙ ap coreOf (rw size at (c .before .before .before .before .before .before .before .before .before .before .part2 .ensures)) in
-    let type = not-false _ (c .before .before .before .before .before .before .before .before .before .before .before .if2 .left) in
-    let told = by-its-flags _ (rw size at (c .before .before .before .before .before .before .before .before .before .before .before .before .before .part .ensures)) (c .before .before .before .before .before .before .before .before .before .before .before .before .is-core .ensures) type core (c .before .before .before .before .before .before .before .before .is-enabled .ensures) in
-    let twin = twin-told _ _ (rw (c .before .before .before .size-at2 .ensures .0) at (c .before .before .part3 .ensures)) (c .before .is-twin .ensures) in
-    named (c .before .before .before .before .before .before .before .before .before .before .before .before .before .before .before .before .before .table .inv) (λ h. c .before .before .before .before .before .before .before .before .before .before .before .before .before .before .if1 .left (size ∙ h)) (told ∙ not-false _ (c .before .before .before .before .before .before .before .if3 .left)) core
+    let size = c .before .before .before .before .before .before .before .before .before .before .before .before .before .before .size-at .ensures .0 in
+    let here = rw size at (c .before .before .before .before .before .before .before .before .before .before .before .before .part .ensures) in
+    let type = not-false _ (c .before .before .before .before .before .before .before .before .before .before .if2 .left) in
+    let told = by-its-flags _ here (c .before .before .before .before .before .before .before .before .before .before .before .is-core .ensures) type (c .before .before .before .before .before .before .before .before .before .is-enabled .ensures) in
+    let twin = twin-told _ _ (rw (c .before .before .before .size-at2 .ensures .0) at (c .before .before .part2 .ensures)) (c .before .is-twin .ensures) in
+    named (c .before .before .before .before .before .before .before .before .before .before .before .before .before .before .before .before .table .inv) (λ h. c .before .before .before .before .before .before .before .before .before .before .before .before .before .if1 .left (size ∙ h)) (told ∙ not-false _ (c .before .before .before .before .before .before .before .before .if3 .left))
+    (c .before .before .before .before .before .before .before .from-bytes .ensures ∙ ap coreOf here)
     (caught (c .before .before .before .before .before .loop .inv) (c .before .before .before .before .loop-test .taken) (twin ∙ c .if4 .taken))
 
 pub first-repeat-spec : {M : Type 1} → statement M
@@ -152,16 +151,15 @@ first-repeat-spec =
     add-at
     table-less
     table-again
-    part-requires-2
-    from-bytes-requires
     is-enabled-requires
     add-at-2
     table-less-2
     table-again-2
+    from-bytes-requires
     search-from-requires
     loop-holds
     size-at-requires-2
-    part-requires-3
+    part-requires-2
     is-twin-requires
     add-earlier
     loop-less
