@@ -10,7 +10,7 @@ use Rattle.words.specs.Choice.{if}
 use Rattle.words.specs.Lists.{those}
 use Rattle.words.proofs.Choices.{yes-if, no-if}
 use Rattle.kinds.specs.Makers.{coreOf}
-use Rattle.madt.specs.Pieces.{Piece, whole, cut, Whole, pieces, structures}
+use Rattle.madt.specs.Pieces.{Piece, whole, Whole, pieces, structures}
 use Rattle.madt.proofs.Pieces.{sizeAt, pieces-end, pieces-cut, pieces-next}
 use Rattle.processors.specs.Listing.{isEnabledCore, enabledCores, listed, numbersOf, entriesOf}
 
@@ -20,7 +20,7 @@ unfolding coreOf numberAt
 lowest-bit s = omega arith
 
 -- what a structure adds to them
-abbrev pub alone : ℕ → List ℕ → List Whole
+abbrev alone : ℕ → List ℕ → List Whole
 alone at s = record { at = at; bytes = s } ∷ []
 
 unfoldable pub added : ℕ → List ℕ → List Whole

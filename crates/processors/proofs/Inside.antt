@@ -1,10 +1,10 @@
 -- The CORE that repeats an ID stands inside the table.
 use mathlib.Core.Path.{_≡_, refl, _∙_}
-use mathlib.Core.List.{List, [], _∷_, map}
+use mathlib.Core.List.{List, [], _∷_}
 use Prim.Native.Nat.{ℕ, zero, suc, _+_, _<_}
 use native.Mathlib.Nat.{zero-add}
 use native.Mathlib.Omega.{arith}
-use lib.ListN.{length, getD}
+use lib.ListN.{length}
 use Rattle.words.specs.Bytes.{partAt}
 use Rattle.words.specs.Lists.{those, numbersBelow}
 use Rattle.words.proofs.Choices.{if-cases}
@@ -16,19 +16,19 @@ use Rattle.tables.specs.declared.Step.the-variants.{End, Structure, Broken}
 use Rattle.madt.specs.Pieces.{Piece, Whole, pieceAt, piecesFrom, pieces, structures}
 use Rattle.madt.proofs.Pieces.{step-inside}
 use Rattle.processors.specs.Listing.{enabledCores, listed}
-use Rattle.processors.specs.Repeats.{firstRepeating, firstRepeat}
+use Rattle.processors.specs.Repeats.{firstRepeating, offsetOf, firstRepeat}
 use Rattle.processors.specs.declared.Repeat.{Repeat}
 use Rattle.processors.specs.declared.Repeat.the-variants.{At, Nowhere}
 
-not-at : {at : ℕ} → _≡_ {A = Repeat} Nowhere (At at) → ⊥
+pub not-at : {at : ℕ} → _≡_ {A = Repeat} Nowhere (At at) → ⊥
 not-at e = let o : _≡_ {A = ℕ} 0 1 = cc in omega arith
 
-same-at : {a b : ℕ} → _≡_ {A = Repeat} (At a) (At b) → a ≡ b
+pub same-at : {a b : ℕ} → _≡_ {A = Repeat} (At a) (At b) → a ≡ b
 same-at e = cc
 
 -- each of some structures begins before the table's end
 abbrev AllInside : List ℕ → List Whole → Type 0
-AllInside table cores = (k : ℕ) → k < length cores → getD (map (λ (x : Whole). x .at) cores) k 0 < length table
+AllInside table cores = (k : ℕ) → k < length cores → offsetOf cores k < length table
 
 none-inside : (table : List ℕ) → AllInside table []
 none-inside table k l = absurd (omega arith)
@@ -52,8 +52,7 @@ unfolding enabledCores structures those piecesFrom
 cores-from zero table at = none-inside table
 cores-from (suc n) table at = cores-at table at (stepAt table at) _ refl (λ size. cores-from n table (at + size))
 
-pub cores-inside : (table : List ℕ) (k : ℕ) → k < length (enabledCores (pieces table 44))
-    → getD (map (λ (x : Whole). x .at) (enabledCores (pieces table 44))) k 0 < length table
+cores-inside : (table : List ℕ) → AllInside table (enabledCores (pieces table 44))
 unfolding pieces
 cores-inside table = cores-from (length table) table 44
 

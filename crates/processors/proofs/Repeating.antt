@@ -3,14 +3,12 @@ use mathlib.Core.Path.{_≡_, refl, sym, ap, _∙_}
 use mathlib.Core.Bool.{Bool, true, false, _&&_, true≢false}
 use mathlib.Core.List.{List, [], _∷_, _++_, map, map-append, append-assoc}
 use mathlib.Core.Logic.{_⊎_, inl, inr}
-use Prim.Native.Nat.{ℕ, zero, suc, _+_, _-_, _≤_, _<_}
+use Prim.Native.Nat.{ℕ, suc, _+_, _-_, _≤_, _<_}
 use native.Mathlib.Omega.{arith}
-use native.Mathlib.Numerals.{add-one}
 use borrow.Author.Tests.{ne-eqb}
-use lib.ListN.{length, getD, take, length-append}
+use lib.ListN.{length, take, length-append}
 use lib.Seq.{take-append-seam, getD-append-seam}
 use Rattle.words.specs.Bytes.{partAt}
-use Rattle.words.specs.Choice.{if}
 use Rattle.words.specs.Lists.{first, numbersFrom, numbersBelow}
 use Rattle.words.proofs.Choices.{no-if, passed}
 use Rattle.words.proofs.Searches.{Searching, search-hit, search-miss, search-over}
@@ -21,11 +19,11 @@ use Rattle.madt.specs.Rules.{isType}
 use Rattle.madt.specs.Pieces.{Whole, pieces}
 use Rattle.madt.proofs.Pieces.{sizeAt}
 use Rattle.processors.specs.Listing.{Processor, isEnabledCore, enabledCores, idsOf, listed}
-use Rattle.processors.specs.Repeats.{shareId, sharesWithOne, noProcessor, repeatsId, firstRepeating, firstRepeat}
+use Rattle.processors.specs.Repeats.{shareId, sharesWithOne, noProcessor, repeatsId, firstRepeating, offsetOf, firstRepeat}
 use Rattle.processors.specs.declared.repeats.Seen.{Seen}
 use Rattle.processors.specs.declared.Repeat.{Repeat}
 use Rattle.processors.specs.declared.Repeat.the-variants.{At, Nowhere}
-use Rattle.processors.proofs.Cores.{alone, added, added-none, added-one, cores-end, cores-cut, cores-next}
+use Rattle.processors.proofs.Cores.{added, added-none, added-one, cores-end, cores-cut, cores-next}
 
 -- ---- the way through a table
 -- `to` is an offset at which the steps from `from` arrive
@@ -78,7 +76,7 @@ unfolding way
 way-over here l = refl
 way-over (on more r) l = let rest = reach-upto r in absurd (more (omega arith))
 
--- what stands in front of those from an offset on, are those before it
+-- whatever stands in front of those from an offset on is all of those before it
 in-front : (table : List ℕ) (at : ℕ) (front : List Whole) → all table ≡ front ++ behind table at → before table at ≡ front
 in-front table at front e =
     let n : length (all table) - length (behind table at) ≡ length front = omega (arith, ap length e, length-append front (behind table at)) in
@@ -100,13 +98,13 @@ shares-in-two (o ∷ ps) qs p e f =
     no-if _ _ _ (h .0) (shares-in-two ps qs p (h .1) f)
 
 -- one with lower IDs
-not-shared : (p q : Processor) → q .uid < p .uid → q .id < p .id → sharesWithOne (q ∷ []) p ≡ false
+lower-not-shared : (p q : Processor) → q .uid < p .uid → q .id < p .id → sharesWithOne (q ∷ []) p ≡ false
 unfolding sharesWithOne first
-not-shared p q u i = no-if _ _ _ (rw (ne-eqb (p .uid) (q .uid) (λ h. omega arith), ne-eqb (p .id) (q .id) (λ h. omega arith))) refl
+lower-not-shared p q u i = no-if _ _ _ (rw (ne-eqb (p .uid) (q .uid) (λ h. omega arith), ne-eqb (p .id) (q .id) (λ h. omega arith))) refl
 
 -- ---- one CORE between others
 module _ (cores front : List Whole) (x : Whole) (back : List Whole) (e : cores ≡ front ++ (x ∷ back)) where
-  pub repeats-at-seam : repeatsId (listed cores) (length front) ≡ sharesWithOne (listed front) (idsOf (coreOf (x .bytes)))
+  repeats-at-seam : repeatsId (listed cores) (length front) ≡ sharesWithOne (listed front) (idsOf (coreOf (x .bytes)))
   unfolding repeatsId
   repeats-at-seam =
       rw (
@@ -117,7 +115,7 @@ module _ (cores front : List Whole) (x : Whole) (back : List Whole) (e : cores �
         getD-append-seam (listed front) (idsOf (coreOf (x .bytes))) (listed back) noProcessor,
       ) refl
 
-  pub offset-at-seam : getD (map (λ (y : Whole). y .at) cores) (length front) 0 ≡ x .at
+  offset-at-seam : offsetOf cores (length front) ≡ x .at
   offset-at-seam =
       rw (e, map-append (λ (y : Whole). y .at) front (x ∷ back), ← length-map (λ (y : Whole). y .at) front)
       (getD-append-seam (map (λ (y : Whole). y .at) front) (x .at) (map (λ (y : Whole). y .at) back) 0)
@@ -193,14 +191,11 @@ module _ {table : List ℕ} {p : Processor} {at b : ℕ} {repeat : Repeat} (inv 
 abbrev pub Above : List ℕ → Seen → ℕ → Type 0
 Above table seen at = (p : Processor) → seen .uids ≤ p .uid → seen .ids ≤ p .id → sharesWithOne (listed (before table at)) p ≡ false
 
-abbrev offsetOf : List ℕ → ℕ → ℕ
-offsetOf table k = getD (map (λ (x : Whole). x .at) (all table)) k 0
-
 pub record Outer (table : List ℕ) (repeat : Repeat) (seen : Seen) (at : ℕ) : Type 0 where
   pub none : repeat ≡ Nowhere
   pub reach : Reach table at 44
   pub above : Above table seen at
-  pub rest : Searching (repeatsId (listed (all table))) (λ k. At (offsetOf table k)) Nowhere (firstRepeat table)
+  pub rest : Searching (repeatsId (listed (all table))) (λ k. At (offsetOf (all table) k)) Nowhere (firstRepeat table)
       (numbersFrom (length (before table at)) (length (behind table at)))
 
 pub start : (table : List ℕ) → Outer table Nowhere (record { uids = 0; ids = 0 }) 44
@@ -276,7 +271,7 @@ module _ {table : List ℕ} {at : ℕ} {repeat : Repeat} {seen : Seen} (inv : Ou
             above = λ p u v.
                 rw (one-more, map-append _ (before table at) (one ∷ []))
                 (shares-in-two (listed (before table at)) _ p (inv .above p (omega arith) (omega arith))
-                (not-shared p (idsOf (coreOf bytes)) (omega arith) (omega arith)));
+                (lower-not-shared p (idsOf (coreOf bytes)) (omega arith) (omega arith)));
             rest = search-miss (inv .rest) to-come (repeats-here ∙ (rw e at (lone i l)));
           })
 

@@ -6,7 +6,7 @@ use mathlib.Core.List.{List, map}
 use lib.Dec.{eqb}
 use lib.ListN.{length, getD, take}
 use Rattle.words.specs.Lists.{first, numbersBelow}
-use Rattle.madt.specs.Pieces.{pieces}
+use Rattle.madt.specs.Pieces.{Whole, pieces}
 use Rattle.processors.specs.Listing.{Processor, enabledCores, listed}
 use Rattle.processors.specs.declared.Repeat.{Repeat}
 use Rattle.processors.specs.declared.Repeat.the-variants.{At, Nowhere}
@@ -32,8 +32,12 @@ unfoldable pub firstRepeating : {R : Type 0} → (ℕ → R) → R → List Proc
 firstRepeating told none list = first (repeatsId list) told none (numbersBelow (length list))
 
 -- ---- "39 compares enabled entries alone"
+-- where structure k of some stands in the table
+abbrev pub offsetOf : List Whole → ℕ → ℕ
+offsetOf structures k = getD (map (λ x. x .at) structures) k 0
+
 -- the offset of the first enabled CORE of the MADT with some bytes that shares an ID with an earlier enabled one
 unfoldable pub firstRepeat : List ℕ → Repeat
 firstRepeat table =
     let cores = enabledCores (pieces table 44) in
-    firstRepeating (λ k. At (getD (map (λ x. x .at) cores) k 0)) Nowhere (listed cores)
+    firstRepeating (λ k. At (offsetOf cores k)) Nowhere (listed cores)

@@ -14,7 +14,7 @@ use Rattle.words.specs.Refusals.{refused, refusedWith, unless, firstRefusal}
 use Rattle.words.specs.declared.Refusal.{Refusal}
 use Rattle.words.specs.declared.Verdict.{Verdict}
 use Rattle.words.specs.declared.Verdict.the-variants.{Sound, Refused}
-use Rattle.words.proofs.Choices.{yes-if, if-cases}
+use Rattle.words.proofs.Choices.{yes-if}
 use Rattle.words.proofs.Searches.{search-found, search-none}
 use Rattle.words.proofs.Those.{length-map}
 use Rattle.words.proofs.Verdicts.{same-refusal, unless-refused, unless-sound, first-joined, joined-kept, both-sound}
@@ -28,11 +28,12 @@ use Rattle.lines.specs.declared.Map.{Map}
 use Rattle.madt.specs.Pieces.{Whole, pieces}
 use Rattle.madt.specs.Walk.{walkRules}
 use Rattle.madt.proofs.Accepted.{walk-verdict}
-use Rattle.processors.specs.Listing.{Processor, enabledCores, listed, numbersOf, processors, count, hasRoom, written, filled}
+use Rattle.processors.specs.Listing.{Processor, enabledCores, listed, processors, count, hasRoom, written, filled}
 use Rattle.processors.specs.Repeats.{repeatsId, firstRepeating, firstRepeat}
 use Rattle.processors.specs.declared.Repeat.{Repeat}
 use Rattle.processors.specs.declared.Repeat.the-variants.{At, Nowhere}
 use Rattle.processors.proofs.Filling.{twice-all}
+use Rattle.processors.proofs.Inside.{not-at, same-at}
 use Rattle.processors.proofs.Sharing.{shared, not-shared, at, repeats-some, repeats-none, uid-at, id-at}
 use Rattle.map_promises.specs.Clashing.{OnePlace, Exactly}
 use Rattle.reading.specs.Scan.{madtBytes, turnedDown, scan}
@@ -97,16 +98,10 @@ module _ (table : List ℕ) where
       ⊎-elim (λ e. differ .0 (sym (uid-told k) ∙ sym e ∙ uid-told i)) (λ e. differ .1 (sym (id-told k) ∙ sym e ∙ id-told i)) (r .3)
 
   -- what the search tells
-  not-nowhere : {offset : ℕ} → _≡_ {A = Repeat} Nowhere (At offset) → ⊥
-  not-nowhere e = let o : _≡_ {A = ℕ} 0 1 = cc in omega arith
-
-  same-at : {a b : ℕ} → _≡_ {A = Repeat} (At a) (At b) → a ≡ b
-  same-at e = cc
-
   repeat-named : (base : ℕ) {offset : ℕ} → firstRepeat table ≡ At offset → NamesRepeat table base (base + offset)
   unfolding firstRepeat firstRepeating numbersBelow
   repeat-named base {offset} h =
-      let hit = search-found (repeatsId ps) _ Nowhere (At offset) 0 (length ps) (length ps) (zero-add _) h not-nowhere in
+      let hit = search-found (repeatsId ps) _ Nowhere (At offset) 0 (length ps) (length ps) (zero-add _) h not-at in
       record {
         k = hit .at;
         repeats = repeated (hit .at) (hit .counted) (hit .taken);
@@ -118,7 +113,7 @@ module _ (table : List ℕ) where
   unfolding firstRepeat firstRepeating numbersBelow
   no-repeat h k r =
       not-repeated k
-      (search-none (repeatsId ps) _ Nowhere Nowhere 0 (length ps) k h (λ i t e. not-nowhere (sym e)) (omega arith) (omega (arith, counted, r .0)))
+      (search-none (repeatsId ps) _ Nowhere Nowhere 0 (length ps) k h (λ i t e. not-at (sym e)) (omega arith) (omega (arith, counted, r .0)))
       r
 
   all-differ : firstRepeat table ≡ Nowhere → AllDiffer (processors table) (count table)

@@ -2,7 +2,7 @@
 -- promised of 39 and of the lists that come back, in either reading. Each statement stands alone; proofs/Processors.antt has a theorem
 -- for it.
 use Prim.Native.Nat.{ℕ, _+_, _*_, _<_, _≤_}
-use mathlib.Core.List.{List, _++_, map}
+use mathlib.Core.List.{List, _++_}
 use mathlib.Core.Logic.{_⊎_}
 use mathlib.Core.Path.{_≡_}
 use lib.ListN.{getD}
@@ -13,6 +13,7 @@ use Rattle.tables.specs.declared.Strictness.{Strictness}
 use Rattle.madt.specs.Pieces.{pieces}
 use Rattle.madt.specs.Walk.{walkRules}
 use Rattle.processors.specs.Listing.{enabledCores, processors, count}
+use Rattle.processors.specs.Repeats.{offsetOf}
 use Rattle.map_promises.specs.Clashing.{OnePlace, Exactly}
 use Rattle.reading.specs.Scan.{madtBytes, scan}
 use Rattle.reading.specs.Reading.{madtFound, readingOf, listAfter}
@@ -54,7 +55,7 @@ pub record NamesRepeat (table : List ℕ) (base p : ℕ) : Type 0 where
   pub k : ℕ
   pub repeats : Repeats (processors table) (count table) k
   pub first : (j : ℕ) → Repeats (processors table) (count table) j → k ≤ j
-  pub at : p ≡ base + getD (map (λ x. x .at) (enabledCores (pieces table 44))) k 0
+  pub at : p ≡ base + offsetOf (enabledCores (pieces table 44)) k
 
 -- 39 is told exactly then, there, and with no second place: of what the capture is refused with, and of the reading's answer, whatever
 -- list it is lent

@@ -4,9 +4,7 @@ use native.Mathlib.Omega.{arith}
 use Prim.Native.Nat.{_-_}
 use lib.ListN.{length}
 use borrow.Author.Tests.{not-true, not-false}
-use Rattle.words.specs.Bytes.{partAt}
 use Rattle.kinds.specs.Makers.{coreOf}
-use Rattle.madt.proofs.Pieces.{sizeAt}
 use Rattle.processors.specs.Listing.{idsOf}
 use Rattle.processors.proofs.Repeating.{Inner, Outer, start, reach-size, pass, caught, past, stopped, skip, enter, leave, named, of-another-type, by-its-flags, twin-told}
 use borrow.Author.Needs.{needs}
