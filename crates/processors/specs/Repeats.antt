@@ -20,10 +20,11 @@ shareId p q = eqb (p .uid) (q .uid) || eqb (p .id) (q .id)
 unfoldable pub sharesWithOne : List Processor → Processor → Bool
 sharesWithOne others p = first (shareId p) (λ q. true) false others
 
--- processor k of a list shares an ID with one before it; past its end there is none
+-- past a list's end there is no processor
 abbrev pub noProcessor : Processor
 noProcessor = record { uid = 0; id = 0 }
 
+-- processor k of a list shares an ID with one before it
 unfoldable pub repeatsId : List Processor → ℕ → Bool
 repeatsId list k = sharesWithOne (take k list) (getD list k noProcessor)
 

@@ -87,7 +87,7 @@ pub record NothingBefore41 (strictness : Strictness) (capture : List ℕ) (t : T
   pub tables : survey strictness capture ≡ Found t
   -- 31 to 38 and 71 to 77, structure by structure
   pub structures : walkOf capture t .verdict ≡ Sound
-  -- no CORE repeats an ID, and one is enabled
+  -- no enabled CORE repeats an ID of an earlier one, and there is one
   pub r39 : firstRepeat (madtBytes capture (t .madt)) ≡ Nowhere
   pub r40core : count (madtBytes capture (t .madt)) ≡ 0 → ⊥
   -- the rest of 40, of the map that the walk found
