@@ -5,27 +5,24 @@
  *     bench BOARDS [emulated]
  *
  * A ratio is Yasmirand's time (instructions, stack) by that of reference.c as one compiler makes it. The program ends
- * with 0 if no row is slower than reference.c by gcc -O2 and Yasmirand needs less than 4 KiB of stack; the other columns
- * are for a reader to see. An emulator's times are not the machine's: there no row may execute more instructions.
+ * with 0 if no row's time is over its limit, a ratio beside gcc -O2, and Yasmirand needs less than 4 KiB of stack; the
+ * other columns are for a reader to see. An emulator's times are not the machine's: there the instructions are held to
+ * the limits.
  */
-#define _DEFAULT_SOURCE /* clock_gettime, sigaction, ucontext */
+#define _DEFAULT_SOURCE /* clock_gettime, sigaction */
 
 #include <signal.h>
 #include <stdbool.h>
 #include <stdio.h>
-#include <stdlib.h>
 #include <string.h>
 #include <time.h>
-#include <ucontext.h>
 #include <x86intrin.h>
 
-#include "board.h"
-#include "damage.h"
-#include "files.h"
-#include "random.h"
+#include "calls.h"
+#include "hard.h"
 #include "readers.h"
 #include "reference.h"
-#include "valid.h"
+#include "stack_depth.h"
 
 /* ---- Builds ---- */
 
@@ -54,9 +51,10 @@ struct measured {
     double yasmirand, build[BUILDS];
 };
 
-/* How many rows are above 1 × a build, for each. */
+/* Of some rows, how many are above 1 × a build, for each, and how many are over their limit. */
 struct above {
     size_t rows[BUILDS];
+    size_t limit;
 };
 
 static void print_head(const char *what)
@@ -67,33 +65,60 @@ static void print_head(const char *what)
     puts("");
 }
 
-/* One row, with the capture's length unless it is 0; counts the ratios above 1. */
-static void print_row(const char *what, size_t capture, int digits, struct measured row, struct above *above)
+/* The numbers of one row; counts the ratios above 1. */
+static void print_measured(int digits, const struct measured *measured, struct above *above)
 {
-    if (capture == 0)
-        printf("%-62s", what);
-    else
-        printf("%-52s %7zu B", what, capture);
-    printf(" %11.*f", digits, row.yasmirand);
+    printf(" %11.*f", digits, measured->yasmirand);
     for (size_t i = 0; i < BUILDS; i++) {
-        double ratio = row.yasmirand / row.build[i];
+        double ratio = measured->yasmirand / measured->build[i];
 
-        printf(" %11.*f %6.2f", digits, row.build[i], ratio);
+        printf(" %11.*f %6.2f", digits, measured->build[i], ratio);
         above->rows[i] += ratio > 1.0;
     }
-    puts("");
-    fflush(stdout);
 }
 
 /* ---- Rows ---- */
 
-enum question { READ, ROUTE, TRACE };
+static struct hard_capture captures[HARD_CAPTURES];
 
 struct row {
-    const char *what;
     enum question question;
-    const struct capture *capture;
+    enum hard capture;
+    double limit; /* how many times what gcc -O2 needs it may take */
 };
+
+/* No slower; but CORE that do not rise are compared each with each, and for this W-205 has Yasmirand read the table again. */
+#define NO_MORE 1.0
+#define ANY_ORDER 3.0
+
+static const struct row rows[] = {
+    {READ, BOARD_A, NO_MORE},
+    {READ, LARGE_TABLES, NO_MORE},
+    {READ, RISING, NO_MORE},
+    {READ, FALLING, ANY_ORDER},
+    {READ, RISING_AMONG_OTHERS, NO_MORE},
+    {READ, FALLING_AMONG_OTHERS, ANY_ORDER},
+    {READ, TWO_FAR_APART, NO_MORE},
+    {READ, SPARE_CORES, NO_MORE},
+    {READ, TABLE_NAMED_OFTEN, NO_MORE},
+    {READ, TOUCHING_SEGMENTS, NO_MORE},
+    {ROUTE, BOARD_A, NO_MORE},
+    {TRACE, BOARD_A, NO_MORE},
+};
+
+enum { ROWS = sizeof rows / sizeof rows[0] };
+
+static const char *name_of(const struct row *row)
+{
+    switch (row->question) {
+    case READ:
+        return captures[row->capture].what;
+    case ROUTE:
+        return "one route (board A, 72)";
+    default:
+        return "one trace (board A, vector 3, number 64)";
+    }
+}
 
 enum {
     ASKED_NUMBER = 72, /* of `route`: on board A it arrives (3, 8) */
@@ -101,115 +126,46 @@ enum {
     ASKED_ARRIVAL = 64,
 };
 
-static uint64_t ask(const struct reader *reader, enum question question, const struct capture *capture)
+/* What is asked about a capture. */
+static struct call call_about(const struct capture *capture, enum question question)
 {
-    static uint8_t list[8 * CORES_MAX];
-
     switch (question) {
     case READ:
-        return reader->read(capture->bytes, capture->length, list, sizeof list);
+        return (struct call){READ, capture, LONGEST_LIST, 0};
     case ROUTE:
-        return reader->route(capture->bytes, capture->length, ASKED_NUMBER);
+        return (struct call){ROUTE, capture, ASKED_NUMBER, 0};
     default:
-        return reader->trace(capture->bytes, capture->length, ASKED_VECTOR, ASKED_ARRIVAL);
+        return (struct call){TRACE, capture, ASKED_VECTOR, ASKED_ARRIVAL};
     }
 }
 
-/* Readers that do nothing: what remains is what the measuring itself takes. */
-static uint64_t read_nothing(const uint8_t *capture, size_t capture_len, uint8_t *list, size_t list_len)
+static struct call call_of(const struct row *row)
 {
-    (void)capture, (void)capture_len, (void)list, (void)list_len;
-    return 0;
+    return call_about(&captures[row->capture].capture, row->question);
 }
 
-static uint64_t route_nothing(const uint8_t *capture, size_t capture_len, uint32_t number)
+static uint64_t ask(const struct reader *reader, const struct row *row)
 {
-    (void)capture, (void)capture_len, (void)number;
-    return 0;
+    struct call call = call_of(row);
+
+    return make_call(reader, &call);
 }
 
-static uint64_t trace_nothing(const uint8_t *capture, size_t capture_len, uint32_t vector, uint32_t number)
+/* Time decides whether a row keeps its limit; under an emulator instructions do. */
+static bool emulated;
+
+/* One row, with its limit if its numbers decide; counts it if it is over. */
+static void print_row(const struct row *row, int digits, struct measured measured, bool decides, struct above *above)
 {
-    (void)capture, (void)capture_len, (void)vector, (void)number;
-    return 0;
-}
+    bool over = measured.yasmirand / measured.build[GCC_O2] > row->limit;
 
-static const struct reader idle = {"nothing", read_nothing, route_nothing, trace_nothing};
-
-/* A board with the controllers of board A and so many processors. */
-static void start_like_board_a(struct random *random, struct board *board, uint32_t processors)
-{
-    static const uint8_t cascades[2] = {2, 0};
-    static const uint32_t masks[2] = {0x00FFFFFF, 0};
-
-    start_board(random, board);
-    for (uint32_t i = 0; i < processors; i++)
-        append_structure(board, make_core(random, i, i, 1));
-    append_structure(board, make_lio(random, cascades, masks));
-    append_structure(board, make_eio(random, 3, 0, 1));
-    append_structure(board, make_msi(random, 64, 192));
-    append_structure(board, make_bio(random, 0, 64));
-    append_structure(board, make_lpc(random, 19));
-    board->sci = 75;
-}
-
-static struct board board;
-
-static void make_large_tables(struct random *random, struct capture *capture)
-{
-    start_like_board_a(random, &board, 2);
-    for (int i = 0; i < 4; i++)
-        add_entry(&board, board.entries, add_table(&board, "SSDT", 16000));
-    board.tail = CAPTURE_MAX - capture_length(&board);
-    lay_out(&board, capture);
-}
-
-static void make_many_processors(struct random *random, struct capture *capture)
-{
-    start_like_board_a(random, &board, CORES_MAX);
-    lay_out(&board, capture);
-}
-
-/*
- * The server of W-203: the CORE of its four processors stand far apart, and its firmware has filled all others, which are
- * disabled, with one and the same ID.
- */
-static void make_spare_cores(struct random *random, struct capture *capture)
-{
-    const size_t processors = 4, distance = (CORES_MAX - 1) / (processors - 1);
-    const uint32_t spare_id = UINT32_MAX;
-
-    start_like_board_a(random, &board, CORES_MAX);
-    for (size_t i = 0; i < CORES_MAX; i++)
-        if (i % distance != 0)
-            board.structure[i] = make_core(random, spare_id, spare_id, 0);
-    lay_out(&board, capture);
-}
-
-static void make_one_table_named_often(struct random *random, struct capture *capture)
-{
-    start_like_board_a(random, &board, 2);
-
-    size_t large = add_table(&board, "SSDT", 64000);
-
-    while (board.entries < ENTRIES_MAX)
-        add_entry(&board, board.entries, large);
-    lay_out(&board, capture);
-}
-
-/* Each of the four tables runs across four segments, and all sixteen touch (W-206). */
-static void make_touching_segments(struct random *random, struct capture *capture)
-{
-    const size_t parts = SEGMENTS_MAX / OTHERS;
-
-    start_like_board_a(random, &board, 2);
-    settle_lengths(&board);
-    for (size_t table = RSDP; table < OTHERS; table++) {
-        board.table[table].opens_segment = true;
-        for (size_t part = 1; part < parts; part++)
-            cut_table(&board, table, board.table[table].length * part / parts, 0);
-    }
-    lay_out(&board, capture);
+    printf("%-52s %7zu B", name_of(row), captures[row->capture].capture.length);
+    print_measured(digits, &measured, above);
+    if (decides)
+        printf("   %s %.1f x gcc -O2", over ? "OVER" : "limit", row->limit);
+    puts("");
+    above->limit += over;
+    fflush(stdout);
 }
 
 /* ---- Time ---- */
@@ -234,7 +190,7 @@ static double time_round(const struct row *row, const struct reader *reader, uns
     double start = now();
 
     for (unsigned long i = 0; i < times; i++)
-        last_answer = ask(reader, row->question, row->capture);
+        last_answer = ask(reader, row);
     return now() - start;
 }
 
@@ -263,13 +219,13 @@ static struct measured time_row(const struct row *row)
     return best;
 }
 
-static struct above time_rows(const struct row *rows, size_t count)
+static struct above time_rows(void)
 {
-    struct above above = {{0}};
+    struct above above = {{0}, 0};
 
     print_head("time, in microseconds");
-    for (size_t i = 0; i < count; i++)
-        print_row(rows[i].what, rows[i].capture->length, 2, time_row(&rows[i]), &above);
+    for (size_t i = 0; i < ROWS; i++)
+        print_row(&rows[i], 2, time_row(&rows[i]), !emulated, &above);
     return above;
 }
 
@@ -286,144 +242,98 @@ static void count_stop(int signal)
     stops = stops + 1;
 }
 
+/* The compiler is not to know whom it calls: so all are called alike, and what `idle` takes can be taken off exactly. */
 static long count_stops(const struct row *row, const struct reader *reader)
 {
+    const struct reader *volatile asked = reader;
+    struct call call = call_of(row);
+
     stops = 0;
     __writeeflags(__readeflags() | TRAP_FLAG);
-    last_answer = ask(reader, row->question, row->capture);
+    last_answer = make_call(asked, &call);
     __writeeflags(__readeflags() & ~(unsigned long long)TRAP_FLAG);
     return stops;
 }
 
-static struct above count_rows(const struct row *rows, size_t count)
+static struct above count_rows(void)
 {
     struct sigaction counting = {.sa_handler = count_stop};
-    struct above above = {{0}};
+    struct above above = {{0}, 0};
 
     sigaction(SIGTRAP, &counting, NULL);
     print_head("instructions executed");
-    for (size_t i = 0; i < count; i++) {
+    for (size_t i = 0; i < ROWS; i++) {
         long nothing = count_stops(&rows[i], &idle);
         struct measured row = {.yasmirand = (double)(count_stops(&rows[i], &yasmirand) - nothing)};
 
         for (size_t build = 0; build < BUILDS; build++)
             row.build[build] = (double)(count_stops(&rows[i], &builds[build]) - nothing);
-        print_row(rows[i].what, rows[i].capture->length, 0, row, &above);
+        print_row(&rows[i], 0, row, emulated, &above);
     }
     return above;
 }
 
 /* ---- Stack ---- */
 
-enum { STACK_ROOM = 32768, STACK_LIMIT = 4096, STACK_BOARDS = 500 };
-
-static uint8_t stack[STACK_ROOM];
-static ucontext_t outside, inside;
-
-/* What the call on the other stack asks. */
-static struct {
-    const struct reader *reader;
-    enum question question;
-    const struct capture *capture;
-} call;
-
-static void call_inside(void)
+static size_t greater(size_t one, size_t other)
 {
-    last_answer = ask(call.reader, call.question, call.capture);
-}
-
-/* How many bytes of a painted stack a call changes. */
-static size_t painted_over(uint8_t paint)
-{
-    size_t untouched = 0;
-
-    memset(stack, paint, sizeof stack);
-    getcontext(&inside);
-    inside.uc_stack.ss_sp = stack;
-    inside.uc_stack.ss_size = sizeof stack;
-    inside.uc_link = &outside;
-    makecontext(&inside, call_inside, 0);
-    swapcontext(&outside, &inside);
-    while (untouched < sizeof stack && stack[untouched] == paint)
-        untouched++;
-    return sizeof stack - untouched;
-}
-
-/* With two colours, as the deepest byte written may be of the colour of one. */
-static size_t depth(const struct reader *reader, enum question question, const struct capture *capture)
-{
-    call.reader = reader;
-    call.question = question;
-    call.capture = capture;
-
-    size_t one = painted_over(0xA5), other = painted_over(0x5A);
-
     return one > other ? one : other;
 }
 
-/* The stack that a reader needs below its caller's for one question, at most: for the rows' captures and for many others. */
-static size_t greatest_depth(const struct reader *reader, enum question question, const struct row *rows, size_t count)
+/* The stack that a reader needs for one question, at most: about the hard captures and many of every sort. */
+static size_t greatest_depth(const struct reader *reader, enum question question)
 {
-    static struct capture capture;
+    static struct capture varied;
     size_t greatest = 0;
 
-    for (size_t i = 0; i < count + STACK_BOARDS; i++) {
-        struct random random = random_for_case(1, i);
-        const struct way *way = pick_way(&random);
-        bool broken = one_in(&random, 2);
+    for (size_t i = 0; i < HARD_CAPTURES; i++) {
+        struct call call = call_about(&captures[i].capture, question);
 
-        make_valid_board(&random, &board);
-        lay_out_broken(&random, &board, &capture, &way, broken ? 1 : 0);
+        greatest = greater(greatest, measure_depth(reader, &call).bytes);
+    }
+    for (size_t i = 0; make_varied_capture(i, &varied) != NULL; i++) {
+        struct call call = call_about(&varied, question);
 
-        const struct capture *asked = i < count ? rows[i].capture : &capture;
-        size_t used = depth(reader, question, asked) - depth(&idle, question, asked);
-
-        greatest = used > greatest ? used : greatest;
+        greatest = greater(greatest, measure_depth(reader, &call).bytes);
     }
     return greatest;
 }
 
 /* Prints the stack that each call needs; gives whether all of Yasmirand's stay under the limit. */
-static bool measure_stacks(const struct row *rows, size_t count)
+static bool measure_stacks(void)
 {
-    static const char *const names[] = {[READ] = "read", [ROUTE] = "route", [TRACE] = "trace"};
-    struct above above = {{0}};
+    struct above above = {{0}, 0};
     bool under_limit = true;
 
     print_head("stack, in bytes");
-    for (enum question question = READ; question <= TRACE; question++) {
-        struct measured row = {.yasmirand = (double)greatest_depth(&yasmirand, question, rows, count)};
+    for (enum question question = READ; question < QUESTIONS; question++) {
+        struct measured measured = {.yasmirand = (double)greatest_depth(&yasmirand, question)};
 
         for (size_t i = 0; i < BUILDS; i++)
-            row.build[i] = (double)greatest_depth(&builds[i], question, rows, count);
-        print_row(names[question], 0, 0, row, &above);
-        under_limit = under_limit && row.yasmirand < STACK_LIMIT;
+            measured.build[i] = (double)greatest_depth(&builds[i], question);
+        printf("%-62s", name_of_question[question]);
+        print_measured(0, &measured, &above);
+        printf("   limit %d B\n", STACK_LIMIT);
+        fflush(stdout);
+        under_limit = under_limit && measured.yasmirand < STACK_LIMIT;
     }
     return under_limit;
 }
 
 /* ---- All of it ---- */
 
-static void load_board_a(const char *boards, struct capture *a)
-{
-    char path[4096];
-
-    snprintf(path, sizeof path, "%s/A.cap", boards);
-    a->length = load_file(path, a->bytes, CAPTURE_ROOM);
-}
-
 /* Whether a row is no refusal, and all give it the same answer: else its times would say nothing. */
 static bool all_answer(const struct row *row)
 {
-    uint64_t answer = ask(&yasmirand, row->question, row->capture);
+    uint64_t answer = ask(&yasmirand, row);
 
     if (refusal_number(answer) != 0) {
-        printf("bench: %s: %s\n", row->what, tell_read(answer).words);
+        printf("bench: %s: %s\n", name_of(row), tell_read(answer).words);
         return false;
     }
     for (size_t i = 0; i < BUILDS; i++)
-        if (ask(&builds[i], row->question, row->capture) != answer) {
-            printf("bench: %s: reference.c by %s answers something else\n", row->what, builds[i].name);
+        if (ask(&builds[i], row) != answer) {
+            printf("bench: %s: reference.c by %s answers something else\n", name_of(row), builds[i].name);
             return false;
         }
     return true;
@@ -431,46 +341,30 @@ static bool all_answer(const struct row *row)
 
 int main(int argc, char **argv)
 {
-    static struct capture a, large_tables, many_processors, spare_cores, one_table_often, touching_segments;
-    const struct row rows[] = {
-        {"board A", READ, &a},
-        {"large tables that are passed over", READ, &large_tables},
-        {"256 processors", READ, &many_processors},
-        {"256 CORE, 4 of them enabled, the others alike", READ, &spare_cores},
-        {"32 XSDT entries, 30 of them naming one large table", READ, &one_table_often},
-        {"a board like A, each table across 4 of 16 segments", READ, &touching_segments},
-        {"one route (board A, 72)", ROUTE, &a},
-        {"one trace (board A, vector 3, number 64)", TRACE, &a},
-    };
-    const size_t count = sizeof rows / sizeof rows[0];
-    struct random random = random_for_case(1, 0);
-
-    bool emulated = argc == 3 && strcmp(argv[2], "emulated") == 0;
-
+    emulated = argc == 3 && strcmp(argv[2], "emulated") == 0;
     if (argc != 2 && !emulated) {
         fprintf(stderr, "usage: bench BOARDS [emulated]\n");
         return 2;
     }
-    load_board_a(argv[1], &a);
-    make_large_tables(&random, &large_tables);
-    make_many_processors(&random, &many_processors);
-    make_spare_cores(&random, &spare_cores);
-    make_one_table_named_often(&random, &one_table_often);
-    make_touching_segments(&random, &touching_segments);
-    for (size_t i = 0; i < count; i++)
+    make_hard_captures(argv[1], captures);
+    for (size_t i = 0; i < ROWS; i++)
         if (!all_answer(&rows[i]))
             return 2;
 
     if (emulated)
         puts("Emulated: neither the times nor their ratios are those of an x86-64 machine; the instructions are.");
 
-    struct above slower = time_rows(rows, count);
-    struct above longer = count_rows(rows, count);
-    bool under_limit = measure_stacks(rows, count);
+    struct above slower = time_rows();
+    struct above longer = count_rows();
+    bool under_limit = measure_stacks();
 
     for (size_t i = 0; i < BUILDS; i++)
-        printf("bench: beside reference.c by %s, of %zu rows %zu are slower and %zu execute more instructions\n", builds[i].name,
-               count, slower.rows[i], longer.rows[i]);
+        printf("bench: beside reference.c by %s, of %d rows %zu are slower and %zu execute more instructions\n", builds[i].name,
+               ROWS, slower.rows[i], longer.rows[i]);
+
+    size_t over = emulated ? longer.limit : slower.limit;
+
+    printf("bench: of %d rows %zu are over their limit of %s\n", ROWS, over, emulated ? "instructions" : "time");
     printf("bench: %s\n", under_limit ? "every stack is under 4 KiB" : "a stack is not under 4 KiB");
-    return (emulated ? longer : slower).rows[GCC_O2] == 0 && under_limit ? 0 : 1;
+    return over == 0 && under_limit ? 0 : 1;
 }

@@ -73,6 +73,11 @@ struct structure random_structure(struct random *random, enum kind kind)
     return structure;
 }
 
+struct structure shortest_structure(uint8_t type)
+{
+    return (struct structure){.length = SHORTEST, .bytes = {type, SHORTEST}};
+}
+
 struct structure make_core(struct random *random, uint32_t uid, uint32_t physical_id, uint32_t flags)
 {
     struct structure core = random_structure(random, CORE);

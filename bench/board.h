@@ -79,6 +79,10 @@ uint8_t length_of_kind(enum kind kind);
 /* A structure of a kind with type, length and version right and every other byte random. */
 struct structure random_structure(struct random *random, enum kind kind);
 
+/* Type and length, and nothing else: the shortest structure that there can be. Its type is one that is passed over. */
+enum { SHORTEST = 2, PASSED_OVER = LPC + 1 };
+struct structure shortest_structure(uint8_t type);
+
 struct structure make_core(struct random *random, uint32_t uid, uint32_t physical_id, uint32_t flags);
 struct structure make_lio(struct random *random, const uint8_t cascades[2], const uint32_t masks[2]);
 struct structure make_eio(struct random *random, uint8_t cascade, uint8_t node, uint64_t node_map);

@@ -20,15 +20,18 @@ static unsigned standing(unsigned refusal)
     return refusal > SPLIT ? refusal + (SPLIT_LAST - SPLIT_FIRST) : refusal;
 }
 
-static const struct way *way_at(size_t number)
+const struct way *way_at(size_t number)
 {
-    return number < capture_way_count ? &capture_ways[number] : &madt_ways[number - capture_way_count];
+    if (number < capture_way_count)
+        return &capture_ways[number];
+    number -= capture_way_count;
+    return number < madt_way_count ? &madt_ways[number] : NULL;
 }
 
 /* The way number `number` of those that bring about a refusal; NULL if there are not so many. */
 static const struct way *way_to(unsigned refusal, size_t number)
 {
-    for (size_t i = 0; i < capture_way_count + madt_way_count; i++)
+    for (size_t i = 0; way_at(i) != NULL; i++)
         if (way_at(i)->refusal == refusal && number-- == 0)
             return way_at(i);
     return NULL;

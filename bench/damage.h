@@ -18,6 +18,9 @@ struct way {
     void (*in_capture)(struct random *random, struct capture *capture);
 };
 
+/* The ways one by one; NULL if there are not so many. */
+const struct way *way_at(size_t number);
+
 /* Every refusal that a capture can bring about is picked equally often, then one of its ways. */
 const struct way *pick_way(struct random *random);
 
