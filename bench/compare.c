@@ -76,8 +76,6 @@ enum { OTHER_REVISION = 4 }; /* one capture in so many has a MADT revision other
 
 enum { UNKNOWN = -1, ACCEPTED = 0 };
 
-enum { NUMBERS = 1 << 16 }; /* room for any refusal number that a result can hold */
-
 struct test {
     uint64_t number;
     int expected[READINGS]; /* ACCEPTED, the refusal number that the capture was made for, or UNKNOWN */
@@ -675,11 +673,6 @@ static void compare_case(struct random *random, const struct test *test, unsigne
 }
 
 /* ---- All of it ---- */
-
-/* In the order of the rules: 71 to 77 stand in the place of 36. */
-static const unsigned refusals[] = {1,  2,  3,  4,  5,  6,  10, 11, 12, 13, 14, 20, 21, 22, 23, 24, 25, 26, 27, 28, 29, 30, 31,
-                                    32, 33, 34, 35, 71, 72, 73, 74, 75, 76, 77, 37, 38, 39, 40, 41, 42, 43, 51, 52, 53, 54, 60};
-enum { REFUSALS = sizeof refusals / sizeof refusals[0] };
 
 /* Prints how often a reading gave each refusal; gives whether each was given often enough, and no other. */
 static bool hits_suffice(enum reading reading, const unsigned *hits)
