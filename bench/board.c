@@ -197,6 +197,15 @@ size_t count_kind(const struct board *board, enum kind kind)
     return count;
 }
 
+uint8_t *nth_of_kind(struct board *board, enum kind kind, size_t number)
+{
+    size_t i = 0;
+
+    while (board->structure[i].bytes[0] != kind || number-- > 0)
+        i++;
+    return board->structure[i].bytes;
+}
+
 void remove_kind(struct board *board, enum kind kind)
 {
     size_t kept = 0;

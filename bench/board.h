@@ -139,6 +139,9 @@ void add_entry(struct board *board, size_t at, size_t table);
 void add_structure(struct board *board, size_t at, const struct structure *structure);
 void append_structure(struct board *board, struct structure structure);
 size_t count_kind(const struct board *board, enum kind kind);
+
+/* The bytes of the structure of a kind with a number, counted in table order from 0; there must be one. */
+uint8_t *nth_of_kind(struct board *board, enum kind kind, size_t number);
 void remove_kind(struct board *board, enum kind kind);
 
 /* Cuts the memory inside a table. A cut that is there already gets the new distance. */

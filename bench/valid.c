@@ -1,13 +1,13 @@
 /*
  * Random boards that keep every rule of document 01: see valid.h. They are varied on purpose in what the rules do not
- * fix: the order of structures and tables, the IDs of disabled CORE, the segments, what runs across segments that touch, the
- * free bytes.
+ * fix: the order of structures and tables, the order of UIDs and of physical IDs, the IDs of disabled CORE, what is passed
+ * over, the segments, what runs across segments that touch, the free bytes.
  */
 #include "valid.h"
 
 #include <string.h>
 
-/* ---- Structures ---- */
+/* ---- CORE and their IDs ---- */
 
 static size_t random_core_count(struct random *random)
 {
@@ -23,7 +23,97 @@ static size_t random_core_count(struct random *random)
     }
 }
 
-/* An ID of a CORE: the least one, the greatest, or any. */
+/* About `spare_of_four` in four CORE are spare: on some boards none, on some all but one. They have no IDs yet. */
+static void add_cores(struct random *random, struct board *board)
+{
+    size_t count = random_core_count(random);
+    size_t surely_enabled = below(random, count), spare_of_four = below(random, 5);
+
+    for (size_t i = 0; i < count; i++) {
+        uint32_t enabled = i == surely_enabled || below(random, 4) >= spare_of_four;
+
+        append_structure(board, make_core(random, 0, 0, enabled));
+    }
+}
+
+/* Numbers that differ, from the least on: each is a step above the one before, and none wraps. */
+struct numbers {
+    uint32_t least, step;
+};
+
+/* Small ones, great ones or any, for so many CORE: side by side, far apart, or equal in all bytes but one. */
+static struct numbers random_numbers(struct random *random, size_t count)
+{
+    uint32_t step = 1;
+
+    switch (below(random, 4)) {
+    case 0:
+        step = UINT32_C(1) << 8 * below(random, 4);
+        break;
+    case 1:
+        step = (uint32_t)between(random, 1, UINT32_MAX / count);
+        break;
+    default:
+        break;
+    }
+
+    uint32_t least_at_most = UINT32_MAX - step * (uint32_t)(count - 1);
+
+    switch (below(random, 3)) {
+    case 0:
+        return (struct numbers){0, step};
+    case 1:
+        return (struct numbers){least_at_most, step};
+    default:
+        return (struct numbers){(uint32_t)between(random, 0, least_at_most), step};
+    }
+}
+
+static void shuffle_ranks(struct random *random, size_t *rank, size_t count)
+{
+    for (size_t i = 1; i < count; i++) {
+        size_t other = below(random, i + 1), moved = rank[i];
+
+        rank[i] = rank[other];
+        rank[other] = moved;
+    }
+}
+
+static void move_one_rank(struct random *random, size_t *rank, size_t count)
+{
+    size_t from = below(random, count), to = below(random, count), moved = rank[from];
+
+    memmove(&rank[from], &rank[from + 1], (count - from - 1) * sizeof *rank);
+    memmove(&rank[to + 1], &rank[to], (count - to - 1) * sizeof *rank);
+    rank[to] = moved;
+}
+
+enum order { RISING, FALLING, SHUFFLED, RISING_BUT_ONE, ORDERS };
+
+/* Of each CORE, in table order, which of the numbers it gets: ranks rise, fall, or have another order. */
+static void random_order(struct random *random, size_t *rank, size_t count)
+{
+    enum order order = (enum order)below(random, ORDERS);
+
+    for (size_t i = 0; i < count; i++)
+        rank[i] = order == FALLING ? count - 1 - i : i;
+    if (order == SHUFFLED)
+        shuffle_ranks(random, rank, count);
+    if (order == RISING_BUT_ONE)
+        move_one_rank(random, rank, count);
+}
+
+static void give_numbers(struct random *random, struct board *board, size_t field, struct numbers numbers)
+{
+    size_t rank[STRUCTURES_ROOM], number = 0;
+
+    random_order(random, rank, count_kind(board, CORE));
+    for (size_t i = 0; i < board->structures; i++)
+        if (board->structure[i].bytes[0] == CORE)
+            put_u32(board->structure[i].bytes + field, numbers.least + numbers.step * (uint32_t)rank[number++]);
+}
+
+/* An ID of a spare CORE: the least one, the greatest, or any. */
 static uint32_t random_id(struct random *random)
 {
     switch (below(random, 4)) {
@@ -40,10 +130,10 @@ struct ids {
     uint32_t uid, physical_id;
 };
 
-/* IDs for a spare CORE of a board that has nothing but CORE yet: those of any CORE, or one of them, or filled in. */
-static struct ids spare_ids(struct random *random, const struct board *board)
+/* IDs for a spare CORE: those of any CORE, or one of them, or filled in. */
+static struct ids spare_ids(struct random *random, struct board *board)
 {
-    const uint8_t *twin = board->structure[below(random, board->structures)].bytes;
+    const uint8_t *twin = nth_of_kind(board, CORE, below(random, count_kind(board, CORE)));
     uint32_t filled_in = random_id(random);
     uint32_t uid = one_in(random, 3) ? filled_in : get_u32(twin + CORE_UID);
     uint32_t physical_id = one_in(random, 3) ? filled_in : get_u32(twin + CORE_PHYSICAL_ID);
@@ -63,7 +153,7 @@ static void give_spare_ids(struct random *random, struct board *board)
     for (size_t i = 0; i < board->structures; i++) {
         uint8_t *core = board->structure[i].bytes;
 
-        if (get_u32(core + CORE_FLAGS) != 0)
+        if (core[0] != CORE || get_u32(core + CORE_FLAGS) != 0)
             continue;
         put_u32(core + CORE_UID, ids.uid);
         put_u32(core + CORE_PHYSICAL_ID, ids.physical_id);
@@ -73,27 +163,22 @@ static void give_spare_ids(struct random *random, struct board *board)
 }
 
 /*
- * IDs in steps of an odd number are all different; those of the spare CORE do not stay so on most boards. About
- * `spare_of_four` in four CORE are spare: on some boards none, on some all but one.
+ * UIDs have an order of their own, and physical IDs have one. Both are often made of the same numbers: then a CORE's UID is
+ * the physical ID of another one, which no rule forbids. The spare CORE of most boards repeat IDs.
  */
-static void add_cores(struct random *random, struct board *board)
+void give_ids(struct random *random, struct board *board)
 {
-    bool plain = one_in(random, 2);
-    uint32_t uid = plain ? 0 : random_id(random), uid_step = plain ? 1 : (uint32_t)any(random) | 1;
-    uint32_t id = plain ? 0 : random_id(random), id_step = plain ? 1 : (uint32_t)any(random) | 1;
-    size_t count = random_core_count(random);
-    size_t surely_enabled = below(random, count), spare_of_four = below(random, 5);
+    size_t count = count_kind(board, CORE);
+    struct numbers uids = random_numbers(random, count);
+    struct numbers physical_ids = one_in(random, 2) ? uids : random_numbers(random, count);
 
-    for (size_t i = 0; i < count; i++) {
-        uint32_t enabled = i == surely_enabled || below(random, 4) >= spare_of_four;
-
-        append_structure(board, make_core(random, uid, id, enabled));
-        uid += uid_step;
-        id += id_step;
-    }
+    give_numbers(random, board, CORE_UID, uids);
+    give_numbers(random, board, CORE_PHYSICAL_ID, physical_ids);
     if (!one_in(random, 8))
         give_spare_ids(random, board);
 }
+
+/* ---- Other structures ---- */
 
 /* The core's hardware lines in random order: taking them one by one, no two controllers enter one core vector. */
 struct lines {
@@ -231,12 +316,24 @@ struct structure passed_over_structure(struct random *random)
     uint64_t type = below(random, 256 - (LPC - CORE + 1));
     struct structure structure;
 
-    structure.length = one_in(random, 16) ? 255 : between(random, 2, 24);
+    structure.length = one_in(random, 3) ? SHORTEST : one_in(random, 16) ? 255 : between(random, SHORTEST, 24);
     for (size_t i = 0; i < structure.length; i++)
         structure.bytes[i] = (uint8_t)any(random);
     structure.bytes[0] = (uint8_t)(type < CORE ? type : type + (LPC - CORE + 1));
     structure.bytes[1] = (uint8_t)structure.length;
     return structure;
+}
+
+/* Structures that are passed over, before, between and behind the others: a few, or as many as there are others. */
+static void add_passed_over(struct random *random, struct board *board)
+{
+    size_t count = one_in(random, 3) ? board->structures : below(random, 4);
+
+    for (; count > 0; count--) {
+        struct structure structure = passed_over_structure(random);
+
+        add_structure(board, below(random, board->structures + 1), &structure);
+    }
 }
 
 static void shuffle_structures(struct random *random, struct board *board)
@@ -287,10 +384,10 @@ static void add_structures(struct random *random, struct board *board)
     add_msis(random, board, bios == 0 ? 0 : PINS);
     if (bios != 0 && !one_in(random, 3))
         append_structure(board, make_lpc(random, (uint16_t)below(random, PINS)));
-    for (size_t more = below(random, 4); more > 0; more--)
-        append_structure(board, passed_over_structure(random));
     if (!one_in(random, 3))
         shuffle_structures(random, board);
+    add_passed_over(random, board);
+    give_ids(random, board); /* their orders are those of the table */
     board->sci = arriving_number(random, board, masks);
 }
 

@@ -14,6 +14,9 @@ void make_valid_board(struct random *random, struct board *board);
 /* A MADT revision other than 1: often 0, which no reading takes, else one that the ordinary reading takes (W-207). */
 uint8_t other_revision(struct random *random);
 
+/* Gives the CORE of a board IDs in some order: no two have a UID or a physical ID in common, unless one of them is disabled. */
+void give_ids(struct random *random, struct board *board);
+
 /* A node map: not 0, with many nodes or one. */
 uint64_t node_map(struct random *random);
 
@@ -23,7 +26,7 @@ bool base_is_taken(const struct board *board, uint16_t base);
 /* A base that is free on a board with few bridges. */
 uint16_t free_base(struct random *random, const struct board *board);
 
-/* A structure of a type that is passed over, of any length that fits. */
+/* A structure of a type that is passed over, of any length that fits, often the shortest. */
 struct structure passed_over_structure(struct random *random);
 
 /* Cuts a table of settled length at random, up to so many times: the segments touch, and are no more than a capture may have. */

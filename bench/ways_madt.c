@@ -127,22 +127,12 @@ static void insert_fresh(struct random *random, struct board *board, enum kind k
     insert(random, board, fresh(random, board, kind));
 }
 
-/* The structure of a kind with a number, counted in table order. */
-static uint8_t *nth(struct board *board, enum kind kind, size_t number)
-{
-    size_t i = 0;
-
-    while (board->structure[i].bytes[0] != kind || number-- > 0)
-        i++;
-    return board->structure[i].bytes;
-}
-
 /* The bytes of some structure of a kind; one is made if there is none. */
 static uint8_t *some(struct random *random, struct board *board, enum kind kind)
 {
     if (count_kind(board, kind) == 0)
         insert_fresh(random, board, kind);
-    return nth(board, kind, below(random, count_kind(board, kind)));
+    return nth_of_kind(board, kind, below(random, count_kind(board, kind)));
 }
 
 struct pair {
@@ -159,7 +149,7 @@ static struct pair some_two(struct random *random, struct board *board, enum kin
     size_t first = below(random, count);
     size_t second = (first + between(random, 1, count - 1)) % count;
 
-    return (struct pair){nth(board, kind, first), nth(board, kind, second)};
+    return (struct pair){nth_of_kind(board, kind, first), nth_of_kind(board, kind, second)};
 }
 
 static enum kind known_kind(struct random *random)
@@ -573,16 +563,113 @@ static void two_lpcs(struct random *random, struct board *board)
  * these, compares with one or stops at one gives another place or another number.
  */
 
+/* The CORE of a number gets an ID that another one has; gives whether this is the UID or the physical ID, as its offset. */
+static size_t share_id(struct random *random, struct board *board, size_t of, size_t by)
+{
+    uint8_t *first = nth_of_kind(board, CORE, of), *second = nth_of_kind(board, CORE, by);
+    size_t field = one_in(random, 2) ? CORE_UID : CORE_PHYSICAL_ID;
+
+    put_u32(second + field, get_u32(first + field));
+    enable(first);
+    enable(second);
+    return field;
+}
+
+/* The same, with spare ones around. */
+static void repeat_id(struct random *random, struct board *board, size_t of, size_t by)
+{
+    size_t field = share_id(random, board, of, by);
+
+    insert_spares(random, board, field, get_u32(nth_of_kind(board, CORE, of) + field));
+}
+
+/* As many CORE as there may be, often all of them enabled, with IDs in an order. */
+static void have_most_cores(struct random *random, struct board *board)
+{
+    bool all_enabled = one_in(random, 2);
+
+    have(random, board, CORE, CORES_MAX);
+    for (size_t i = 0; i < board->structures && all_enabled; i++)
+        if (board->structure[i].bytes[0] == CORE)
+            enable(board->structure[i].bytes);
+    give_ids(random, board);
+}
+
+/* Makes sure of some CORE, sometimes of as many as there may be; gives how many there are. */
+static size_t have_cores(struct random *random, struct board *board, size_t least)
+{
+    have(random, board, CORE, least);
+    if (one_in(random, 4))
+        have_most_cores(random, board);
+    return count_kind(board, CORE);
+}
+
+static void repeat_any_id(struct random *random, struct board *board)
+{
+    size_t count = count_kind(board, CORE), of = below(random, count);
+
+    repeat_id(random, board, of, (of + between(random, 1, count - 1)) % count);
+}
+
 static void repeated_id(struct random *random, struct board *board)
 {
-    struct pair cores = some_two(random, board, CORE, CORES_MAX);
-    size_t field = one_in(random, 2) ? CORE_UID : CORE_PHYSICAL_ID;
-    uint32_t id = get_u32(cores.first + field);
+    have_cores(random, board, between(random, 2, 4));
+    repeat_any_id(random, board);
+}
 
-    put_u32(cores.second + field, id);
-    enable(cores.first);
-    enable(cores.second);
-    insert_spares(random, board, field, id);
+static void repeated_id_of_first_two(struct random *random, struct board *board)
+{
+    have_cores(random, board, 2);
+    repeat_id(random, board, 0, 1);
+}
+
+static void repeated_id_of_last_two(struct random *random, struct board *board)
+{
+    size_t count = have_cores(random, board, 2);
+
+    repeat_id(random, board, count - 2, count - 1);
+}
+
+static void repeated_id_of_first_and_last(struct random *random, struct board *board)
+{
+    size_t count = have_cores(random, board, 2);
+
+    repeat_id(random, board, 0, count - 1);
+}
+
+/* Which of them is named depends on which of the three stands first. */
+static void uid_of_one_physical_id_of_another(struct random *random, struct board *board)
+{
+    size_t count = have_cores(random, board, 3);
+    size_t by = below(random, count), to_one = between(random, 1, count - 1), to_other = between(random, 1, count - 2);
+    uint8_t *core = nth_of_kind(board, CORE, by), *one = nth_of_kind(board, CORE, (by + to_one) % count);
+    uint8_t *other = nth_of_kind(board, CORE, (by + to_other + (to_other >= to_one)) % count);
+
+    put_u32(core + CORE_UID, get_u32(one + CORE_UID));
+    put_u32(core + CORE_PHYSICAL_ID, get_u32(other + CORE_PHYSICAL_ID));
+    enable(core);
+    enable(one);
+    enable(other);
+    insert_spares(random, board, CORE_UID, get_u32(core + CORE_UID));
+}
+
+/* The first CORE that repeats an earlier one's is named, whichever pair was made first. */
+static void several_repeated_ids(struct random *random, struct board *board)
+{
+    have_cores(random, board, between(random, 4, 8));
+    for (size_t more = between(random, 2, 4); more > 0; more--)
+        repeat_any_id(random, board);
+}
+
+/* Of four CORE the first and the last have an ID in common, and the two between them: the third is named. */
+static void repeated_ids_inside_repeated_ids(struct random *random, struct board *board)
+{
+    size_t count = have_cores(random, board, between(random, 4, 8));
+    size_t first = below(random, count - 3), last = between(random, first + 3, count - 1);
+    size_t second = between(random, first + 1, last - 2), third = between(random, second + 1, last - 1);
+
+    share_id(random, board, first, last);
+    share_id(random, board, second, third);
 }
 
 static void all_alike_two_enabled(struct random *random, struct board *board)
@@ -658,9 +745,9 @@ static void base_between_two(struct random *random, struct board *board)
     bool low_first = one_in(random, 2);
 
     have(random, board, BIO, 3);
-    put_u16(nth(board, BIO, 0) + BIO_BASE, (uint16_t)(low_first ? low : high));
-    put_u16(nth(board, BIO, 1) + BIO_BASE, (uint16_t)(low_first ? high : low));
-    put_u16(nth(board, BIO, 2) + BIO_BASE, (uint16_t)between(random, low + gap + 1, low + PINS - 1));
+    put_u16(nth_of_kind(board, BIO, 0) + BIO_BASE, (uint16_t)(low_first ? low : high));
+    put_u16(nth_of_kind(board, BIO, 1) + BIO_BASE, (uint16_t)(low_first ? high : low));
+    put_u16(nth_of_kind(board, BIO, 2) + BIO_BASE, (uint16_t)between(random, low + gap + 1, low + PINS - 1));
 }
 
 static void two_bios_of_a_node(struct random *random, struct board *board)
@@ -871,6 +958,12 @@ const struct way madt_ways[] = {
     {38, "five BIO", .in_board = too_many_bios},
     {38, "two LPC", .in_board = two_lpcs},
     {39, "repeated ID", .in_board = repeated_id},
+    {39, "repeated ID, the first two CORE", .in_board = repeated_id_of_first_two},
+    {39, "repeated ID, the last two CORE", .in_board = repeated_id_of_last_two},
+    {39, "repeated ID, the first CORE and the last", .in_board = repeated_id_of_first_and_last},
+    {39, "UID of one CORE, physical ID of another", .in_board = uid_of_one_physical_id_of_another},
+    {39, "several repeated IDs", .in_board = several_repeated_ids},
+    {39, "repeated IDs inside repeated IDs", .in_board = repeated_ids_inside_repeated_ids},
     {39, "all CORE alike, two of them enabled", .in_board = all_alike_two_enabled},
     {40, "no enabled CORE", .in_board = none_enabled},
     {40, "all CORE alike, none of them enabled", .in_board = make_all_spare},
