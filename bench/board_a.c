@@ -57,8 +57,10 @@ static struct structure make_written(const struct written *written)
         return make_bio(&random, (uint16_t)field[0], (uint16_t)field[1]);
     case LPC:
         return make_lpc(&random, (uint16_t)field[0]);
-    default:
+    case 0:
         return (struct structure){.length = 0};
+    default:
+        return shortest_structure(written->kind);
     }
 }
 
@@ -94,21 +96,33 @@ void replace_structures(struct capture *a, size_t place, const struct written wr
     replace_bytes(a, place, a->place[FADT], bytes, length);
 }
 
-void replace_cores(struct capture *a, const struct equal_cores cores[EQUAL_CORES_MAX])
+void replace_cores(struct capture *a, const struct written_core *cores, size_t count)
 {
     static uint8_t bytes[(CORES_MAX + 1) * sizeof(struct structure)];
     struct random random = {0};
     size_t length = 0;
 
+    assert(count <= CORES_MAX + 1);
+    for (size_t i = 0; i < count; i++) {
+        struct structure core = make_core(&random, cores[i].uid, cores[i].physical_id, cores[i].flags);
+
+        memcpy(bytes + length, core.bytes, core.length);
+        length += core.length;
+    }
+    replace_bytes(a, A_CORE, A_LIO, bytes, length);
+}
+
+void replace_equal_cores(struct capture *a, const struct equal_cores cores[EQUAL_CORES_MAX])
+{
+    struct written_core written[CORES_MAX + 1];
+    size_t count = 0;
+
     for (size_t i = 0; i < EQUAL_CORES_MAX; i++)
         for (size_t j = 0; j < cores[i].count; j++) {
-            struct structure core = make_core(&random, cores[i].uid, cores[i].physical_id, cores[i].flags);
-
-            assert(length + core.length <= sizeof bytes);
-            memcpy(bytes + length, core.bytes, core.length);
-            length += core.length;
+            assert(count <= CORES_MAX);
+            written[count++] = (struct written_core){cores[i].uid, cores[i].physical_id, cores[i].flags};
         }
-    replace_bytes(a, A_CORE, A_LIO, bytes, length);
+    replace_cores(a, written, count);
 }
 
 void second_bridge_at_128(struct capture *a)

@@ -39,7 +39,7 @@ void load_board_a(const char *boards, uint8_t revision, struct capture *a);
 
 /* A structure as the documents write it: its kind, and its fields in the order of "MADT structures". Bases and sizes are free. */
 struct written {
-    enum kind kind; /* 0: none */
+    uint8_t kind; /* 0: none; a type that is passed over: two bytes, the shortest that there are */
     uint32_t field[4];
 };
 
@@ -47,6 +47,14 @@ enum { WRITTEN_MAX = 6 };
 
 /* Puts structures in the place of those that board A has from a place on, and mends what this moves. Sums are not made good. */
 void replace_structures(struct capture *a, size_t place, const struct written written[WRITTEN_MAX]);
+
+/* A CORE as the documents write it. */
+struct written_core {
+    uint32_t uid, physical_id, flags;
+};
+
+/* Puts these CORE, 257 at most, in the place of board A's own; its other structures stay. Sums are not made good. */
+void replace_cores(struct capture *a, const struct written_core *cores, size_t count);
 
 /* CORE that say the same, one behind another. */
 struct equal_cores {
@@ -56,8 +64,8 @@ struct equal_cores {
 
 enum { EQUAL_CORES_MAX = 8 };
 
-/* Puts these CORE, 257 at most, in the place of board A's own; its other structures stay. Sums are not made good. */
-void replace_cores(struct capture *a, const struct equal_cores cores[EQUAL_CORES_MAX]);
+/* As replace_cores(). */
+void replace_equal_cores(struct capture *a, const struct equal_cores cores[EQUAL_CORES_MAX]);
 
 /* Adds an EIO (node 5, cascade 4) with a BIO whose base is 128. */
 void second_bridge_at_128(struct capture *a);

@@ -1,7 +1,7 @@
 /*
- * Board A and its neighbours, the five errors that look right, the refusals of request W-202, board A with spare CORE for
- * request W-203 and cut into segments for request W-206, all of it with the MADT revisions of request W-207, and the captures
- * of boards/: see examples.h.
+ * Board A and its neighbours, the five errors that look right, the refusals of request W-202, board A with spare CORE and
+ * repeated IDs for requests W-203 and W-205, and cut into segments for request W-206, all of it with the MADT revisions of
+ * request W-207, and the captures of boards/: see examples.h.
  */
 #define _DEFAULT_SOURCE /* opendir */
 
@@ -42,8 +42,9 @@ static void expect(struct tally *tally, const struct reader *reader, uint64_t re
 /* ---- Board A and its neighbours ---- */
 
 /* What is printed for board A with some processors, given as their lines. */
-#define A_PRINTED_WITH(processors)                                                                                     \
-    "map 1\n" processors "lio 2 16777215\neio 0 3 1\nbio 0 64 127\nmsi 64 255\nlpc 0 19\nsci 75 3 11\n"
+#define A_PRINTED_FIRST "map 1\n"
+#define A_PRINTED_LAST "lio 2 16777215\neio 0 3 1\nbio 0 64 127\nmsi 64 255\nlpc 0 19\nsci 75 3 11\n"
+#define A_PRINTED_WITH(processors) A_PRINTED_FIRST processors A_PRINTED_LAST
 
 static const char A_PRINTED[] = A_PRINTED_WITH("core 0 0\ncore 1 1\n");
 
@@ -388,7 +389,7 @@ static struct text name_revised(const struct revised *revised)
     return name;
 }
 
-enum { PRINTED_ROOM = 256 };
+enum { PRINTED_ROOM = 8192 }; /* for the lines of 256 processors */
 
 /* What a reading prints for the case: the text for revision 1, or 29 where that comes first. */
 static void print_revised(const struct revised *revised, enum reading reading, char printed[PRINTED_ROOM])
@@ -505,6 +506,13 @@ static const struct refused_example refused_examples[] = {
     {"a second LPC", A_FADT, {{LPC, {20}}}, "refused 38 at 294"},
     {"a second EIO of the node", A_FADT, {{EIO, {4, 0, 1}}}, "refused 41 at 294"},
     {"a fourth CORE with the first one's UID", A_FADT, {{CORE, {0, 3, 1}}}, "refused 39 at 294"},
+    /* 39 with two-byte structures before, between and behind the CORE. */
+    {"two CORE of a UID among others", A_CORE,
+     {{PASSED_OVER, {0}}, {CORE, {0, 0, 1}}, {PASSED_OVER, {0}}, {PASSED_OVER, {0}}, {CORE, {0, 1, 1}}, {PASSED_OVER, {0}}},
+     "refused 39 at 183"},
+    {"two CORE of a physical ID among others, one last", A_CORE,
+     {{PASSED_OVER, {0}}, {CORE, {0, 0, 1}}, {PASSED_OVER, {0}}, {CORE, {1, 1, 1}}, {PASSED_OVER, {0}}, {CORE, {2, 1, 1}}},
+     "refused 39 at 198"},
 };
 
 enum { REFUSED_EXAMPLES = sizeof refused_examples / sizeof refused_examples[0] };
@@ -526,10 +534,10 @@ static struct revised refused_example(const char *boards, size_t number, uint8_t
     return (struct revised){example->what, example->printed, revision, &capture};
 }
 
-/* ---- Board A with spare CORE ---- */
+/* ---- Board A with other CORE ---- */
 
-/* Board A with these CORE in place of its own. */
-struct spare_example {
+/* Board A with these CORE in place of its own: disabled ones, whose IDs mean nothing (W-203), and repeated IDs. */
+struct core_example {
     const char *what;
     struct equal_cores cores[EQUAL_CORES_MAX];
     const char *printed;
@@ -537,10 +545,10 @@ struct spare_example {
 
 /*
  * In a name, a CORE is its UID and its physical ID; in the list, how many there are comes before these, and the flags behind.
- * The first one is at 162, and each is 15 bytes behind the one before: the next are at 177, 192 and 207, the 102nd is at
- * 1677, the 256th at 3987, and the 257th at 4002.
+ * The first one is at 162, and each is 15 bytes behind the one before: the next are at 177, 192, 207 and 222, the 102nd is
+ * at 1677, the 256th at 3987, and the 257th at 4002.
  */
-static const struct spare_example spare_examples[] = {
+static const struct core_example core_examples[] = {
     /* W-203: a disabled CORE may have an ID of an enabled one, or both, before it or behind it. */
     {"enabled (0, 0), disabled (0, 5)", {{1, 0, 0, 1}, {1, 0, 5, 0}}, A_PRINTED_WITH("core 0 0\n")},
     {"disabled (0, 5), enabled (0, 0)", {{1, 0, 5, 0}, {1, 0, 0, 1}}, A_PRINTED_WITH("core 0 0\n")},
@@ -569,6 +577,13 @@ static const struct spare_example spare_examples[] = {
      A_PRINTED_WITH("core 3 3\ncore 2 2\ncore 1 1\ncore 0 0\n")},
     /* A UID is no physical ID. */
     {"enabled (0, 1), enabled (1, 0)", {{1, 0, 1, 1}, {1, 1, 0, 1}}, A_PRINTED_WITH("core 0 1\ncore 1 0\n")},
+    {"enabled (0, 1), (1, 2), (2, 0)", {{1, 0, 1, 1}, {1, 1, 2, 1}, {1, 2, 0, 1}},
+     A_PRINTED_WITH("core 0 1\ncore 1 2\ncore 2 0\n")},
+    /* IDs that differ in one byte differ. */
+    {"UIDs that differ in one byte", {{1, 0, 0, 1}, {1, 256, 1, 1}, {1, 65536, 2, 1}, {1, 16777216, 3, 1}},
+     A_PRINTED_WITH("core 0 0\ncore 256 1\ncore 65536 2\ncore 16777216 3\n")},
+    {"physical IDs that differ in one byte", {{1, 0, 0, 1}, {1, 1, 256, 1}, {1, 2, 65536, 1}, {1, 3, 16777216, 1}},
+     A_PRINTED_WITH("core 0 0\ncore 1 256\ncore 2 65536\ncore 3 16777216\n")},
     /* Two enabled ones still may not have an ID in common, and the later of them is named. */
     {"enabled, disabled, enabled of a UID", {{1, 0, 0, 1}, {1, 0, 5, 0}, {1, 0, 1, 1}}, "refused 39 at 192"},
     {"enabled, disabled, enabled of a physical ID", {{1, 0, 0, 1}, {1, 5, 0, 0}, {1, 1, 0, 1}}, "refused 39 at 192"},
@@ -580,6 +595,18 @@ static const struct spare_example spare_examples[] = {
      "refused 39 at 207"},
     {"102 CORE (0, 0), first and last enabled", {{1, 0, 0, 1}, {100, 0, 0, 0}, {1, 0, 0, 1}}, "refused 39 at 1677"},
     {"256 CORE (0, 0), last two enabled", {{254, 0, 0, 0}, {2, 0, 0, 1}}, "refused 39 at 3987"},
+    /* The UID may be that of one CORE, and the physical ID that of another. */
+    {"UID of the first, physical ID of the second", {{1, 0, 0, 1}, {1, 1, 1, 1}, {1, 0, 1, 1}}, "refused 39 at 192"},
+    {"UID of the second, physical ID of the first", {{1, 0, 0, 1}, {1, 1, 1, 1}, {1, 1, 0, 1}}, "refused 39 at 192"},
+    /* Several repeat an earlier one's: the first of them in the table is named, whichever CORE it is that they repeat. */
+    {"third repeats second, fourth first", {{1, 0, 0, 1}, {1, 1, 1, 1}, {1, 2, 1, 1}, {1, 0, 3, 1}}, "refused 39 at 192"},
+    {"third repeats first, fourth second", {{1, 0, 0, 1}, {1, 1, 1, 1}, {1, 0, 2, 1}, {1, 1, 3, 1}}, "refused 39 at 192"},
+    {"fourth repeats third, fifth first",
+     {{1, 0, 0, 1}, {1, 1, 1, 1}, {1, 2, 2, 1}, {1, 2, 3, 1}, {1, 4, 0, 1}}, "refused 39 at 207"},
+    /* One behind a CORE that is not above all before it. */
+    {"third repeats first, second below", {{1, 3, 3, 1}, {1, 1, 1, 1}, {1, 3, 0, 1}}, "refused 39 at 192"},
+    {"fourth repeats second, third below", {{1, 0, 0, 1}, {1, 2, 2, 1}, {1, 1, 1, 1}, {1, 5, 2, 1}}, "refused 39 at 207"},
+    {"fourth repeats third, second below", {{1, 1, 1, 1}, {1, 0, 0, 1}, {1, 2, 2, 1}, {1, 2, 3, 1}}, "refused 39 at 207"},
     /* Reserved flags are checked on disabled ones too. */
     {"enabled (0, 0), then (0, 0) with flags 2", {{1, 0, 0, 1}, {1, 0, 0, 2}}, "refused 35 at 177"},
     {"(0, 0) with flags 2, then enabled (0, 0)", {{1, 0, 0, 2}, {1, 0, 0, 1}}, "refused 35 at 162"},
@@ -595,18 +622,102 @@ static const struct spare_example spare_examples[] = {
     {"three disabled (0, 0)", {{3, 0, 0, 0}}, "refused 40 at 118"},
 };
 
-enum { SPARE_EXAMPLES = sizeof spare_examples / sizeof spare_examples[0] };
+enum { CORE_EXAMPLES = sizeof core_examples / sizeof core_examples[0] };
 
 /* As refused_example(). */
-static struct revised spare_example(const char *boards, size_t number, uint8_t revision)
+static struct revised core_example(const char *boards, size_t number, uint8_t revision)
 {
     static struct capture capture;
-    const struct spare_example *example = &spare_examples[number];
+    const struct core_example *example = &core_examples[number];
 
     load_board_a(boards, revision, &capture);
-    replace_cores(&capture, example->cores);
+    replace_equal_cores(&capture, example->cores);
     make_sums_good(&capture);
     return (struct revised){example->what, example->printed, revision, &capture};
+}
+
+/* ---- Board A with 256 CORE ---- */
+
+enum { LAST_CORE = CORES_MAX - 1 };
+
+enum direction { RISING, FALLING };
+
+/*
+ * Board A with 256 CORE in place of its own, the most that there may be. Their UIDs and physical IDs are 0 to 255, and rise or
+ * fall. Then the last CORE, which is at 3987, gets the UID of one CORE and the physical ID of one; of itself, if it keeps it.
+ */
+struct full_example {
+    const char *what;
+    enum direction uids, physical_ids;
+    size_t uid_of, physical_id_of;
+    bool every_other_spare; /* the second, the fourth and so on are disabled and have the first one's IDs */
+    const char *printed;    /* NULL: it is accepted */
+};
+
+static const struct full_example full_examples[] = {
+    /* A repeat in the very last pair that is compared, or of the CORE that is farthest away. */
+    {"256 falling, the last two of a UID", FALLING, FALLING, LAST_CORE - 1, LAST_CORE, .printed = "refused 39 at 3987"},
+    {"256 falling, the last two of a physical ID", FALLING, FALLING, LAST_CORE, LAST_CORE - 1, .printed = "refused 39 at 3987"},
+    {"256 falling, first and last of a UID", FALLING, FALLING, 0, LAST_CORE, .printed = "refused 39 at 3987"},
+    {"256 falling, first and last of a physical ID", FALLING, FALLING, LAST_CORE, 0, .printed = "refused 39 at 3987"},
+    {"256 rising, the last two of a UID", RISING, RISING, LAST_CORE - 1, LAST_CORE, .printed = "refused 39 at 3987"},
+    {"256 rising, the last two of a physical ID", RISING, RISING, LAST_CORE, LAST_CORE - 1, .printed = "refused 39 at 3987"},
+    {"256 rising, first and last of a UID", RISING, RISING, 0, LAST_CORE, .printed = "refused 39 at 3987"},
+    {"256 rising, first and last of a physical ID", RISING, RISING, LAST_CORE, 0, .printed = "refused 39 at 3987"},
+    {"256, UIDs fall, first and last of a physical ID", FALLING, RISING, LAST_CORE, 0, .printed = "refused 39 at 3987"},
+    {"256, UIDs rise, first and last of a UID", RISING, FALLING, 0, LAST_CORE, .printed = "refused 39 at 3987"},
+    /* The UID of one, and the physical ID of another. */
+    {"256 falling, last: first UID, physical ID before", FALLING, FALLING, 0, LAST_CORE - 1, .printed = "refused 39 at 3987"},
+    {"256 falling, last: UID before, first physical ID", FALLING, FALLING, LAST_CORE - 1, 0, .printed = "refused 39 at 3987"},
+    /* None. A UID may be the physical ID of another, and those of disabled ones mean nothing. */
+    {"256 falling", FALLING, FALLING, LAST_CORE, LAST_CORE, .printed = NULL},
+    {"256, UIDs fall, physical IDs rise", FALLING, RISING, LAST_CORE, LAST_CORE, .printed = NULL},
+    {"128 rising, among 128 disabled of the first IDs", RISING, RISING, LAST_CORE, LAST_CORE, .every_other_spare = true},
+    {"128 falling, among 128 disabled of the first IDs", FALLING, FALLING, LAST_CORE, LAST_CORE, .every_other_spare = true},
+};
+
+enum { FULL_EXAMPLES = sizeof full_examples / sizeof full_examples[0] };
+
+static void write_full_cores(const struct full_example *example, struct written_core cores[CORES_MAX])
+{
+    for (uint32_t i = 0; i < CORES_MAX; i++) {
+        uint32_t uid = example->uids == FALLING ? LAST_CORE - i : i;
+        uint32_t physical_id = example->physical_ids == FALLING ? LAST_CORE - i : i;
+
+        cores[i] = (struct written_core){uid, physical_id, 1};
+        if (example->every_other_spare && i % 2 == 1)
+            cores[i] = (struct written_core){cores[0].uid, cores[0].physical_id, 0};
+    }
+    cores[LAST_CORE].uid = cores[example->uid_of].uid;
+    cores[LAST_CORE].physical_id = cores[example->physical_id_of].physical_id;
+}
+
+/* What is printed if they are accepted: the enabled ones in table order. */
+static void print_full(const struct written_core cores[CORES_MAX], char printed[PRINTED_ROOM])
+{
+    int length = snprintf(printed, PRINTED_ROOM, A_PRINTED_FIRST);
+
+    for (size_t i = 0; i < CORES_MAX; i++)
+        if (cores[i].flags == 1)
+            length += snprintf(printed + length, PRINTED_ROOM - (size_t)length, "core %" PRIu32 " %" PRIu32 "\n", cores[i].uid,
+                               cores[i].physical_id);
+    snprintf(printed + length, PRINTED_ROOM - (size_t)length, A_PRINTED_LAST);
+}
+
+/* As refused_example(). */
+static struct revised full_example(const char *boards, size_t number, uint8_t revision)
+{
+    static struct capture capture;
+    static char accepted[PRINTED_ROOM];
+    const struct full_example *example = &full_examples[number];
+    struct written_core cores[CORES_MAX];
+
+    write_full_cores(example, cores);
+    print_full(cores, accepted);
+    load_board_a(boards, revision, &capture);
+    replace_cores(&capture, cores, CORES_MAX);
+    make_sums_good(&capture);
+    return (struct revised){example->what, example->printed == NULL ? accepted : example->printed, revision, &capture};
 }
 
 /* ---- Board A in several segments ---- */
@@ -766,15 +877,18 @@ static struct revised cut_example(const char *boards, size_t number, uint8_t rev
 }
 
 /* All of these are asked about with each of the revisions. */
-enum { REVISED_EXAMPLES = REFUSED_EXAMPLES + SPARE_EXAMPLES + CUT_EXAMPLES };
+enum { REVISED_EXAMPLES = REFUSED_EXAMPLES + CORE_EXAMPLES + FULL_EXAMPLES + CUT_EXAMPLES };
 
 static struct revised revised_example(const char *boards, size_t number, uint8_t revision)
 {
     if (number < REFUSED_EXAMPLES)
         return refused_example(boards, number, revision);
     number -= REFUSED_EXAMPLES;
-    return number < SPARE_EXAMPLES ? spare_example(boards, number, revision)
-                                   : cut_example(boards, number - SPARE_EXAMPLES, revision);
+    if (number < CORE_EXAMPLES)
+        return core_example(boards, number, revision);
+    number -= CORE_EXAMPLES;
+    return number < FULL_EXAMPLES ? full_example(boards, number, revision)
+                                  : cut_example(boards, number - FULL_EXAMPLES, revision);
 }
 
 static void ask_revised_examples(struct tally *tally, const struct reader *reader, const char *boards)

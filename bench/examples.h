@@ -1,6 +1,6 @@
 /*
- * The cases that document 01 writes down, cases of requests W-202, W-203, W-206 and W-207 of document 02, and the captures
- * of boards/ with their printed maps: asked of one reader.
+ * The cases that document 01 writes down, cases of requests W-202, W-203, W-205, W-206 and W-207 of document 02, and the
+ * captures of boards/ with their printed maps: asked of one reader.
  */
 #ifndef EXAMPLES_H
 #define EXAMPLES_H
