@@ -455,7 +455,7 @@ void lay_out(struct board *board, struct capture *capture)
                 address_of(segment, segments, offset_of[board->entry[i]]));
     write_madt(board, capture->bytes + capture->place[MADT]);
     if (board->table[FADT].length >= FADT_MIN)
-        put_u16(capture->bytes + capture->place[FADT] + 46, board->sci);
+        put_u16(capture->bytes + capture->place[FADT] + FADT_SCI, board->sci);
     make_sums_good(capture);
 }
 

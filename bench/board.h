@@ -29,6 +29,7 @@ enum {
     TABLE_REVISION = 8, /* where the header has it */
     MADT_HEADER = 44,
     FADT_MIN = 48,
+    FADT_SCI = 46, /* where the FADT has the SCI number */
 };
 
 /* ---- Structures of the MADT ---- */

@@ -51,7 +51,7 @@ static const char A_PRINTED[] = A_PRINTED_WITH("core 0 0\ncore 1 1\n");
 static void no_bio_no_lpc(struct capture *a)
 {
     replace_structures(a, A_MSI, (struct written[WRITTEN_MAX]){{MSI, {0, 256}}});
-    put_u16(a->bytes + a->place[FADT] + 46, 26);
+    put_u16(a->bytes + a->place[FADT] + FADT_SCI, 26);
 }
 
 static void both_halves(struct capture *a)

@@ -76,7 +76,7 @@ static void eio_cascade_2(struct capture *a)
 
 static void sci_50(struct capture *a)
 {
-    put_u16(a->bytes + A_FADT + 46, 50);
+    put_u16(a->bytes + A_FADT + FADT_SCI, 50);
 }
 
 /* ---- The cases ---- */

@@ -107,7 +107,7 @@ static void measure_capture(const char *what, const struct capture *capture)
     for (size_t i = 0; i < sizeof arrivals / sizeof arrivals[0]; i++)
         measure_call(what, (struct call){TRACE, capture, arrivals[i].vector, arrivals[i].number});
     if (accepted)
-        measure_way_and_back(what, capture, get_u16(capture->bytes + capture->place[FADT] + 46));
+        measure_way_and_back(what, capture, get_u16(capture->bytes + capture->place[FADT] + FADT_SCI));
 }
 
 static void measure_all(const char *boards)
