@@ -1,5 +1,6 @@
 pub mod Numbers
 pub mod Parts
+pub mod Rooms
 pub mod Sums
 pub mod Tests
 pub mod Order

@@ -2,10 +2,10 @@
 use mathlib.Core.Path.{_≡_, refl}
 use mathlib.Core.List.{List}
 use Prim.Native.Nat.{ℕ, zero, suc, _+_, _*_, _^_, _≤_, _<_}
-use native.Mathlib.Nat.{add-zero, zero-add, suc-add, one-mul, pow-zero, pow-succ', mul-assoc, mul-add}
+use native.Mathlib.Nat.{add-zero, zero-add, suc-add, add-assoc, one-mul, pow-zero, pow-succ', mul-assoc, mul-add}
 use native.Mathlib.Omega.{arith}
-use lib.ListN.{length, take, List·getD-eq-default}
-use lib.Seq.{getD-take}
+use lib.ListN.{length, take, drop, List·getD-eq-default}
+use lib.Seq.{getD-take, getD-drop}
 use Rattle.words.specs.Bytes.{byteAt, AllBytes, numberAt}
 
 -- past the end every number is 0
@@ -37,3 +37,9 @@ pub number-take : (k : ℕ) (bytes : List ℕ) (n at : ℕ) → at + k ≤ n →
 unfolding numberAt
 number-take zero bytes n at h = refl
 number-take (suc k) bytes n at h = rw (getD-take n bytes at 0 (omega arith), number-take k bytes n (at + 1) (omega arith))
+
+-- a number behind the first n bytes is that of all, n further on
+pub number-drop : (k : ℕ) (bytes : List ℕ) (n at : ℕ) → numberAt k (drop n bytes) at ≡ numberAt k bytes (n + at)
+unfolding numberAt
+number-drop zero bytes n at = refl
+number-drop (suc k) bytes n at = rw (getD-drop n bytes at 0, number-drop k bytes n (at + 1), add-assoc)

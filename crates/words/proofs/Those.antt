@@ -1,6 +1,6 @@
 -- The elements of a list that a test takes, where the list has one element more.
-use mathlib.Core.Path.{_≡_, refl, ap}
-use mathlib.Core.Bool.{Bool, true, false}
+use mathlib.Core.Path.{_≡_, refl, sym, ap}
+use mathlib.Core.Bool.{Bool, true, false, true≢false}
 use mathlib.Core.List.{List, [], _∷_, _++_, map}
 use Prim.Native.Nat.{suc, _≤_}
 use native.Mathlib.Omega.{arith}
@@ -32,15 +32,19 @@ module _ {A : Type 0} (test : A → Bool) where
       go true e = ap (λ (r : List A). y ∷ r) e
       go false e = e
 
-  -- they are no more than all
-  pub those-fewer : (xs : List A) → length (those test xs) ≤ length xs
-  unfolding those if
-  those-fewer [] = omega arith
-  those-fewer (x ∷ xs) = go (test x) (those-fewer xs)
-    where
-      go : (b : Bool) → length (those test xs) ≤ length xs → length (if b (x ∷ those test xs) (those test xs)) ≤ length (x ∷ xs)
-      go true l = omega arith
-      go false l = omega arith
+-- a narrower test takes no more
+pub those-narrower : {A : Type 0} (test wider : A → Bool) → ((x : A) → test x ≡ true → wider x ≡ true) → (xs : List A)
+    → length (those test xs) ≤ length (those wider xs)
+unfolding those if
+those-narrower test wider h [] = omega arith
+those-narrower test wider h (x ∷ xs) = go (test x) (wider x) (h x) (those-narrower test wider h xs)
+  where
+    go : (b w : Bool) → (b ≡ true → w ≡ true) → length (those test xs) ≤ length (those wider xs)
+        → length (if b (x ∷ those test xs) (those test xs)) ≤ length (if w (x ∷ those wider xs) (those wider xs))
+    go true true i l = omega arith
+    go true false i l = absurd (true≢false (sym (i refl)))
+    go false true i l = omega arith
+    go false false i l = l
 
 -- what is made of a list with one element more
 pub map-more : {A B : Type 0} (f : A → B) (xs : List A) (x : A) → map f (xs ++ (x ∷ [])) ≡ map f xs ++ (f x ∷ [])
