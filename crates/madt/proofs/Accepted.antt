@@ -1,27 +1,33 @@
--- What it tells that the walk of a MADT refused nothing: what it found is what the structures make, each of them keeps the rules,
--- and no kind has too many.
-use mathlib.Core.Path.{_≡_, refl, sym, ap}
+-- What it tells that the walk of a MADT refused nothing: what it found is what the structures make, all of them are taken, each of
+-- them keeps the rules, and no kind has too many.
+use mathlib.Core.Path.{_≡_, refl, sym, ap, _∙_}
 use mathlib.Core.Bool.{Bool, true, false}
-use mathlib.Core.List.{List, [], _∷_, _++_, append-nil, append-assoc}
+use mathlib.Core.List.{List, [], _∷_, _++_, map, append-nil, append-assoc}
 use Prim.Native.Nat.{ℕ, zero, suc, _+_, _≤_, _<_}
 use native.Mathlib.Omega.{arith}
-use lib.ListN.{length, getD}
+use lib.ListN.{length, getD, drop}
+use lib.Seq.{getD-take, getD-drop}
 use borrow.Author.Tests.{eqb-true}
-use Rattle.words.specs.Bytes.{byteAt}
+use Rattle.words.specs.Bytes.{byteAt, partAt}
 use Rattle.words.specs.Lists.{those}
 use Rattle.words.specs.Refusals.{unless, firstRefusal}
 use Rattle.words.specs.declared.Verdict.{Verdict}
 use Rattle.words.specs.declared.Verdict.the-variants.{Sound, Refused}
-use Rattle.words.proofs.Verdicts.{not-sound, joined-kept, unless-told}
-use Rattle.words.proofs.Those.{those-fewer}
-use Rattle.kinds.specs.Makers.{coreOf, isEnabled}
-use Rattle.madt.specs.Pieces.{Piece, whole, cut, Whole, pieces, structures}
+use Rattle.words.proofs.Choices.{if-cases}
+use Rattle.words.proofs.Verdicts.{not-sound, joined-kept, unless-sound, unless-told}
+use Rattle.words.proofs.Tests.{both-left}
+use Rattle.words.proofs.Those.{those-narrower}
+use Rattle.tables.specs.Structures.{stepAt}
+use Rattle.tables.specs.declared.Step.{Step}
+use Rattle.tables.specs.declared.Step.the-variants.{End, Structure, Broken}
+use Rattle.madt.specs.Pieces.{Piece, whole, cut, Whole, pieceAt, piecesFrom, pieces, structures}
 use Rattle.madt.specs.Rules.{isType, structureRules}
-use Rattle.madt.specs.Contents.{ofType, howMany, made, enabledIn, foundIn}
-use Rattle.madt.specs.Walk.{rulesInTurn, walkRules, turnedAway, walked}
+use Rattle.madt.specs.Contents.{ofType, howMany, isEnabledCore, enabledCores, offsetsOf, foundIn}
+use Rattle.madt.specs.Walk.{rulesInTurn, walkRules, turnedAway, walked, takenInTurn, taken}
 use Rattle.madt.specs.declared.Walked.{Walked}
-use Rattle.madt.proofs.Contents.{count-more, count-same, made-many}
-use Rattle.madt.proofs.Checks.{Kept, all-kept, room-core, room-lio, room-eio, room-msi, room-bio, room-lpc}
+use Rattle.madt.proofs.Pieces.{step-inside, step-length}
+use Rattle.madt.proofs.Contents.{count-more, count-same}
+use Rattle.madt.proofs.Checks.{Kept, all-kept, length-core, room-core, room-lio, room-eio, room-msi, room-bio, room-lpc}
 
 -- ---- what it found
 -- its verdict is the first refusal of its rules
@@ -65,6 +71,16 @@ module _ (base : ℕ) where
   each-kept before (cut at ∷ ps) h i l = absurd (omega arith)
   each-kept before (whole at s ∷ ps) h zero l = (howMany (byteAt s 0) before, in-turn before at s ps h .0)
   each-kept before (whole at s ∷ ps) h (suc i) l = each-kept _ ps (in-turn before at s ps h .1) i (omega arith)
+
+  -- all are taken
+  taken-in-turn : (before : List Whole) (ps : List Piece) → firstRefusal (rulesInTurn base before ps) ≡ Sound → takenInTurn base before ps ≡ structures ps
+  unfolding takenInTurn structures rulesInTurn
+  taken-in-turn before [] h = refl
+  taken-in-turn before (cut at ∷ ps) h = refl
+  taken-in-turn before (whole at s ∷ ps) h =
+      let b = joined-kept (structureRules (base + at) (howMany (byteAt s 0) before) s) _ h in
+      let x : Whole = record { at = at; bytes = s } in
+      rw (unless-sound (λ refusal. []) _ _ (b .0)) (ap (λ (later : List Whole). x ∷ later) (taken-in-turn (before ++ (x ∷ [])) ps (b .1)))
 
   -- a kind of which a structure that keeps the rules is never one too many has no more than `most`
   module _ (number most : ℕ) (room : (n : ℕ) (s : List ℕ) → Kept n s → byteAt s 0 ≡ number → n < most) where
@@ -118,13 +134,56 @@ module _ (table : List ℕ) (base : ℕ) (h : firstRefusal (walkRules table base
   few-bios = few-of 22 4 (λ n s k t. room-bio k t)
 
   -- enabled or not
-  pub few-enabled : enabledIn all ≤ 256
-  unfolding enabledIn
+  pub few-enabled : length (enabledCores all) ≤ 256
+  unfolding enabledCores ofType isEnabledCore
   few-enabled =
-      let fewer = those-fewer isEnabled (made 17 coreOf all) in
-      omega (arith, fewer, made-many 17 coreOf all, few-cores)
+      let fewer = those-narrower (λ (x : Whole). isEnabledCore (x .bytes)) (λ (x : Whole). isType 17 (x .bytes)) (λ x h. both-left _ _ h) all in
+      omega (arith, fewer, few-cores)
 
   -- each of them keeps the rules
   pub kept-at : (i : ℕ) → i < length all → (n : ℕ) × Kept n (getD all i noWhole .bytes)
   unfolding walkRules
   kept-at i l = each-kept base [] (pieces table 44) h i l
+
+  -- all of them are taken
+  pub taken-all : taken table base ≡ all
+  unfolding walkRules taken
+  taken-all = taken-in-turn base [] (pieces table 44) h
+
+-- ---- "CORE, length 15": the own bytes of the enabled CORE are the fifteen from where they stand
+module _ (table : List ℕ) where
+  abbrev Fifteen : List Whole → Type 0
+  Fifteen cores = map (λ (x : Whole). x .bytes) cores ≡ map (λ (at : ℕ). partAt table at 15) (offsetsOf cores)
+
+  core-length : (at size : ℕ) {n : ℕ} → stepAt table at ≡ Structure size → Kept n (partAt table at size)
+      → isEnabledCore (partAt table at size) ≡ true → size ≡ 15
+  unfolding isEnabledCore isType
+  core-length at size e k on =
+      let least : 2 ≤ size = step-inside table at size e .1 in
+      let type : byteAt (partAt table at size) 0 ≡ 17 = eqb-true _ _ (both-left _ _ on) in
+      let own : byteAt (partAt table at size) 1 ≡ byteAt table (at + 1) = getD-take size (drop at table) 1 0 (omega arith) ∙ getD-drop at table 1 0 in
+      sym (step-length table at size e) ∙ sym own ∙ length-core k type
+
+  module _ (base : ℕ) where
+    fifteen-at : (before : List Whole) (at : ℕ) (step : Step) (later : ℕ → List Piece) → stepAt table at ≡ step
+        → ((size : ℕ) (before : List Whole) → firstRefusal (rulesInTurn base before (later size)) ≡ Sound → Fifteen (enabledCores (structures (later size))))
+        → firstRefusal (rulesInTurn base before (pieceAt table at step later)) ≡ Sound → Fifteen (enabledCores (structures (pieceAt table at step later)))
+    unfolding enabledCores structures those pieceAt
+    fifteen-at before at End later e rest h = refl
+    fifteen-at before at Broken later e rest h = refl
+    fifteen-at before at (Structure size) later e rest h =
+        let t = in-turn base before at (partAt table at size) (later size) h in
+        if-cases Fifteen _ _ _
+        (λ on. ap (λ (n : ℕ). partAt table at n ∷ map (λ (x : Whole). x .bytes) (enabledCores (structures (later size)))) (core-length at size e (t .0) on)
+        ∙ ap (λ (r : List (List ℕ)). partAt table at 15 ∷ r) (rest size _ (t .1)))
+        (λ off. rest size _ (t .1))
+
+    fifteen-from : (k : ℕ) (before : List Whole) (at : ℕ) → firstRefusal (rulesInTurn base before (piecesFrom k table at)) ≡ Sound
+        → Fifteen (enabledCores (structures (piecesFrom k table at)))
+    unfolding enabledCores structures those piecesFrom
+    fifteen-from zero before at h = refl
+    fifteen-from (suc k) before at h = fifteen-at before at (stepAt table at) _ refl (λ size later. fifteen-from k later (at + size)) h
+
+    pub core-bytes : firstRefusal (walkRules table base) ≡ Sound → Fifteen (enabledCores (structures (pieces table 44)))
+    unfolding walkRules pieces
+    core-bytes h = fifteen-from (length table) [] 44 h

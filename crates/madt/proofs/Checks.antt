@@ -9,7 +9,7 @@ use native.Mathlib.Omega.{arith}
 use mathlib.Core.Logic.{⊎-elim}
 use lib.Dec.{eqb, leb}
 use lib.ListN.{drop}
-use borrow.Author.Tests.{eq-eqb, ne-eqb, not-false, le-leb, leb-true, leb-false}
+use borrow.Author.Tests.{eq-eqb, ne-eqb, eqb-true, not-false, le-leb, leb-true, leb-false}
 use Rattle.words.specs.Bytes.{byteAt}
 use Rattle.words.specs.Choice.{if}
 use Rattle.words.specs.Refusals.{refused, rule, unless, firstRefusal}
@@ -223,6 +223,7 @@ module _ (place before : ℕ) (s : List ℕ) where
 
 -- ---- what it tells that none is broken
 pub record Kept (before : ℕ) (s : List ℕ) : Type 0 where
+  pub r32 : wrongLength s ≡ false
   pub r71 : wrongCascade s ≡ false
   pub r72 : wrongNode s ≡ false
   pub r73 : wrongNodes s ≡ false
@@ -236,7 +237,8 @@ pub record Kept (before : ℕ) (s : List ℕ) : Type 0 where
 pub all-kept : (place before : ℕ) (s : List ℕ) → firstRefusal (structureRules place before s) ≡ Sound → Kept before s
 unfolding structureRules
 all-kept place before s h =
-    let r35 = first-sound _ _ _ _ (first-sound _ _ _ _ (first-sound _ _ _ _ (first-sound _ _ _ _ h .1) .1) .1) in
+    let r32 = first-sound _ _ _ _ h in
+    let r35 = first-sound _ _ _ _ (first-sound _ _ _ _ (first-sound _ _ _ _ (r32 .1) .1) .1) in
     let r71 = first-sound _ _ _ _ (r35 .1) in
     let r72 = first-sound _ _ _ _ (r71 .1) in
     let r73 = first-sound _ _ _ _ (r72 .1) in
@@ -247,6 +249,7 @@ all-kept place before s h =
     let r37 = first-sound _ _ _ _ (r77 .1) in
     let r38 = first-sound _ _ _ _ (r37 .1) in
     record {
+      r32 = r32 .0;
       r71 = r71 .0;
       r72 = r72 .0;
       r73 = r73 .0;
@@ -297,6 +300,10 @@ module _ {before : ℕ} {s : List ℕ} (k : Kept before s) where
 
 -- the structure is not one too many of its kind
 module _ {before : ℕ} {s : List ℕ} (k : Kept before s) where
+  pub length-core : byteAt s 0 ≡ 17 → byteAt s 1 ≡ 15
+  unfolding wrongLength isKnown lengthOf
+  length-core t = eqb-true _ _ (not-false _ (rw (of-core s _ _ _ _ _ _ _ _ t, t) at (k .r32)))
+
   pub room-core : byteAt s 0 ≡ 17 → before < 256
   unfolding oneTooMany
   room-core t = leb-false 256 before (sym (of-core s _ _ _ _ _ _ _ _ t) ∙ k .r38)

@@ -17,7 +17,7 @@ use Rattle.lines.specs.declared.Map.{Map}
 use Rattle.lines.specs.declared.Places.{Places}
 use Rattle.madt.specs.Pieces.{Whole}
 use Rattle.madt.specs.Rules.{isType, oneTooMany}
-use Rattle.madt.specs.Contents.{ofType, howMany, made, standing, theOne, inFour, mapOf, placesOf, MadeBy, enabledIn}
+use Rattle.madt.specs.Contents.{ofType, howMany, made, standing, theOne, inFour, mapOf, placesOf, MadeBy, isEnabledCore, enabledCores}
 use Rattle.madt.proofs.Types.{of-core, of-lio, of-eio, of-msi, of-bio, of-lpc}
 
 -- ---- one element more of a kind
@@ -179,18 +179,23 @@ module _ (s : List ℕ) (all : List Whole) {cores : ℕ} {m : Map} (by : MadeBy 
       rw (of-lpc s _ _ _ _ _ _ _ _ t, t)
       (ap (λ (x : Map). x .lpc .present) (by .1) ∙ there (λ x. x .present) noLpc lpcOf (ofType 23 all) refl (λ s. refl))
 
--- ---- the CORE
+-- ---- the processors
+-- what the type and the flags tell of a structure
+module _ (s : List ℕ) where
+  pub of-another-type : isType 17 s ≡ false → isEnabledCore s ≡ false
+  unfolding isEnabledCore
+  of-another-type t = rw t
+
+  pub by-its-flags : {live : Bool} → isType 17 s ≡ true → isEnabled (coreOf s) ≡ live → isEnabledCore s ≡ live
+  unfolding isEnabledCore
+  by-its-flags t h = rw t h
+
+-- one structure more
 module _ (all : List Whole) (x : Whole) where
-  pub enabled-same : isType 17 (x .bytes) ≡ false → enabledIn (all ++ (x ∷ [])) ≡ enabledIn all
-  unfolding enabledIn
-  enabled-same t = rw (made-same 17 all x t coreOf)
+  pub enabled-same : isEnabledCore (x .bytes) ≡ false → enabledCores (all ++ (x ∷ [])) ≡ enabledCores all
+  unfolding enabledCores
+  enabled-same h = those-same _ all x h
 
-  pub enabled-more : isType 17 (x .bytes) ≡ true → isEnabled (coreOf (x .bytes)) ≡ true → enabledIn (all ++ (x ∷ [])) ≡ enabledIn all + 1
-  unfolding enabledIn
-  enabled-more t h =
-      rw (made-more 17 all x t coreOf, those-more isEnabled (made 17 coreOf all) (coreOf (x .bytes)) h)
-      (length-append (those isEnabled (made 17 coreOf all)) (coreOf (x .bytes) ∷ []))
-
-  pub disabled-more : isType 17 (x .bytes) ≡ true → isEnabled (coreOf (x .bytes)) ≡ false → enabledIn (all ++ (x ∷ [])) ≡ enabledIn all
-  unfolding enabledIn
-  disabled-more t h = rw (made-more 17 all x t coreOf, those-same isEnabled (made 17 coreOf all) (coreOf (x .bytes)) h)
+  pub enabled-more : isEnabledCore (x .bytes) ≡ true → enabledCores (all ++ (x ∷ [])) ≡ enabledCores all ++ (x ∷ [])
+  unfolding enabledCores
+  enabled-more h = those-more _ all x h

@@ -8,7 +8,7 @@ use native.Mathlib.Omega.{arith}
 use lib.Dec.{ltb}
 use lib.ListN.{length}
 use borrow.Author.Tests.{leb-false, ltb-false, lt-leb}
-use Rattle.words.specs.Bytes.{partAt}
+use Rattle.words.specs.Bytes.{byteAt, partAt}
 use Rattle.words.specs.Choice.{if}
 use Rattle.words.proofs.Choices.{passed, no-if}
 use Rattle.words.proofs.Tests.{neither-left, neither-right}
@@ -45,6 +45,11 @@ step-inside table at size h =
     let least : 2 ≤ structureLength table at = ltb-false _ _ (neither-right short low (neither-left (short || low) past (whole .0))) in
     let fits : at + structureLength table at ≤ length table = ltb-false _ _ (neither-right (short || low) past (whole .0)) in
     (leb-false _ _ (more .0), rw (← e) least, rw (← e) fits)
+
+-- it is the structure's own length byte
+pub step-length : (table : List ℕ) (at size : ℕ) → stepAt table at ≡ Structure size → byteAt table (at + 1) ≡ size
+unfolding stepAt structureLength
+step-length table at size h = same-size (passed _ _ _ _ (passed _ _ _ _ h not-end .1) not-broken .1)
 
 -- a piece depends on what comes later only behind a structure
 same-later : (table : List ℕ) (at : ℕ) (step : Step) (f g : ℕ → List Piece) → ((size : ℕ) → step ≡ Structure size → f size ≡ g size)

@@ -2,6 +2,7 @@
 -- number, but no places, addresses or register sizes; its unused places, an unused half's byte among them, hold 0". Here: what
 -- some whole structures of a MADT make, and where they stand.
 use Prim.Native.Nat.{ℕ, _+_}
+use mathlib.Core.Bool.{Bool, _&&_}
 use mathlib.Core.List.{List, [], _∷_, map}
 use mathlib.Core.Path.{_≡_}
 use lib.ListN.{length, getD}
@@ -67,13 +68,21 @@ placesOf base all =
 abbrev pub MadeBy : List Whole → ℕ → Map → Type 0
 MadeBy all cores map = (cores ≡ howMany 17 all) × (map ≡ mapOf (map .sci) all)
 
--- how many CORE are enabled
-unfoldable pub enabledIn : List Whole → ℕ
-enabledIn all = length (those isEnabled (made 17 coreOf all))
+-- ---- the processors: a structure, whose own bytes are s, is an enabled CORE
+unfoldable pub isEnabledCore : List ℕ → Bool
+isEnabledCore s = isType 17 s && isEnabled (coreOf s)
 
--- all of it
+-- "each enabled CORE, in table order"
+unfoldable pub enabledCores : List Whole → List Whole
+enabledCores all = those (λ x. isEnabledCore (x .bytes)) all
+
+-- where some structures stand in the table
+abbrev pub offsetsOf : List Whole → List ℕ
+offsetsOf some = map (λ x. x .at) some
+
+-- ---- all of it
 unfoldable pub foundIn : ℕ → ℕ → List Whole → Found
-foundIn base sci all = record { map = mapOf sci all; places = placesOf base all; enabled = enabledIn all }
+foundIn base sci all = record { map = mapOf sci all; places = placesOf base all; enabled = length (enabledCores all) }
 
 -- nothing found: the empty map
 abbrev pub nothing : ℕ → Found

@@ -9,6 +9,11 @@ pub mod walk; // the structures in turn
 mod rules; // 32 to 38 and 71 to 77 of one structure
 mod nothing; // before the first structure
 
+// Where the enabled CORE stand in the MADT: room for as many as 38 lets pass.
+pub const ROOM: usize = 256;
+
+pub type Offsets = [u16; ROOM];
+
 // What was found: the map and the places of its structures, and how many processors are enabled.
 pub struct Found {
     pub map: Map,

@@ -1,5 +1,6 @@
 // The MADT's structures in turn, each through refusals 31 to 38, with 71 to 77 in 36's place, before the next.
 use crate::Found;
+use crate::Offsets;
 use crate::Walked;
 use crate::nothing;
 use crate::rules;
@@ -18,7 +19,7 @@ ghost use mathlib.Core.Path.{_≡_};
 ghost use Prim.Native.Nat.{_<_};
 ghost use lib.ListN.{length};
 ghost use Rattle.words.specs.Bytes.{partAt};
-ghost use Rattle.madt.specs.Walk.{turnedAway, walked};
+ghost use Rattle.madt.specs.Walk.{turnedAway, walked, noted};
 
 fn turn_away(refusal: Refusal) -> Walked
     ensures { λ r. ⌜ r ≡ turnedAway refusal ⌝ }
@@ -31,10 +32,12 @@ fn turn_away(refusal: Refusal) -> Walked
 }
 
 // The structures of the MADT with some bytes, which stands at a place. What is found is changed where it stands, and is put
-// together at the end: it is large, and a copy for every structure would cost more than all else here.
-fn walk_table(table: &[u8], base: u16, sci: u16) -> Walked
+// together at the end: it is large, and a copy for every structure would cost more than all else here. Where the enabled CORE
+// stand is noted in a lent room for the same reason.
+fn walk_table(table: &[u8], base: u16, sci: u16, offsets: &mut Offsets) -> Walked
     requires { ⌜ length (now table) < 65536 ⌝ }
     ensures { λ r. ⌜ r ≡ walked (now (table .entry)) base sci ⌝ }
+    ensures { λ r. ⌜ now (offsets .exit) ≡ noted (now (table .entry)) base (now (offsets .entry)) ⌝ }
 {
     let mut map = nothing::no_map(sci);
     let mut places = nothing::no_places();
@@ -56,6 +59,7 @@ fn walk_table(table: &[u8], base: u16, sci: u16) -> Walked
                 cores += 1;
                 let core = Core::from_bytes(structure);
                 if core.is_enabled() {
+                    offsets[enabled as usize] = at as u16;
                     enabled += 1;
                 }
             }
@@ -99,10 +103,12 @@ fn walk_table(table: &[u8], base: u16, sci: u16) -> Walked
 }
 
 // Refusals 31 to 38 and 71 to 77 of the MADT of a capture, or the map with an SCI number, the places of its structures, and the
-// number of processors.
-pub fn walk_madt(capture: &[u8], madt: Table, sci: u16) -> Walked
+// number of processors. Where these stand in the MADT is noted in the front of a lent room; a refusal leaves there what was noted
+// before it.
+pub fn walk_madt(capture: &[u8], madt: Table, sci: u16, offsets: &mut Offsets) -> Walked
     ensures { λ r. ⌜ r ≡ walked (partAt (now (capture .entry)) (madt .place) (madt .length)) (madt .place) sci ⌝ }
+    ensures { λ r. ⌜ now (offsets .exit) ≡ noted (partAt (now (capture .entry)) (madt .place) (madt .length)) (madt .place) (now (offsets .entry)) ⌝ }
 {
     let table = words::part(capture, madt.place as usize, madt.length as usize);
-    walk_table(table, madt.place, sci)
+    walk_table(table, madt.place, sci, offsets)
 }

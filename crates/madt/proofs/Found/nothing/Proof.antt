@@ -1,6 +1,6 @@
 -- `Found::nothing` is nothing found.
 use Rattle.words.specs.Lists.{those}
-use Rattle.madt.specs.Contents.{ofType, made, enabledIn, foundIn}
+use Rattle.madt.specs.Contents.{enabledCores, foundIn}
 use borrow.Author.Needs.{needs}
 use Rattle.madt.proofs.Found.nothing.Statement.{statement}
 use Rattle.madt.proofs.Found.nothing.Tie as tie
@@ -12,7 +12,7 @@ no-places-requires : tie.Need-no-places-requires
 no-places-requires c κs = search needs
 
 returns : tie.Need-returns
-unfolding foundIn enabledIn made ofType those
+unfolding foundIn enabledCores those
 returns c = rw (c .no-places .ensures, c .before .no-map .ensures)
 
 pub nothing-spec : {M : Type 1} → statement M

@@ -16,11 +16,11 @@ part-requires c κs = search needs
 
 walk-table-requires : tie.Need-walk-table-requires
 walk-table-requires c κs =
-    let given = c .before .before .before .before .args in
-    rw (c .part .ensures) (part-small (given .capture .now) (given .madt .place) (given .madt .length) (omega arith))
+    let given = c .before .before .before .before .before .args in
+    rw (c .before .part .ensures) (part-small (given .capture .now) (given .madt .place) (given .madt .length) (omega arith))
 
 returns : tie.Need-returns
-returns c = rw (← c .before .part .ensures) (c .walk-table .ensures)
+returns c = rw (← c .before .before .part .ensures) (c .walk-table .ensures)
 
 pub walk-madt-spec : {M : Type 1} → statement M
 walk-madt-spec =

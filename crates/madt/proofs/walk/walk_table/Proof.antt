@@ -3,31 +3,29 @@ use denote.Ref.{now}
 use mathlib.Core.Logic.{⊎-elim}
 use native.Mathlib.Omega.{arith}
 use mathlib.Core.List.{[], _∷_, _++_}
-use mathlib.Core.Path.{_≡_, sym, _∙_}
+use mathlib.Core.Path.{_≡_, refl, sym, _∙_}
 use Prim.Native.Nat.{_+_, _-_, _<_}
-use lib.ListN.{length}
+use lib.ListN.{length, length-append}
 use Rattle.words.specs.Bytes.{byteAt, partAt}
 use Rattle.words.specs.Refusals.{firstRefusal}
 use Rattle.words.specs.declared.Verdict.the-variants.{Sound}
-use mathlib.Core.Bool.{true, false}
-use Rattle.kinds.specs.Makers.{coreOf, isEnabled}
 use Rattle.madt.specs.Pieces.{Whole}
 use Rattle.madt.specs.Rules.{structureRules}
-use Rattle.madt.specs.Contents.{howMany}
+use Rattle.madt.specs.Contents.{howMany, enabledCores}
 use Rattle.madt.proofs.Pieces.{sizeAt}
 use Rattle.madt.proofs.Types.{type-yes, type-no}
-use Rattle.madt.proofs.Contents.{count-more, count-same, one-more, one-same, four-more, four-same, enabled-same, enabled-more, disabled-more}
+use Rattle.madt.proofs.Contents.{count-more, count-same, one-more, one-same, four-more, four-same, of-another-type, by-its-flags, enabled-same, enabled-more}
 use Rattle.madt.proofs.Checks.{all-kept, room-core, room-lio, room-eio, room-msi, room-bio, room-lpc}
-use Rattle.madt.proofs.Walking.{Found, Walking, walk-starts, made-by, eio-room, msi-room, bio-room, walk-ends, walk-cuts, walk-refuses, walk-goes-on}
+use Rattle.madt.proofs.Walking.{Found, Noting, noting-same, noting-more, Walking, walk-starts, made-by, core-room, eio-room, msi-room, bio-room, walk-ends, walk-cuts, walk-refuses, walk-goes-on}
 use borrow.Author.Needs.{needs}
 use Rattle.madt.proofs.walk.walk_table.Statement.{statement}
 use Rattle.madt.proofs.walk.walk_table.Tie as tie
 
 abbrev Inv-loop : tie.InvT-loop
-Inv-loop table base sci map₀ places₀ enabled₀ cores₀ at₀ map places enabled cores at = Walking table base sci map places enabled cores at
+Inv-loop table base sci offsets₀ map₀ places₀ enabled₀ cores₀ at₀ offsets map places enabled cores at = Walking table base sci offsets₀ offsets map places enabled cores at
 
 abbrev μ-loop : tie.MeasureT-loop
-μ-loop table base sci map₀ places₀ enabled₀ cores₀ at₀ map places enabled cores at = length table - at
+μ-loop table base sci offsets₀ map₀ places₀ enabled₀ cores₀ at₀ offsets map places enabled cores at = length table - at
 
 no-map-requires : tie.Need-no-map-requires Inv-loop μ-loop
 no-map-requires c κs = search needs
@@ -36,7 +34,7 @@ no-places-requires : tie.Need-no-places-requires Inv-loop μ-loop
 no-places-requires c κs = search needs
 
 loop-holds : tie.Need-loop-holds Inv-loop μ-loop
-loop-holds c = walk-starts _ _ _ (c .before .no-map .ensures) (c .no-places .ensures)
+loop-holds c = walk-starts _ _ _ _ (c .before .no-map .ensures) (c .no-places .ensures)
 
 cast-place : tie.Need-cast-place Inv-loop μ-loop
 cast-place c = search needs
@@ -77,8 +75,8 @@ returns-2 c =
     let size = c .before .before .before .before .before .before .before .size-at .ensures .0 in
     let s = partAt table (l .at) (sizeAt table (l .at)) in
     let same : now (c .before .before .before .before .before .part .result) ≡ s = rw (c .before .before .before .before .before .part .ensures, size) in
-    c .turn-away2 .ensures
-    ∙ walk-refuses (l .inv) (λ h. c .before .before .before .before .before .before .if1 .left (size ∙ h)) (rw (sym same) (sym (c .before .before .before .before .check .ensures (l .inv .all) (made-by (l .inv))) ∙ c .before .before .refusal .given .1))
+    let told = walk-refuses (l .inv) (λ h. c .before .before .before .before .before .before .if1 .left (size ∙ h)) (rw same at (sym (c .before .before .before .before .check .ensures (l .inv .all) (made-by (l .inv))) ∙ c .before .before .refusal .given .1)) in
+    (c .turn-away2 .ensures ∙ told .0, told .1)
 
 enum-told : tie.Need-enum-told Inv-loop μ-loop
 enum-told c = search needs
@@ -106,8 +104,17 @@ from-bytes-requires c κs = search needs
 is-enabled-requires : tie.Need-is-enabled-requires Inv-loop μ-loop
 is-enabled-requires c κs = search needs
 
-add-enabled : tie.Need-add-enabled Inv-loop μ-loop
-add-enabled c =
+cast-offsets : tie.Need-cast-offsets Inv-loop μ-loop
+cast-offsets c = search needs
+
+cast-offsets-2 : tie.Need-cast-offsets-2 Inv-loop μ-loop
+cast-offsets-2 c = search needs
+
+mul-offsets : tie.Need-mul-offsets Inv-loop μ-loop
+mul-offsets c = search needs
+
+element-write-offsets : tie.Need-element-write-offsets Inv-loop μ-loop
+element-write-offsets c =
     let l = c .before .before .before .before .before .before .before .before .before .before .before .before .loop in
     let table = now (c .before .before .before .before .before .before .before .before .before .before .before .before .before .before .before .before .args .table) in
     let size = c .before .before .before .before .before .before .before .before .before .before .size-at .ensures .0 in
@@ -115,9 +122,12 @@ add-enabled c =
     let same : now (c .before .before .before .before .before .before .before .before .part .result) ≡ s = rw (c .before .before .before .before .before .before .before .before .part .ensures, size) in
     let sound : firstRefusal (structureRules (c .before .before .before .before .before .before .before .before .before .before .before .before .before .before .before .before .args .base + l .at) (howMany (byteAt s 0) (l .inv .all)) s) ≡ Sound =
     rw (sym same) (sym (c .before .before .before .before .before .before .before .check .ensures (l .inv .all) (made-by (l .inv))) ∙ c .before .before .before .before .before .enum-told .given .1) in
-    let kept = all-kept _ _ _ sound in
     let type : byteAt s 0 ≡ c .before .before .before .before .byte-at .result = rw (sym same) (sym (c .before .before .before .before .byte-at .ensures)) in
-    let room = l .inv .found .few in omega arith
+    let here = type ∙ c .before .before .before .match2 .keys1 in
+    core-room (l .inv) here (room-core (all-kept _ _ _ sound) here)
+
+add-enabled : tie.Need-add-enabled Inv-loop μ-loop
+add-enabled c = let room = c .before .before .before .before .before .before .before .before .before .before .before .before .loop .inv .found .few in omega arith
 
 from-bytes-requires-2 : tie.Need-from-bytes-requires-2 Inv-loop μ-loop
 from-bytes-requires-2 c κs = search needs
@@ -131,8 +141,8 @@ cast-n c = search needs
 from-bytes-requires-3 : tie.Need-from-bytes-requires-3 Inv-loop μ-loop
 from-bytes-requires-3 c κs = search needs
 
-mul-t34 : tie.Need-mul-t34 Inv-loop μ-loop
-mul-t34 c = search needs
+mul-t40 : tie.Need-mul-t40 Inv-loop μ-loop
+mul-t40 c = search needs
 
 element-set-from-map : tie.Need-element-set-from-map Inv-loop μ-loop
 element-set-from-map c =
@@ -163,8 +173,8 @@ cast-n-2 c = search needs
 from-bytes-requires-4 : tie.Need-from-bytes-requires-4 Inv-loop μ-loop
 from-bytes-requires-4 c κs = search needs
 
-mul-t42 : tie.Need-mul-t42 Inv-loop μ-loop
-mul-t42 c = search needs
+mul-t48 : tie.Need-mul-t48 Inv-loop μ-loop
+mul-t48 c = search needs
 
 element-set-from-map-2 : tie.Need-element-set-from-map-2 Inv-loop μ-loop
 element-set-from-map-2 c =
@@ -195,8 +205,8 @@ cast-n-3 c = search needs
 from-bytes-requires-5 : tie.Need-from-bytes-requires-5 Inv-loop μ-loop
 from-bytes-requires-5 c κs = search needs
 
-mul-t50 : tie.Need-mul-t50 Inv-loop μ-loop
-mul-t50 c = search needs
+mul-t56 : tie.Need-mul-t56 Inv-loop μ-loop
+mul-t56 c = search needs
 
 element-set-from-map-3 : tie.Need-element-set-from-map-3 Inv-loop μ-loop
 element-set-from-map-3 c =
@@ -248,85 +258,104 @@ loop-again c =
     let f = w .found in
     let p = f .parts in
     let few = f .few in
-    let next : Found base sci (w .all ++ (x ∷ [])) (c .match2 .map) (c .match2 .places) (c .match2 .enabled) (c .match2 .cores) =
+    let lent = now (c .before .before .before .before .before .before .before .before .before .before .before .before .before .args .offsets) in
+    let next : Found base sci (w .all ++ (x ∷ [])) (c .match2 .map) (c .match2 .places) (c .match2 .enabled) (c .match2 .cores) × Noting (w .all ++ (x ∷ [])) lent (c .match2 .offsets) =
     ⊎-elim (λ v. let t = type ∙ v .0 .keys1 in let core = type-yes 17 s t in
-    let live : isEnabled (coreOf s) ≡ true = rw (sym same, sym (v .1 .ensures)) (sym (v .2 .ensures) ∙ v .3 .taken) in
+    let on = by-its-flags s core (rw (sym same, sym (v .1 .ensures)) (sym (v .2 .ensures) ∙ v .3 .taken)) in
     let free : l .cores < 256 = rw (f .cores-is, sym t) (room-core kept t) in
-    rw (v .4, v .5, v .6, v .7)
-    (record {
-      parts = record { lio = one-same x (p .lio) (type-no 18 s (λ h. omega arith)); eios = four-same x (p .eios) (type-no 20 s (λ h. omega arith)); bios = four-same x (p .bios) (type-no 22 s (λ h. omega arith)); msis = four-same x (p .msis) (type-no 21 s (λ h. omega arith)); lpc = one-same x (p .lpc) (type-no 23 s (λ h. omega arith)); number = p .number };
-      enabled-is = rw (enabled-more (w .all) x core live, f .enabled-is);
-      cores-is = rw (count-more 17 (w .all) x core, f .cores-is);
-      few = (omega arith, omega arith, few .2, few .3, few .4);
-    }))
+    rw (v .4, v .5, v .6, v .7, v .8) (
+      record {
+        parts = record { lio = one-same x (p .lio) (type-no 18 s (λ h. omega arith)); eios = four-same x (p .eios) (type-no 20 s (λ h. omega arith)); bios = four-same x (p .bios) (type-no 22 s (λ h. omega arith)); msis = four-same x (p .msis) (type-no 21 s (λ h. omega arith)); lpc = one-same x (p .lpc) (type-no 23 s (λ h. omega arith)); number = p .number };
+        enabled-is = rw (enabled-more (w .all) x on, f .enabled-is, length-append (enabledCores (w .all)) (x ∷ []));
+        cores-is = rw (count-more 17 (w .all) x core, f .cores-is);
+        few = (omega arith, omega arith, few .2, few .3, few .4);
+      },
+      noting-more (w .all) lent x (w .noting) on (f .enabled-is) refl,
+    ))
     (⊎-elim (λ v. let t = type ∙ v .0 .keys1 in let core = type-yes 17 s t in
-    let live : isEnabled (coreOf s) ≡ false = rw (sym same, sym (v .1 .ensures)) (sym (v .2 .ensures) ∙ v .3 .left) in
+    let off = by-its-flags s core (rw (sym same, sym (v .1 .ensures)) (sym (v .2 .ensures) ∙ v .3 .left)) in
     let free : l .cores < 256 = rw (f .cores-is, sym t) (room-core kept t) in
-    rw (v .4, v .5, v .6, v .7)
-    (record {
-      parts = record { lio = one-same x (p .lio) (type-no 18 s (λ h. omega arith)); eios = four-same x (p .eios) (type-no 20 s (λ h. omega arith)); bios = four-same x (p .bios) (type-no 22 s (λ h. omega arith)); msis = four-same x (p .msis) (type-no 21 s (λ h. omega arith)); lpc = one-same x (p .lpc) (type-no 23 s (λ h. omega arith)); number = p .number };
-      enabled-is = rw (disabled-more (w .all) x core live, f .enabled-is);
-      cores-is = rw (count-more 17 (w .all) x core, f .cores-is);
-      few = (omega arith, omega arith, few .2, few .3, few .4);
-    }))
-    (⊎-elim (λ v. let t = type ∙ v .0 .keys2 in
-    rw (v .3, v .4, v .5, v .6, v .2 .ensures, v .1 .ensures, same)
-    (record {
-      parts = record { lio = one-more x (p .lio) (type-yes 18 s t) (rw (sym t) (room-lio kept t)); eios = four-same x (p .eios) (type-no 20 s (λ h. omega arith)); bios = four-same x (p .bios) (type-no 22 s (λ h. omega arith)); msis = four-same x (p .msis) (type-no 21 s (λ h. omega arith)); lpc = one-same x (p .lpc) (type-no 23 s (λ h. omega arith)); number = p .number };
-      enabled-is = rw (enabled-same (w .all) x (type-no 17 s (λ h. omega arith)), f .enabled-is);
-      cores-is = rw (count-same 17 (w .all) x (type-no 17 s (λ h. omega arith)), f .cores-is);
-      few = few;
-    }))
-    (⊎-elim (λ v. let t = type ∙ v .0 .keys3 in let room = eio-room w t (room-eio kept t) in
-    rw (v .2, v .3, v .4, v .5, v .1 .ensures, same)
-    (record {
-      parts = record { lio = one-same x (p .lio) (type-no 18 s (λ h. omega arith)); eios = four-more x (p .eios) (type-yes 20 s t) (rw (sym t) (room-eio kept t)); bios = four-same x (p .bios) (type-no 22 s (λ h. omega arith)); msis = four-same x (p .msis) (type-no 21 s (λ h. omega arith)); lpc = one-same x (p .lpc) (type-no 23 s (λ h. omega arith)); number = p .number };
-      enabled-is = rw (enabled-same (w .all) x (type-no 17 s (λ h. omega arith)), f .enabled-is);
-      cores-is = rw (count-same 17 (w .all) x (type-no 17 s (λ h. omega arith)), f .cores-is);
-      few = (few .0, few .1, omega arith, few .3, few .4);
-    }))
-    (⊎-elim (λ v. let t = type ∙ v .0 .keys4 in let room = msi-room w t (room-msi kept t) in
-    rw (v .2, v .3, v .4, v .5, v .1 .ensures, same)
-    (record {
-      parts = record { lio = one-same x (p .lio) (type-no 18 s (λ h. omega arith)); eios = four-same x (p .eios) (type-no 20 s (λ h. omega arith)); bios = four-same x (p .bios) (type-no 22 s (λ h. omega arith)); msis = four-more x (p .msis) (type-yes 21 s t) (rw (sym t) (room-msi kept t)); lpc = one-same x (p .lpc) (type-no 23 s (λ h. omega arith)); number = p .number };
-      enabled-is = rw (enabled-same (w .all) x (type-no 17 s (λ h. omega arith)), f .enabled-is);
-      cores-is = rw (count-same 17 (w .all) x (type-no 17 s (λ h. omega arith)), f .cores-is);
-      few = (few .0, few .1, few .2, omega arith, few .4);
-    }))
-    (⊎-elim (λ v. let t = type ∙ v .0 .keys5 in let room = bio-room w t (room-bio kept t) in
-    rw (v .2, v .3, v .4, v .5, v .1 .ensures, same)
-    (record {
-      parts = record { lio = one-same x (p .lio) (type-no 18 s (λ h. omega arith)); eios = four-same x (p .eios) (type-no 20 s (λ h. omega arith)); bios = four-more x (p .bios) (type-yes 22 s t) (rw (sym t) (room-bio kept t)); msis = four-same x (p .msis) (type-no 21 s (λ h. omega arith)); lpc = one-same x (p .lpc) (type-no 23 s (λ h. omega arith)); number = p .number };
-      enabled-is = rw (enabled-same (w .all) x (type-no 17 s (λ h. omega arith)), f .enabled-is);
-      cores-is = rw (count-same 17 (w .all) x (type-no 17 s (λ h. omega arith)), f .cores-is);
-      few = (few .0, few .1, few .2, few .3, omega arith);
-    }))
-    (⊎-elim (λ v. let t = type ∙ v .0 .keys6 in
-    rw (v .2, v .3, v .4, v .5, v .1 .ensures, same)
-    (record {
-      parts = record { lio = one-same x (p .lio) (type-no 18 s (λ h. omega arith)); eios = four-same x (p .eios) (type-no 20 s (λ h. omega arith)); bios = four-same x (p .bios) (type-no 22 s (λ h. omega arith)); msis = four-same x (p .msis) (type-no 21 s (λ h. omega arith)); lpc = one-more x (p .lpc) (type-yes 23 s t) (rw (sym t) (room-lpc kept t)); number = p .number };
-      enabled-is = rw (enabled-same (w .all) x (type-no 17 s (λ h. omega arith)), f .enabled-is);
-      cores-is = rw (count-same 17 (w .all) x (type-no 17 s (λ h. omega arith)), f .cores-is);
-      few = few;
-    }))
-    (⊎-elim (λ v. let t = type ∙ v .0 .keys7 in
-    rw (v .1, v .2, v .3, v .4)
-    (record {
-      parts = record { lio = one-same x (p .lio) (type-no 18 s (λ h. omega arith)); eios = four-same x (p .eios) (type-no 20 s (λ h. omega arith)); bios = four-same x (p .bios) (type-no 22 s (λ h. omega arith)); msis = four-same x (p .msis) (type-no 21 s (λ h. omega arith)); lpc = one-same x (p .lpc) (type-no 23 s (λ h. omega arith)); number = p .number };
-      enabled-is = rw (enabled-same (w .all) x (type-no 17 s (λ h. omega arith)), f .enabled-is);
-      cores-is = rw (count-same 17 (w .all) x (type-no 17 s (λ h. omega arith)), f .cores-is);
-      few = few;
-    }))
-    (λ v.
-    rw (v .1, v .2, v .3, v .4)
-    (record {
-      parts = record { lio = one-same x (p .lio) (type-no 18 s (λ h. v .0 .rest .0 .0 .0 .0 .0 .1 (sym type ∙ h))); eios = four-same x (p .eios) (type-no 20 s (λ h. v .0 .rest .0 .0 .0 .0 .1 (sym type ∙ h))); bios = four-same x (p .bios) (type-no 22 s (λ h. v .0 .rest .0 .0 .1 (sym type ∙ h))); msis = four-same x (p .msis) (type-no 21 s (λ h. v .0 .rest .0 .0 .0 .1 (sym type ∙ h))); lpc = one-same x (p .lpc) (type-no 23 s (λ h. v .0 .rest .0 .1 (sym type ∙ h))); number = p .number };
-      enabled-is = rw (enabled-same (w .all) x (type-no 17 s (λ h. v .0 .rest .0 .0 .0 .0 .0 .0 .1 (sym type ∙ h))), f .enabled-is);
-      cores-is = rw (count-same 17 (w .all) x (type-no 17 s (λ h. v .0 .rest .0 .0 .0 .0 .0 .0 .1 (sym type ∙ h))), f .cores-is);
-      few = few;
-    })))))))))
+    rw (v .4, v .5, v .6, v .7, v .8) (
+      record {
+        parts = record { lio = one-same x (p .lio) (type-no 18 s (λ h. omega arith)); eios = four-same x (p .eios) (type-no 20 s (λ h. omega arith)); bios = four-same x (p .bios) (type-no 22 s (λ h. omega arith)); msis = four-same x (p .msis) (type-no 21 s (λ h. omega arith)); lpc = one-same x (p .lpc) (type-no 23 s (λ h. omega arith)); number = p .number };
+        enabled-is = rw (enabled-same (w .all) x off, f .enabled-is);
+        cores-is = rw (count-more 17 (w .all) x core, f .cores-is);
+        few = (omega arith, omega arith, few .2, few .3, few .4);
+      },
+      noting-same (w .all) lent x (w .noting) off,
+    ))
+    (⊎-elim (λ v. let t = type ∙ v .0 .keys2 in let none = type-no 17 s (λ h. omega arith) in let off = of-another-type s none in
+    rw (v .3, v .4, v .5, v .6, v .7, v .2 .ensures, v .1 .ensures, same) (
+      record {
+        parts = record { lio = one-more x (p .lio) (type-yes 18 s t) (rw (sym t) (room-lio kept t)); eios = four-same x (p .eios) (type-no 20 s (λ h. omega arith)); bios = four-same x (p .bios) (type-no 22 s (λ h. omega arith)); msis = four-same x (p .msis) (type-no 21 s (λ h. omega arith)); lpc = one-same x (p .lpc) (type-no 23 s (λ h. omega arith)); number = p .number };
+        enabled-is = rw (enabled-same (w .all) x off, f .enabled-is);
+        cores-is = rw (count-same 17 (w .all) x none, f .cores-is);
+        few = few;
+      },
+      noting-same (w .all) lent x (w .noting) off,
+    ))
+    (⊎-elim (λ v. let t = type ∙ v .0 .keys3 in let none = type-no 17 s (λ h. omega arith) in let off = of-another-type s none in let room = eio-room w t (room-eio kept t) in
+    rw (v .2, v .3, v .4, v .5, v .6, v .1 .ensures, same) (
+      record {
+        parts = record { lio = one-same x (p .lio) (type-no 18 s (λ h. omega arith)); eios = four-more x (p .eios) (type-yes 20 s t) (rw (sym t) (room-eio kept t)); bios = four-same x (p .bios) (type-no 22 s (λ h. omega arith)); msis = four-same x (p .msis) (type-no 21 s (λ h. omega arith)); lpc = one-same x (p .lpc) (type-no 23 s (λ h. omega arith)); number = p .number };
+        enabled-is = rw (enabled-same (w .all) x off, f .enabled-is);
+        cores-is = rw (count-same 17 (w .all) x none, f .cores-is);
+        few = (few .0, few .1, omega arith, few .3, few .4);
+      },
+      noting-same (w .all) lent x (w .noting) off,
+    ))
+    (⊎-elim (λ v. let t = type ∙ v .0 .keys4 in let none = type-no 17 s (λ h. omega arith) in let off = of-another-type s none in let room = msi-room w t (room-msi kept t) in
+    rw (v .2, v .3, v .4, v .5, v .6, v .1 .ensures, same) (
+      record {
+        parts = record { lio = one-same x (p .lio) (type-no 18 s (λ h. omega arith)); eios = four-same x (p .eios) (type-no 20 s (λ h. omega arith)); bios = four-same x (p .bios) (type-no 22 s (λ h. omega arith)); msis = four-more x (p .msis) (type-yes 21 s t) (rw (sym t) (room-msi kept t)); lpc = one-same x (p .lpc) (type-no 23 s (λ h. omega arith)); number = p .number };
+        enabled-is = rw (enabled-same (w .all) x off, f .enabled-is);
+        cores-is = rw (count-same 17 (w .all) x none, f .cores-is);
+        few = (few .0, few .1, few .2, omega arith, few .4);
+      },
+      noting-same (w .all) lent x (w .noting) off,
+    ))
+    (⊎-elim (λ v. let t = type ∙ v .0 .keys5 in let none = type-no 17 s (λ h. omega arith) in let off = of-another-type s none in let room = bio-room w t (room-bio kept t) in
+    rw (v .2, v .3, v .4, v .5, v .6, v .1 .ensures, same) (
+      record {
+        parts = record { lio = one-same x (p .lio) (type-no 18 s (λ h. omega arith)); eios = four-same x (p .eios) (type-no 20 s (λ h. omega arith)); bios = four-more x (p .bios) (type-yes 22 s t) (rw (sym t) (room-bio kept t)); msis = four-same x (p .msis) (type-no 21 s (λ h. omega arith)); lpc = one-same x (p .lpc) (type-no 23 s (λ h. omega arith)); number = p .number };
+        enabled-is = rw (enabled-same (w .all) x off, f .enabled-is);
+        cores-is = rw (count-same 17 (w .all) x none, f .cores-is);
+        few = (few .0, few .1, few .2, few .3, omega arith);
+      },
+      noting-same (w .all) lent x (w .noting) off,
+    ))
+    (⊎-elim (λ v. let t = type ∙ v .0 .keys6 in let none = type-no 17 s (λ h. omega arith) in let off = of-another-type s none in
+    rw (v .2, v .3, v .4, v .5, v .6, v .1 .ensures, same) (
+      record {
+        parts = record { lio = one-same x (p .lio) (type-no 18 s (λ h. omega arith)); eios = four-same x (p .eios) (type-no 20 s (λ h. omega arith)); bios = four-same x (p .bios) (type-no 22 s (λ h. omega arith)); msis = four-same x (p .msis) (type-no 21 s (λ h. omega arith)); lpc = one-more x (p .lpc) (type-yes 23 s t) (rw (sym t) (room-lpc kept t)); number = p .number };
+        enabled-is = rw (enabled-same (w .all) x off, f .enabled-is);
+        cores-is = rw (count-same 17 (w .all) x none, f .cores-is);
+        few = few;
+      },
+      noting-same (w .all) lent x (w .noting) off,
+    ))
+    (⊎-elim (λ v. let t = type ∙ v .0 .keys7 in let none = type-no 17 s (λ h. omega arith) in let off = of-another-type s none in
+    rw (v .1, v .2, v .3, v .4, v .5) (
+      record {
+        parts = record { lio = one-same x (p .lio) (type-no 18 s (λ h. omega arith)); eios = four-same x (p .eios) (type-no 20 s (λ h. omega arith)); bios = four-same x (p .bios) (type-no 22 s (λ h. omega arith)); msis = four-same x (p .msis) (type-no 21 s (λ h. omega arith)); lpc = one-same x (p .lpc) (type-no 23 s (λ h. omega arith)); number = p .number };
+        enabled-is = rw (enabled-same (w .all) x off, f .enabled-is);
+        cores-is = rw (count-same 17 (w .all) x none, f .cores-is);
+        few = few;
+      },
+      noting-same (w .all) lent x (w .noting) off,
+    ))
+    (λ v. let none = type-no 17 s (λ h. v .0 .rest .0 .0 .0 .0 .0 .0 .1 (sym type ∙ h)) in let off = of-another-type s none in
+    rw (v .1, v .2, v .3, v .4, v .5) (
+      record {
+        parts = record { lio = one-same x (p .lio) (type-no 18 s (λ h. v .0 .rest .0 .0 .0 .0 .0 .1 (sym type ∙ h))); eios = four-same x (p .eios) (type-no 20 s (λ h. v .0 .rest .0 .0 .0 .0 .1 (sym type ∙ h))); bios = four-same x (p .bios) (type-no 22 s (λ h. v .0 .rest .0 .0 .1 (sym type ∙ h))); msis = four-same x (p .msis) (type-no 21 s (λ h. v .0 .rest .0 .0 .0 .1 (sym type ∙ h))); lpc = one-same x (p .lpc) (type-no 23 s (λ h. v .0 .rest .0 .1 (sym type ∙ h))); number = p .number };
+        enabled-is = rw (enabled-same (w .all) x off, f .enabled-is);
+        cores-is = rw (count-same 17 (w .all) x none, f .cores-is);
+        few = few;
+      },
+      noting-same (w .all) lent x (w .noting) off,
+    )))))))))
     (c .match2 .came) in
-    walk-goes-on w (λ h. c .before .before .before .before .before .before .if1 .left (size ∙ h)) sound next (rw size)
+    walk-goes-on w (λ h. c .before .before .before .before .before .before .if1 .left (size ∙ h)) sound (next .0) (next .1) (rw size)
 
 returns-3 : tie.Need-returns-3 Inv-loop μ-loop
 returns-3 c = walk-ends (c .before .loop .inv) (c .loop-test .left)
@@ -356,26 +385,30 @@ walk-table-spec =
     add-cores
     from-bytes-requires
     is-enabled-requires
+    cast-offsets
+    cast-offsets-2
+    mul-offsets
+    element-write-offsets
     add-enabled
     from-bytes-requires-2
     said-lio-requires
     cast-n
     from-bytes-requires-3
-    mul-t34
+    mul-t40
     element-set-from-map
     mul-places
     element-write-places
     add-map
     cast-n-2
     from-bytes-requires-4
-    mul-t42
+    mul-t48
     element-set-from-map-2
     mul-places-2
     element-write-places-2
     add-map-2
     cast-n-3
     from-bytes-requires-5
-    mul-t50
+    mul-t56
     element-set-from-map-3
     mul-places-3
     element-write-places-3
