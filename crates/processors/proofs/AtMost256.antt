@@ -1,15 +1,12 @@
 -- "At most 256 CORE": a MADT that breaks no rule of its structures has no more, enabled or not, so no more processors are listed.
-use mathlib.Core.Path.{_≡_, sym}
+use mathlib.Core.Path.{_≡_}
 use mathlib.Core.List.{List}
 use Prim.Native.Nat.{ℕ, _≤_}
 use Rattle.words.specs.declared.Verdict.the-variants.{Sound}
-use Rattle.madt.specs.Contents.{foundIn}
 use Rattle.madt.specs.Walk.{walked}
-use Rattle.madt.proofs.Accepted.{rules-sound, found-is, few-enabled}
+use Rattle.madt.proofs.Accepted.{rules-sound, few-enabled}
 use Rattle.processors.specs.Listing.{count}
-use Rattle.processors.proofs.Agreement.{enabled-count}
 
 pub at-most-256 : (table : List ℕ) (base sci : ℕ) → walked table base sci .verdict ≡ Sound → count table ≤ 256
-unfolding foundIn
-at-most-256 table base sci h =
-    rw (sym (enabled-count table base sci h), found-is table base sci h) (few-enabled table base (rules-sound table base sci h))
+unfolding count
+at-most-256 table base sci h = few-enabled table base (rules-sound table base sci h)

@@ -2,7 +2,7 @@
 use mathlib.Core.Path.{_≡_, refl, sym, _∙_}
 use mathlib.Core.Bool.{Bool, true, false}
 use mathlib.Core.List.{List, [], _∷_, _++_}
-use Prim.Native.Nat.{ℕ, zero, suc, _+_, _*_, _/_, _≤_, _<_}
+use Prim.Native.Nat.{ℕ, zero, suc, _+_, _*_}
 use native.Mathlib.Omega.{arith}
 use borrow.Author.Tests.{le-leb, lt-leb, leb-true, leb-false}
 use lib.Dec.{leb}
@@ -10,8 +10,9 @@ use lib.ListN.{length, drop, set}
 use lib.Seq.{sets}
 use Rattle.words.specs.Choice.{if}
 use Rattle.processors.specs.Image.{fourBytes, image}
+use Rattle.words.proofs.Rooms.{sets-append}
 use Rattle.processors.specs.Listing.{processors, count, hasRoom, written, filled}
-use Rattle.processors.proofs.Filling.{Spelling, twice-all, sets-append}
+use Rattle.processors.proofs.Filling.{Spelling, twice-all}
 
 -- four stores in a row
 pub four-stores : (list : List ℕ) (n a b c d : ℕ)
@@ -28,45 +29,34 @@ unfolding image fourBytes
 joined [] ys = refl
 joined (x ∷ xs) ys = rw (joined xs ys)
 
-pub in-bytes : Spelling image
-unfolding image
-in-bytes = record { none = refl; joined = joined }
-
--- four bytes for each number
-pub image-length : (xs : List ℕ) → length (image xs) ≡ 4 * length xs
+-- eight bytes for each processor
+pub in-bytes : Spelling image 8
 unfolding image fourBytes
-image-length [] = refl
-image-length (x ∷ xs) = let rest = image-length xs in omega arith
-
--- eight bytes for each enabled CORE
-pub eight-each : (table : List ℕ) → length (image (processors table)) ≡ 8 * count table
-eight-each table =
-    let four = image-length (processors table) in
-    let two = twice-all table in
-    omega arith
-
--- the bytes of a CORE's two numbers
-pub image-none : (entries : List ℕ) → entries ≡ [] → image entries ≡ []
-unfolding image
-image-none entries e = rw e
-
-pub image-two : (entries : List ℕ) {x y : ℕ} → entries ≡ x ∷ y ∷ [] → image entries ≡ fourBytes x ++ fourBytes y
-unfolding image fourBytes
-image-two entries e = rw e
-
-pub eight : (x y : ℕ) → length (fourBytes x ++ fourBytes y) ≡ 8
-unfolding fourBytes
-eight x y = refl
+in-bytes = record { none = refl; joined = joined; each = λ p. refl }
 
 pub four-length : (x : ℕ) → length (fourBytes x) ≡ 4
 unfolding fourBytes
 four-length x = refl
 
+pub image-two : (x y : ℕ) → image (x ∷ y ∷ []) ≡ fourBytes x ++ fourBytes y
+unfolding image fourBytes
+image-two x y = refl
+
+-- four for each number
+pub image-length : (xs : List ℕ) → length (image xs) ≡ 4 * length xs
+unfolding image fourBytes
+image-length [] = refl
+image-length (x ∷ xs) = let rest = image-length xs in omega arith
+
+-- eight for each enabled CORE
+pub eight-each : (table : List ℕ) → length (image (processors table)) ≡ 8 * count table
+eight-each table = omega (arith, image-length (processors table), twice-all table)
+
 -- two numbers written one behind the other
 pub two-numbers : (list : List ℕ) (n x y : ℕ) {mid end : List ℕ} → mid ≡ sets list n (fourBytes x) → end ≡ sets mid (n + 4) (fourBytes y)
-    → end ≡ sets list n (fourBytes x ++ fourBytes y)
+    → end ≡ sets list n (image (x ∷ y ∷ []))
 two-numbers list n x y e g =
-    rw (g, e) (sym (rw (four-length x) at (sets-append list n (fourBytes x) (fourBytes y))))
+    rw (g, e, image-two x y) (sym (rw (four-length x) at (sets-append list n (fourBytes x) (fourBytes y))))
 
 -- ---- the list as bytes is the image of the list of numbers
 drop-image : (n : ℕ) (xs : List ℕ) → drop (4 * n) (image xs) ≡ image (drop n xs)
@@ -99,11 +89,3 @@ if-image false xs ys = refl
 pub filled-image : (entries list : List ℕ) → filled (image entries) (image list) ≡ image (filled entries list)
 unfolding filled
 filled-image entries list = rw (room-image entries list, written-image entries list) (if-image _ _ _)
-
--- ---- the test by the count
-module _ (table list : List ℕ) {n : ℕ} (e : n ≡ count table) where
-  pub short-in-bytes : length list / 8 < n → length list < length (image (processors table))
-  short-in-bytes h = let size = eight-each table in omega arith
-
-  pub room-in-bytes : n ≤ length list / 8 → length (image (processors table)) ≤ length list
-  room-in-bytes h = let size = eight-each table in omega arith

@@ -15,7 +15,8 @@ use Rattle.tables.specs.declared.Step.{Step}
 use Rattle.tables.specs.declared.Step.the-variants.{End, Structure, Broken}
 use Rattle.madt.specs.Pieces.{Piece, Whole, pieceAt, piecesFrom, pieces, structures}
 use Rattle.madt.proofs.Pieces.{step-inside}
-use Rattle.processors.specs.Listing.{enabledCores, listed}
+use Rattle.madt.specs.Contents.{enabledCores}
+use Rattle.processors.specs.Listing.{coresOf, listed}
 use Rattle.processors.specs.Repeats.{firstRepeating, offsetOf, firstRepeat}
 use Rattle.processors.specs.declared.Repeat.{Repeat}
 use Rattle.processors.specs.declared.Repeat.the-variants.{At, Nowhere}
@@ -38,28 +39,28 @@ one-inside table x later here rest zero l = here
 one-inside table x later here rest (suc k) l = rest k (omega arith)
 
 cores-at : (table : List ℕ) (at : ℕ) (step : Step) (later : ℕ → List Piece) → stepAt table at ≡ step
-    → ((size : ℕ) → AllInside table (enabledCores (later size))) → AllInside table (enabledCores (pieceAt table at step later))
+    → ((size : ℕ) → AllInside table (enabledCores (structures (later size)))) → AllInside table (enabledCores (structures (pieceAt table at step later)))
 unfolding enabledCores structures those pieceAt
 cores-at table at End later e rest = none-inside table
 cores-at table at Broken later e rest = none-inside table
 cores-at table at (Structure size) later e rest =
     if-cases (AllInside table) _ _ _
-    (λ t. one-inside table (record { at = at; bytes = partAt table at size }) (enabledCores (later size)) (step-inside table at size e .0) (rest size))
+    (λ t. one-inside table (record { at = at; bytes = partAt table at size }) (enabledCores (structures (later size))) (step-inside table at size e .0) (rest size))
     (λ t. rest size)
 
-cores-from : (n : ℕ) (table : List ℕ) (at : ℕ) → AllInside table (enabledCores (piecesFrom n table at))
+cores-from : (n : ℕ) (table : List ℕ) (at : ℕ) → AllInside table (enabledCores (structures (piecesFrom n table at)))
 unfolding enabledCores structures those piecesFrom
 cores-from zero table at = none-inside table
 cores-from (suc n) table at = cores-at table at (stepAt table at) _ refl (λ size. cores-from n table (at + size))
 
-cores-inside : (table : List ℕ) → AllInside table (enabledCores (pieces table 44))
+cores-inside : (table : List ℕ) → AllInside table (coresOf table)
 unfolding pieces
 cores-inside table = cores-from (length table) table 44
 
 pub repeat-inside : (table : List ℕ) (at : ℕ) → firstRepeat table ≡ At at → at < length table
 unfolding firstRepeat firstRepeating numbersBelow
 repeat-inside table at h =
-    let cores = enabledCores (pieces table 44) in
+    let cores = coresOf table in
     let hit = search-found _ _ Nowhere (At at) 0 (length (listed cores)) (length cores) (zero-add _ ∙ length-map _ cores) h not-at in
     let same = same-at (hit .told) in
     rw (← same) (cores-inside table (hit .at) (hit .counted))

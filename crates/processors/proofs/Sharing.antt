@@ -12,7 +12,8 @@ use lib.Seq.{length-take-le, getD-take}
 use Rattle.words.specs.Lists.{first}
 use Rattle.words.proofs.Choices.{no-if, passed}
 use Rattle.words.proofs.Tests.{neither-left, neither-right}
-use Rattle.processors.specs.Listing.{Processor, numbersOf}
+use Rattle.processors.specs.Listing.{numbersOf}
+use Rattle.processors.specs.declared.Processor.{Processor}
 use Rattle.processors.specs.Repeats.{shareId, sharesWithOne, noProcessor, repeatsId}
 
 -- ---- two processors

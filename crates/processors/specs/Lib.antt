@@ -1,3 +1,4 @@
 pub mod Listing
 pub mod Image
 pub mod Repeats
+pub mod Again

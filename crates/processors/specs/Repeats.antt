@@ -2,12 +2,14 @@
 -- refusal 39: "CORE repeats an ID of an earlier one"; "the place is the later one's; the first in table order is named".
 use Prim.Native.Nat.{ℕ}
 use mathlib.Core.Bool.{Bool, true, false, _||_}
-use mathlib.Core.List.{List, map}
+use mathlib.Core.List.{List}
 use lib.Dec.{eqb}
 use lib.ListN.{length, getD, take}
 use Rattle.words.specs.Lists.{first, numbersBelow}
-use Rattle.madt.specs.Pieces.{Whole, pieces}
-use Rattle.processors.specs.Listing.{Processor, enabledCores, listed}
+use Rattle.madt.specs.Pieces.{Whole}
+use Rattle.madt.specs.Contents.{offsetsOf}
+use Rattle.processors.specs.Listing.{coresOf, listed}
+use Rattle.processors.specs.declared.Processor.{Processor}
 use Rattle.processors.specs.declared.Repeat.{Repeat}
 use Rattle.processors.specs.declared.Repeat.the-variants.{At, Nowhere}
 
@@ -35,10 +37,10 @@ firstRepeating told none list = first (repeatsId list) told none (numbersBelow (
 -- ---- "39 compares enabled entries alone"
 -- where structure k of some stands in the table
 abbrev pub offsetOf : List Whole → ℕ → ℕ
-offsetOf structures k = getD (map (λ x. x .at) structures) k 0
+offsetOf structures k = getD (offsetsOf structures) k 0
 
 -- the offset of the first enabled CORE of the MADT with some bytes that shares an ID with an earlier enabled one
 unfoldable pub firstRepeat : List ℕ → Repeat
 firstRepeat table =
-    let cores = enabledCores (pieces table 44) in
+    let cores = coresOf table in
     firstRepeating (λ k. At (offsetOf cores k)) Nowhere (listed cores)

@@ -1,16 +1,12 @@
-// Refusal 39: the earliest enabled CORE that repeats the UID or the physical ID of an earlier enabled one. The table is read
-// again for each of them; of those before it only the highest IDs are kept, since a CORE above them repeats none.
+// Refusal 39: the earliest enabled CORE that repeats the UID or the physical ID of an earlier enabled one. The IDs of each pair are
+// read from the table again; of those before a CORE only the highest IDs are kept, since a CORE above them repeats none.
+use crate::Processor;
 use crate::Repeat;
-use crate::list;
-use kinds::makers::Core;
-use madt::steps;
 ghost use mathlib.Core.Path.{_≡_};
-ghost use mathlib.Core.Bool.{_&&_};
 ghost use mathlib.Core.Logic.{_⊎_};
 ghost use Prim.Native.Nat.{_<_, _≤_};
-ghost use Rattle.kinds.specs.Makers.{coreOf};
-ghost use Rattle.processors.specs.Listing.{isEnabledCore, idsOf};
-ghost use Rattle.processors.specs.Repeats.{shareId, firstRepeat};
+ghost use Rattle.processors.specs.Repeats.{shareId};
+ghost use Rattle.processors.specs.Again.{repeatAt};
 
 // Every UID and every physical ID so far is below these.
 struct Seen {
@@ -19,20 +15,10 @@ struct Seen {
 }
 
 // UIDs are compared with UIDs, physical IDs with physical IDs.
-fn share_id(core: Core, other: Core) -> bool
-    ensures { λ r. ⌜ r ≡ shareId (idsOf core) (idsOf other) ⌝ }
+fn share_id(processor: Processor, other: Processor) -> bool
+    ensures { λ r. ⌜ r ≡ shareId processor other ⌝ }
 {
-    (core.uid == other.uid) | (core.id == other.id)
-}
-
-// Whether a structure, given by its own bytes, is an enabled CORE that shares an ID with a CORE.
-fn is_twin(core: Core, structure: &[u8]) -> bool
-    ensures { λ r. ⌜ r ≡ isEnabledCore (now (structure .entry)) && shareId (idsOf core) (idsOf (coreOf (now (structure .entry)))) ⌝ }
-{
-    if !list::is_core(structure) {
-        return false;
-    }
-    list::is_enabled(structure) & share_id(core, Core::from_bytes(structure))
+    (processor.uid == other.uid) | (processor.id == other.id)
 }
 
 // A number above another, and above a bound that stays if it is the higher one.
@@ -45,61 +31,49 @@ fn raised(bound: u64, id: u32) -> u64
     bound
 }
 
-// One CORE more was seen.
-fn seen_with(seen: Seen, core: Core) -> Seen
-    ensures { λ r. ⌜ (core .uid < r .uids) × (core .id < r .ids) × (seen .uids ≤ r .uids) × (seen .ids ≤ r .ids) ⌝ }
+// One processor more was seen.
+fn seen_with(seen: Seen, processor: Processor) -> Seen
+    ensures { λ r. ⌜ (processor .uid < r .uids) × (processor .id < r .ids) × (seen .uids ≤ r .uids) × (seen .ids ≤ r .ids) ⌝ }
 {
-    let uids = raised(seen.uids, core.uid);
-    let ids = raised(seen.ids, core.id);
+    let uids = raised(seen.uids, processor.uid);
+    let ids = raised(seen.ids, processor.id);
     Seen { uids, ids }
 }
 
-// Where to begin to look for a twin of the CORE at an offset: at the first structure, or, if the CORE is above all that were
-// seen, at the CORE itself, which ends the search.
-fn search_from(seen: Seen, core: Core, at: usize) -> usize
-    ensures { λ r. ⌜ (r ≡ 44) ⊎ ((r ≡ at) × (seen .uids ≤ core .uid) × (seen .ids ≤ core .id)) ⌝ }
+// Where to begin to look for an earlier one that shares an ID: at the first, or, if the processor is above all that were seen,
+// at itself, which ends the search.
+fn search_from(seen: Seen, processor: Processor, later: usize) -> usize
+    ensures { λ r. ⌜ (r ≡ 0) ⊎ ((r ≡ later) × (seen .uids ≤ processor .uid) × (seen .ids ≤ processor .id)) ⌝ }
 {
-    if seen.uids <= core.uid as u64 {
-        if seen.ids <= core.id as u64 {
-            return at;
+    if seen.uids <= processor.uid as u64 {
+        if seen.ids <= processor.id as u64 {
+            return later;
         }
     }
-    steps::FIRST
+    0
 }
 
-// Where in the table it stands.
-pub fn first_repeat(table: &[u8]) -> Repeat
-    ensures { λ r. ⌜ r ≡ firstRepeat (now (table .entry)) ⌝ }
+// Where in the table it stands, if the enabled CORE stand at some offsets.
+pub fn first_repeat(table: &[u8], offsets: &[u16]) -> Repeat
+    ensures { λ r. ⌜ r ≡ repeatAt (now (table .entry)) (now (offsets .entry)) ⌝ }
 {
     let mut repeat = Repeat::Nowhere;
     let mut seen = Seen { uids: 0, ids: 0 };
-    let mut at: usize = steps::FIRST;
-    'table: while at < table.len() {
-        let size = steps::size_at(table, at);
-        if size == 0 {
-            break;
-        }
-        let structure = words::part(table, at, size);
-        if !list::is_core(structure) {
-            at += size;
-            continue;
-        }
-        if !list::is_enabled(structure) {
-            at += size;
-            continue;
-        }
-        let core = Core::from_bytes(structure);
-        let mut earlier = search_from(seen, core, at);
-        while earlier < at {
-            let length = steps::size_at(table, earlier);
-            if is_twin(core, words::part(table, earlier, length)) {
+    let mut later: usize = 0;
+    'cores: while later < offsets.len() {
+        let at = offsets[later];
+        let processor = crate::processor_at(table, at);
+        let mut earlier = search_from(seen, processor, later);
+        while earlier < later {
+            let before = offsets[earlier];
+            if share_id(processor, crate::processor_at(table, before)) {
                 repeat = Repeat::At(at);
-                break 'table;
+                break 'cores;
             }
-            earlier += length;
+            earlier += 1;
         }
-        seen = seen_with(seen, core);
-        at += size;
+        seen = seen_with(seen, processor);
+        later += 1;
     }
     repeat
 }

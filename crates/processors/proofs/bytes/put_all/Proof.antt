@@ -1,54 +1,72 @@
--- `put_all` writes the bytes of what each structure adds, one behind the other.
-use mathlib.Core.Path.{sym, _∙_}
-use Prim.Native.Nat.{_-_}
+-- `put_all` writes the bytes of each processor, one behind the other.
+use mathlib.Core.Path.{refl, _∙_}
+use Prim.Native.Nat.{_-_, _<_}
+use native.Mathlib.Omega.{arith}
 use lib.ListN.{length}
-use Rattle.processors.proofs.Filling.{Writing, write-start, write-end, write-cut, write-room, write-next}
-use Rattle.processors.proofs.Image.{in-bytes}
+use Rattle.words.proofs.Those.{length-map}
+use Rattle.processors.specs.Again.{processorAt, processorsAt}
+use Rattle.processors.proofs.Repeating.{read-at}
 use Rattle.processors.specs.Image.{image}
+use Rattle.processors.proofs.Image.{in-bytes}
+use Rattle.processors.proofs.Filling.{Writing, write-start, write-end, write-room, write-next}
 use borrow.Author.Needs.{needs}
 use Rattle.processors.proofs.bytes.put_all.Statement.{statement}
 use Rattle.processors.proofs.bytes.put_all.Tie as tie
 
 abbrev Inv-loop : tie.InvT-loop
-Inv-loop table list₀ at₀ n₀ list at n = Writing image table list₀ list at n
+Inv-loop table offsets list₀ n₀ k₀ list n k = Writing image (processorsAt table offsets) list₀ list n k
 
 abbrev μ-loop : tie.MeasureT-loop
-μ-loop table list₀ at₀ n₀ list at n = length table - at
+μ-loop table offsets list₀ n₀ k₀ list n k = length offsets - k
 
 loop-holds : tie.Need-loop-holds Inv-loop μ-loop
-loop-holds c = write-start in-bytes _ _ (c .before .before .pre)
+loop-holds c = write-start in-bytes _ _ (c .before .before .before .pre)
 
-size-at-requires : tie.Need-size-at-requires Inv-loop μ-loop
-size-at-requires c κs = search needs
+mul-processor-at : tie.Need-mul-processor-at Inv-loop μ-loop
+mul-processor-at c = search needs
 
-same-length : tie.Need-same-length Inv-loop μ-loop
-same-length c = search needs
+shared-slice-read-processor-at : tie.Need-shared-slice-read-processor-at Inv-loop μ-loop
+shared-slice-read-processor-at c = search needs
 
-returns : tie.Need-returns Inv-loop μ-loop
-returns c = write-cut in-bytes (c .before .before .before .loop .inv) (c .before .before .loop-test .taken) (sym (c .before .size-at .ensures .0) ∙ c .if1 .taken)
-
-part-requires : tie.Need-part-requires Inv-loop μ-loop
-part-requires c κs = search needs
+processor-at-requires : tie.Need-processor-at-requires Inv-loop μ-loop
+processor-at-requires c κs = search needs
 
 put-requires : tie.Need-put-requires Inv-loop μ-loop
-put-requires c κs = write-room in-bytes (c .before .before .before .before .before .loop .inv) (λ h. c .before .before .if1 .left (c .before .before .before .size-at .ensures .0 ∙ h)) (rw (c .before .part .ensures, c .before .before .before .size-at .ensures .0))
+put-requires c κs =
+    let l = c .before .before .before .before .loop in
+    let given = c .before .before .before .before .before .before .before .before .args in
+    let offsets = given .offsets .now in
+    let table = given .table .now in
+    let more : l .k < length offsets = c .before .before .before .loop-test .taken in
+    write-room in-bytes (l .inv) (omega (arith, length-map (processorAt table) offsets)) (read-at table offsets (l .k) more)
 
-add-at : tie.Need-add-at Inv-loop μ-loop
-add-at c = search needs
+add-n : tie.Need-add-n Inv-loop μ-loop
+add-n c = search needs
+
+add-k : tie.Need-add-k Inv-loop μ-loop
+add-k c = search needs
 
 loop-less : tie.Need-loop-less Inv-loop μ-loop
 loop-less c = search needs
 
 loop-again : tie.Need-loop-again Inv-loop μ-loop
 loop-again c =
-    write-next in-bytes (c .before .before .before .before .before .before .before .before .loop .inv) (λ h. c .before .before .before .before .before .if1 .left (c .before .before .before .before .before .before .size-at .ensures .0 ∙ h)) (c .before .before .put .ensures .1) (c .before .before .put .ensures .0)
-    (rw (c .before .before .before .before .part .ensures, c .before .before .before .before .before .before .size-at .ensures .0)) (rw (c .before .before .before .before .before .before .size-at .ensures .0))
+    let l = c .before .before .before .before .before .before .before .loop in
+    let given = c .before .before .before .before .before .before .before .before .before .before .before .args in
+    let offsets = given .offsets .now in
+    let table = given .table .now in
+    let more : l .k < length offsets = c .before .before .before .before .before .before .loop-test .taken in
+    write-next in-bytes (l .inv) (omega (arith, length-map (processorAt table) offsets)) (c .before .before .before .processor-at .ensures ∙ read-at table offsets (l .k) more) (c .before .before .put .ensures) refl refl
 
-same-length-2 : tie.Need-same-length-2 Inv-loop μ-loop
-same-length-2 c = search needs
+same-length : tie.Need-same-length Inv-loop μ-loop
+same-length c = search needs
 
-returns-2 : tie.Need-returns-2 Inv-loop μ-loop
-returns-2 c = write-end in-bytes (c .before .loop .inv) (c .loop-test .left)
+returns : tie.Need-returns Inv-loop μ-loop
+returns c =
+    let given = c .before .before .before .before .before .args in
+    let offsets = given .offsets .now in
+    let table = given .table .now in
+    write-end in-bytes (c .before .loop .inv) (omega (arith, c .loop-test .left, length-map (processorAt table) offsets))
 
 pub put-all-spec : {M : Type 1} → statement M
 put-all-spec =
@@ -57,13 +75,13 @@ put-all-spec =
     Inv-loop
     μ-loop
     loop-holds
-    size-at-requires
-    same-length
-    returns
-    part-requires
+    mul-processor-at
+    shared-slice-read-processor-at
+    processor-at-requires
     put-requires
-    add-at
+    add-n
+    add-k
     loop-less
     loop-again
-    same-length-2
-    returns-2)
+    same-length
+    returns)
