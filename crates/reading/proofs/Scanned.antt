@@ -16,6 +16,7 @@ use Rattle.lines.specs.Rules.{tooMany, firstBroken}
 use Rattle.madt.specs.Walk.{walkRules}
 use Rattle.madt.proofs.Accepted.{walk-verdict}
 use Rattle.reading.specs.declared.Scan.{Scan}
+use Rattle.reading.specs.Reading.{madtFound}
 use Rattle.reading.specs.Scan.{madtBytes, walkOf, turnedDown, madtRules, lineRules, allRules, accepted, scan}
 use Rattle.reading.proofs.Laws.{map-judged, laterRules, after-walk, in-two, scan-found}
 
@@ -58,6 +59,19 @@ scanned strictness capture h =
       map = ap (λ (s : Scan). s .map) left;
       madt = ap (λ (s : Scan). s .madt) left;
     }
+
+-- the MADT's bytes, by a scan
+pub scanned-bytes : (strictness : Strictness) (capture : List ℕ) {s : Scan} → s ≡ scan strictness capture → madtBytes capture (s .madt) ≡ madtFound strictness capture
+unfolding madtFound
+scanned-bytes strictness capture e = ap (λ (s : Scan). madtBytes capture (s .madt)) e
+
+-- the MADT is the one that was found
+pub found-madt : (strictness : Strictness) (capture : List ℕ) {t : Tables} → survey strictness capture ≡ surveys.Found t
+    → scan strictness capture .verdict ≡ Sound → madtFound strictness capture ≡ madtBytes capture (t .madt)
+unfolding madtFound turnedDown accepted
+found-madt strictness capture {t} h sound =
+    let kept = sym (unless-told turnedDown verdictOf (λ r. refl) _ (accepted t (walkOf capture t .found .map)) refl) ∙ sym (ap verdictOf (scan-found strictness capture h)) ∙ sound in
+    ap (λ (s : Scan). madtBytes capture (s .madt)) (scan-found strictness capture h ∙ unless-sound turnedDown _ _ kept)
 
 -- where no rule after the walk is broken, the map keeps its rules, if no kind has too many
 pub rules-kept : (capture : List ℕ) (t : Tables) → let found = walkOf capture t .found in firstRefusal (laterRules capture t) ≡ Sound → tooMany (found .map) ≡ false

@@ -1,18 +1,20 @@
 // The reading: a capture in, the map, the processor list and their count out, or the first refusal of all the rules.
 ghost use mathlib.Core.Path.{_≡_};
-ghost use Prim.Native.Nat.{_<_};
-ghost use lib.ListN.{length};
+ghost use lib.ListN.{length, take};
 ghost use mathlib.Core.Bool.{false};
 ghost use mathlib.Core.List.{_∷_, _++_};
 ghost use Rattle.lines.specs.Says.{says};
 ghost use Rattle.lines.specs.Rules.{tooMany, mapRules};
 ghost use Rattle.processors.specs.Listing.{processors, count, filled};
 ghost use Rattle.processors.specs.Repeats.{firstRepeat};
+ghost use Rattle.processors.specs.Again.{Standing};
+ghost use Rattle.words.specs.declared.Verdict.the-variants.{Sound};
 ghost use Rattle.words.specs.Refusals.{unless, firstRefusal};
 ghost use Rattle.reading.specs.Scan.{madtBytes, emptyMap, turnedDown, repeatRule, processorRule, madtRules, lineRules, accepted, walkOf, scan};
-ghost use Rattle.reading.specs.Reading.{withoutMap, answered, readingOf, listAfter};
+ghost use Rattle.reading.specs.Reading.{withoutMap, answered, madtFound, readingOf, listAfter};
 use lines::Map;
 use madt::Found;
+use madt::Offsets;
 use processors::Filled;
 use processors::Repeat;
 use tables::Strictness;
@@ -29,6 +31,12 @@ pub struct Scan {
     pub verdict: Verdict,
     pub madt: Table,
     pub map: Map,
+}
+
+// A scan, and how many processors it has noted in the front of the room that it was lent.
+pub(crate) struct Noted {
+    pub(crate) scan: Scan,
+    pub(crate) processors: u16,
 }
 
 // Read, with the number of processors; or refused.
@@ -69,11 +77,11 @@ fn turn_down(refusal: Refusal) -> Scan
 }
 
 // Refusal 39.
-fn check_repeats(table: &[u8], base: u16) -> Verdict
-    requires { ⌜ length (now table) < 65536 ⌝ }
+fn check_repeats(table: &[u8], offsets: &[u16], base: u16) -> Verdict
+    requires { ⌜ Standing (now table) (now offsets) ⌝ }
     ensures { λ r. ⌜ r ≡ repeatRule base (firstRepeat (now (table .entry))) ⌝ }
 {
-    match processors::repeats::first_repeat(table) {
+    match processors::repeats::first_repeat(table, offsets) {
         Repeat::Nowhere => Verdict::Sound,
         Repeat::At(offset) => Verdict::Refused(words::refuse(39, base as u32 + offset as u32)),
     }
@@ -89,9 +97,9 @@ fn check_processors(enabled: u16, base: u16) -> Verdict
     Verdict::Sound
 }
 
-// Refusals 39 to 54. The walk has counted the processors, and found no kind to have too many.
-fn rules_after_walk(table: &[u8], t: Tables, found: Found) -> Verdict
-    requires { ⌜ length (now table) < 65536 ⌝ }
+// Refusals 39 to 54. The walk has noted and counted the processors, and found no kind to have too many.
+fn rules_after_walk(table: &[u8], offsets: &[u16], t: Tables, found: Found) -> Verdict
+    requires { ⌜ Standing (now table) (now offsets) ⌝ }
     requires { ⌜ found .enabled ≡ count (now table) ⌝ }
     requires { ⌜ tooMany (found .map) ≡ false ⌝ }
     ensures { λ r. let base = t .madt .place in
@@ -101,7 +109,7 @@ fn rules_after_walk(table: &[u8], t: Tables, found: Found) -> Verdict
     let fadt = t.fadt;
     let map = found.map;
     let places = found.places;
-    match check_repeats(table, madt.place) {
+    match check_repeats(table, offsets, madt.place) {
         Verdict::Refused(refusal) => Verdict::Refused(refusal),
         Verdict::Sound => match check_processors(found.enabled, madt.place) {
             Verdict::Refused(refusal) => Verdict::Refused(refusal),
@@ -125,22 +133,44 @@ fn judge(t: Tables, map: Map, verdict: Verdict) -> Scan
 }
 
 // The walk of the MADT that a survey found, and what comes after it.
-fn scan_tables(capture: &[u8], t: Tables) -> Scan
+fn scan_tables(capture: &[u8], t: Tables, room: &mut Offsets) -> Noted
+    requires { ⌜ length (now room) ≡ 256 ⌝ }
     ensures { λ r. let c = now (capture .entry) in
-        ⌜ r ≡ unless turnedDown (firstRefusal (madtRules c t ++ lineRules c t)) (accepted t (walkOf c t .found .map)) ⌝ }
+        ⌜ r .scan ≡ unless turnedDown (firstRefusal (madtRules c t ++ lineRules c t)) (accepted t (walkOf c t .found .map)) ⌝ }
+    ensures { λ r. ⌜ (r .scan .verdict ≡ Sound → Standing (madtBytes (now (capture .entry)) (t .madt)) (take (r .processors) (now (room .exit)))) ⌝ }
 {
     let madt = t.madt;
-    let walked = madt::walk::walk_madt(capture, madt, t.sci);
+    let walked = madt::walk::walk_madt(capture, madt, t.sci, room);
     let found = walked.found;
     let map = found.map;
     let verdict = walked.verdict;
+    let processors = found.enabled;
     match verdict {
-        Verdict::Refused(refusal) => turn_down(refusal),
-        Verdict::Sound => judge(
-            t,
-            map,
-            rules_after_walk(madt_bytes(capture, madt), t, found),
-        ),
+        Verdict::Refused(refusal) => Noted {
+            scan: turn_down(refusal),
+            processors,
+        },
+        Verdict::Sound => {
+            let offsets = processors::noted(room, processors as usize);
+            let broken = rules_after_walk(madt_bytes(capture, madt), offsets, t, found);
+            let scan = judge(t, map, broken);
+            Noted { scan, processors }
+        }
+    }
+}
+
+// All rules up to 54, and what is found where none is broken; where the processors stand is noted in a lent room.
+pub(crate) fn scan_noting(strictness: Strictness, capture: &[u8], room: &mut Offsets) -> Noted
+    requires { ⌜ length (now room) ≡ 256 ⌝ }
+    ensures { λ r. ⌜ r .scan ≡ scan strictness (now (capture .entry)) ⌝ }
+    ensures { λ r. ⌜ (r .scan .verdict ≡ Sound → Standing (madtFound strictness (now (capture .entry))) (take (r .processors) (now (room .exit)))) ⌝ }
+{
+    match tables::survey_capture(strictness, capture) {
+        Survey::Refused(refusal) => Noted {
+            scan: turn_down(refusal),
+            processors: 0,
+        },
+        Survey::Found(t) => scan_tables(capture, t, room),
     }
 }
 
@@ -148,10 +178,9 @@ fn scan_tables(capture: &[u8], t: Tables) -> Scan
 pub fn scan_capture(strictness: Strictness, capture: &[u8]) -> Scan
     ensures { λ r. ⌜ r ≡ scan strictness (now (capture .entry)) ⌝ }
 {
-    match tables::survey_capture(strictness, capture) {
-        Survey::Refused(refusal) => turn_down(refusal),
-        Survey::Found(t) => scan_tables(capture, t),
-    }
+    let mut room = [0u16; madt::ROOM];
+    let noted = scan_noting(strictness, capture, &mut room);
+    noted.scan
 }
 
 // A refusal, with no map.
@@ -164,11 +193,12 @@ fn without_map(refusal: Refusal) -> Reading
 }
 
 // The list filled and its count, or refusal 60.
-fn answer_list(table: &[u8], map: Map, list: &mut [u32]) -> Reading
+fn answer_list(table: &[u8], offsets: &[u16], map: Map, list: &mut [u32]) -> Reading
+    requires { ⌜ Standing (now table) (now offsets) ⌝ }
     ensures { λ r. ⌜ r ≡ answered (now (table .entry)) map (now (list .entry)) ⌝ }
     ensures { λ r. ⌜ now (list .exit) ≡ filled (processors (now (table .entry))) (now (list .entry)) ⌝ }
 {
-    match processors::list::fill(table, list) {
+    match processors::list::fill(table, offsets, list) {
         Filled::NoRoom => without_map(words::refuse(60, 0)),
         Filled::Whole(processors) => {
             let answer = Answer::Read(processors);
@@ -182,13 +212,18 @@ fn read_by(strictness: Strictness, capture: &[u8], list: &mut [u32]) -> Reading
     ensures { λ r. ⌜ r ≡ readingOf strictness (now (capture .entry)) (now (list .entry)) ⌝ }
     ensures { λ r. ⌜ now (list .exit) ≡ listAfter strictness (now (capture .entry)) (now (list .entry)) ⌝ }
 {
-    let s = scan_capture(strictness, capture);
+    let mut room = [0u16; madt::ROOM];
+    let noted = scan_noting(strictness, capture, &mut room);
+    let s = noted.scan;
     let verdict = s.verdict;
     let madt = s.madt;
     let map = s.map;
     match verdict {
         Verdict::Refused(refusal) => without_map(refusal),
-        Verdict::Sound => answer_list(madt_bytes(capture, madt), map, list),
+        Verdict::Sound => {
+            let offsets = processors::noted(&room, noted.processors as usize);
+            answer_list(madt_bytes(capture, madt), offsets, map, list)
+        }
     }
 }
 

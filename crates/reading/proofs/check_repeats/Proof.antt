@@ -1,8 +1,7 @@
--- `reading::check_repeats` is refusal 39. The CORE that repeats an ID stands inside the table, so that its place fits.
+-- `reading::check_repeats` is refusal 39.
 use mathlib.Core.Path.{ap, sym, _∙_}
-use native.Mathlib.Omega.{arith}
 use Rattle.words.specs.declared.Verdict.the-variants.{Refused}
-use Rattle.processors.proofs.Inside.{repeat-inside}
+use Rattle.processors.proofs.ReadAgain.{same-repeat}
 use Rattle.reading.proofs.Laws.{repeat-none, repeat-at}
 use borrow.Author.Needs.{needs}
 use Rattle.reading.proofs.check_repeats.Statement.{statement}
@@ -18,27 +17,26 @@ enum-known-offset : tie.Need-enum-known-offset
 enum-known-offset c = search needs
 
 cast-refuse : tie.Need-cast-refuse
-cast-refuse c =
-    let f = c .before .before .before in
-    let s = f .before .before in
-    omega (arith, repeat-inside (s .args .table .now) (c .before .offset .given .0 .0) (sym (f .first-repeat .ensures) ∙ c .before .offset .given .1), s .pre)
+cast-refuse c = search needs
 
 add-refuse : tie.Need-add-refuse
-add-refuse c =
-    let f = c .before .before .before in
-    let s = f .before .before in
-    omega (arith, repeat-inside (s .args .table .now) (c .before .offset .given .0 .0) (sym (f .first-repeat .ensures) ∙ c .before .offset .given .1), s .pre)
+add-refuse c = search needs
 
 refuse-requires : tie.Need-refuse-requires
 refuse-requires c κs = search needs
 
 returns : tie.Need-returns
-returns c = sym (repeat-none _ _ (sym (c .before .before .first-repeat .ensures) ∙ c .enum-told .given .1))
+returns c =
+    let start = c .before .before .before .before .before in
+    let same = same-repeat (start .args .table .now) (start .args .offsets .now) (start .pre) in
+    sym (repeat-none _ _ (sym same ∙ sym (c .before .before .first-repeat .ensures) ∙ c .enum-told .given .1))
 
 returns-2 : tie.Need-returns-2
 returns-2 c =
     let f = c .before .before .before .before in
-    ap Refused (c .refuse .ensures) ∙ sym (repeat-at _ _ (sym (f .first-repeat .ensures) ∙ c .before .before .offset .given .1))
+    let start = f .before .before .before in
+    let same = same-repeat (start .args .table .now) (start .args .offsets .now) (start .pre) in
+    ap Refused (c .refuse .ensures) ∙ sym (repeat-at _ _ (sym same ∙ sym (f .first-repeat .ensures) ∙ c .before .before .offset .given .1))
 
 pub check-repeats-spec : {M : Type 1} → statement M
 check-repeats-spec =

@@ -42,7 +42,7 @@ returns c = sym (unless-refused _ _ _ (sym (c .before .before .before .check-rep
 returns-2 : tie.Need-returns-2
 unfolding firstRefusal
 returns-2 c =
-    let start = c .before .before .before .before .before .before .before .before .before .before .before .before in
+    let start = c .before .before .before .before .before .before .before .before .before .before .before .before .before in
     let told = c .before .before .before .check-processors .ensures ∙ ap (processorRule (start .args .t .madt .place)) (start .pre .1 .0) in
     sym (unless-sound _ _ _ (sym (c .before .before .before .before .before .before .check-repeats .ensures) ∙ c .before .before .before .before .enum-told .given .1)
     ∙ unless-refused _ _ _ (sym told ∙ c .before .refusal2 .given .1))
@@ -50,7 +50,7 @@ returns-2 c =
 returns-3 : tie.Need-returns-3
 unfolding firstRefusal
 returns-3 c =
-    let start = c .before .before .before .before .before .before .before .before .before .before .before .before .before .before in
+    let start = c .before .before .before .before .before .before .before .before .before .before .before .before .before .before .before in
     let told = c .before .before .before .before .before .check-processors .ensures ∙ ap (processorRule (start .args .t .madt .place)) (start .pre .1 .0) in
     c .first-broken .ensures
     ∙ map-judged _ _ _ _ (start .pre .1 .1)

@@ -1,18 +1,19 @@
--- `reading::scan_tables` walks the MADT, then asks 39 to 54.
+-- `reading::scan_tables` walks the MADT, then asks 39 to 54 with the processors that the walk has noted.
 use Prim.Native.Nat.{ℕ}
-use native.Mathlib.Omega.{arith}
+use denote.Ref.{now}
 use mathlib.Core.List.{List}
-use mathlib.Core.Path.{ap, sym, _∙_}
-use lib.ListN.{length}
+use mathlib.Core.Path.{refl, ap, sym, _∙_}
 use Rattle.words.specs.Refusals.{unless, firstRefusal}
 use Rattle.words.specs.declared.Verdict.{Verdict}
+use Rattle.words.proofs.Verdicts.{not-sound}
 use Rattle.lines.specs.Rules.{tooMany}
 use Rattle.madt.specs.declared.Walked.{Walked}
 use Rattle.processors.specs.Listing.{count}
-use Rattle.processors.proofs.Agreement.{enabled-count}
+use Rattle.processors.proofs.ReadAgain.{enabled-count, noted-standing}
 use Rattle.map_promises.proofs.WalkKeepsBooks.{walk-keeps-books}
 use Rattle.reading.specs.Scan.{madtBytes, turnedDown, accepted}
-use Rattle.reading.proofs.Laws.{bytes-small, laterOf, walk-refused, walk-sound}
+use Rattle.reading.specs.declared.Scan.{Scan}
+use Rattle.reading.proofs.Laws.{laterOf, walk-refused, walk-sound}
 use borrow.Author.Needs.{needs}
 use Rattle.reading.proofs.scan_tables.Statement.{statement}
 use Rattle.reading.proofs.scan_tables.Tie as tie
@@ -29,21 +30,28 @@ turn-down-requires c κs = search needs
 enum-told : tie.Need-enum-told
 enum-told c = search needs
 
+cast-noted : tie.Need-cast-noted
+cast-noted c = search needs
+
+noted-requires : tie.Need-noted-requires
+noted-requires c κs = search needs
+
 madt-bytes-requires : tie.Need-madt-bytes-requires
 madt-bytes-requires c κs = search needs
 
 rules-after-walk-requires : tie.Need-rules-after-walk-requires
 unfolding madtBytes
 rules-after-walk-requires c κs =
-    let a = c .before .before .before .before .before .before .before .before .args in
-    let small = bytes-small (a .capture .now) (a .t .madt) in
-    let same = ap length (c .madt-bytes .ensures) in
-    let w = c .before .before .before .before .before .walk-madt .ensures in
-    let sound = ap (λ (x : Walked). x .verdict) (sym w) ∙ c .before .enum-told .given .1 in (
-      omega arith,
+    let told = c .before .before .before in
+    let walk = told .before .before .before .before in
+    let start = walk .before .before .before .before in
+    let a = start .args in
+    let w = walk .walk-madt .ensures in
+    let sound = ap (λ (x : Walked). x .verdict) (sym (w .0)) ∙ told .enum-told .given .1 in (
+      rw (c .madt-bytes .ensures) (noted-standing _ _ _ sound (now (a .room)) (start .pre) (ap (λ (x : Walked). x .found .enabled) (w .0)) (w .1) (c .before .noted .ensures)),
       (
-        ap (λ (x : Walked). x .found .enabled) w ∙ enabled-count _ _ _ sound ∙ ap count (sym (c .madt-bytes .ensures)),
-        ap (λ (x : Walked). tooMany (x .found .map)) w ∙ walk-keeps-books _ _ _ sound .0 .r38,
+        ap (λ (x : Walked). x .found .enabled) (w .0) ∙ enabled-count _ _ _ sound ∙ ap count (sym (c .madt-bytes .ensures)),
+        ap (λ (x : Walked). tooMany (x .found .map)) (w .0) ∙ walk-keeps-books _ _ _ sound .0 .r38,
       ),
     )
 
@@ -51,23 +59,31 @@ judge-requires : tie.Need-judge-requires
 judge-requires c κs = search needs
 
 returns : tie.Need-returns
-unfolding madtBytes
+unfolding madtBytes turnedDown
 returns c =
-    let w = c .before .before .before .before .before .before .walk-madt .ensures in
-    c .turn-down .ensures
-    ∙ sym (walk-refused _ _ _ (ap (λ (x : Walked). x .verdict) (sym w) ∙ c .before .before .verdict .given .1))
+    let w = c .before .before .before .before .before .before .walk-madt .ensures .0 in (
+      c .turn-down .ensures
+          ∙ sym (walk-refused _ _ _ (ap (λ (x : Walked). x .verdict) (sym w) ∙ c .before .before .verdict .given .1)),
+      λ h. not-sound (sym (ap (λ (s : Scan). s .verdict) (c .turn-down .ensures)) ∙ h),
+    )
 
 returns-2 : tie.Need-returns-2
 unfolding madtBytes
 returns-2 c =
-    let a = c .before .before .before .before .before .before .before .before .before .before .args in
-    let w = c .before .before .before .before .before .before .before .walk-madt .ensures in
-    let r = c .before .before .before .before .before .before .before .walk-madt .result in
-    c .judge .ensures
-    ∙ ap (λ (v : Verdict). unless turnedDown v (accepted (a .t) (r .found .map)))
-    (c .before .rules-after-walk .ensures ∙ ap (λ (x : List ℕ). firstRefusal (laterOf x (a .t) (r .found))) (c .before .before .madt-bytes .ensures))
-    ∙ ap (λ (x : Walked). unless turnedDown (firstRefusal (laterOf (madtBytes (a .capture .now) (a .t .madt)) (a .t) (x .found))) (accepted (a .t) (x .found .map))) w
-    ∙ sym (walk-sound (a .capture .now) (a .t) _ (ap (λ (x : Walked). x .verdict) (sym w) ∙ c .before .before .before .enum-told .given .1))
+    let told = c .before .before .before .before .before in
+    let walk = told .before .before .before .before in
+    let start = walk .before .before .before .before in
+    let a = start .args in
+    let w = walk .walk-madt .ensures in
+    let r = walk .walk-madt .result in
+    let sound = ap (λ (x : Walked). x .verdict) (sym (w .0)) ∙ told .enum-told .given .1 in (
+      c .judge .ensures
+          ∙ ap (λ (v : Verdict). unless turnedDown v (accepted (a .t) (r .found .map)))
+          (c .before .rules-after-walk .ensures ∙ ap (λ (x : List ℕ). firstRefusal (laterOf x (a .t) (r .found))) (c .before .before .madt-bytes .ensures))
+          ∙ ap (λ (x : Walked). unless turnedDown (firstRefusal (laterOf (madtBytes (a .capture .now) (a .t .madt)) (a .t) (x .found))) (accepted (a .t) (x .found .map))) (w .0)
+          ∙ sym (walk-sound (a .capture .now) (a .t) _ sound),
+      λ h. noted-standing _ _ _ sound (now (a .room)) (start .pre) (ap (λ (x : Walked). x .found .enabled) (w .0)) (w .1) refl,
+    )
 
 pub scan-tables-spec : {M : Type 1} → statement M
 scan-tables-spec =
@@ -77,6 +93,8 @@ scan-tables-spec =
     enum-known-verdict
     turn-down-requires
     enum-told
+    cast-noted
+    noted-requires
     madt-bytes-requires
     rules-after-walk-requires
     judge-requires

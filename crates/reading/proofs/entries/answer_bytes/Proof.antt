@@ -1,6 +1,7 @@
 -- `reading::entries::answer_bytes` fills the list of bytes where it has room, and refuses 60 otherwise.
 use mathlib.Core.Path.{ap, sym, _∙_}
 use Rattle.processors.proofs.Filling.{no-room-told, whole-told}
+use Rattle.processors.proofs.ReadAgain.{same-entries, same-count}
 use Rattle.reading.specs.declared.Answer.the-variants.{Read, Refused}
 use Rattle.reading.proofs.Laws.{in-read, in-60}
 use borrow.Author.Needs.{needs}
@@ -25,8 +26,10 @@ same-length c = search needs
 returns : tie.Need-returns
 returns c =
     let f = c .before .before .before .before .before in
+    let start = f .before .before .before .before .before in
+    let same = same-entries (start .args .table .now) (start .args .offsets .now) (start .pre) in
     let room = no-room-told _ _ _ (sym (f .fill .ensures .0) ∙ c .before .enum-told .given .1) in
-    (ap Refused (c .refuse .ensures) ∙ sym (in-60 _ _ room), f .fill .ensures .1)
+    (ap Refused (c .refuse .ensures) ∙ sym (in-60 _ _ (rw same at room)), rw same at (f .fill .ensures .1))
 
 same-length-2 : tie.Need-same-length-2
 same-length-2 c = search needs
@@ -34,8 +37,11 @@ same-length-2 c = search needs
 returns-2 : tie.Need-returns-2
 returns-2 c =
     let f = c .before .before .before .before .before in
+    let start = f .before .before .before .before .before in
+    let same = same-entries (start .args .table .now) (start .args .offsets .now) (start .pre) in
+    let many = same-count (start .args .table .now) (start .args .offsets .now) (start .pre) in
     let room = whole-told _ _ _ (sym (f .fill .ensures .0) ∙ c .before .processors .given .1) in
-    (ap Read (room .1) ∙ sym (in-read _ _ (room .0)), f .fill .ensures .1)
+    (ap Read (room .1 ∙ many) ∙ sym (in-read _ _ (rw same at (room .0))), rw same at (f .fill .ensures .1))
 
 pub answer-bytes-spec : {M : Type 1} → statement M
 answer-bytes-spec =

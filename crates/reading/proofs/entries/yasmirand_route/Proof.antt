@@ -32,19 +32,19 @@ route-code-requires c κs = search needs
 returns : tie.Need-returns
 unfolding routeResult
 returns c =
-    let s = c .before .before .before .before .before in
+    let s = c .before .before .before .before .before .before in
     c .refusal-code .ensures
-    ∙ sym (unless-refused _ _ _ (ap (λ (x : Scan). x .verdict) (sym (s .scan-strictly .ensures)) ∙ c .before .before .verdict .given .1))
+    ∙ sym (unless-refused _ _ _ (ap (λ (x : Scan). x .verdict) (sym (s .scan-strictly .ensures .0)) ∙ c .before .before .verdict .given .1))
 
 returns-2 : tie.Need-returns-2
 unfolding routeResult
 returns-2 c =
-    let s = c .before .before .before .before .before in
-    let number = s .before .before .args .number in
-    let sound = ap (λ (x : Scan). x .verdict) (sym (s .scan-strictly .ensures)) ∙ c .before .before .enum-told .given .1 in
+    let s = c .before .before .before .before .before .before in
+    let number = s .before .before .before .args .number in
+    let sound = ap (λ (x : Scan). x .verdict) (sym (s .scan-strictly .ensures .0)) ∙ c .before .before .enum-told .given .1 in
     c .route-code .ensures
     ∙ ap routeCode (c .before .arrival .ensures)
-    ∙ ap (λ (x : Scan). routeCode (arrival (says (x .map)) number)) (s .scan-strictly .ensures)
+    ∙ ap (λ (x : Scan). routeCode (arrival (says (x .map)) number)) (s .scan-strictly .ensures .0)
     ∙ ap routeCode (sym (accepted-route _ _ sound number))
     ∙ sym (unless-sound _ _ _ sound)
 

@@ -32,19 +32,19 @@ trace-code-requires c κs = search needs
 returns : tie.Need-returns
 unfolding traceResult
 returns c =
-    let s = c .before .before .before .before .before in
+    let s = c .before .before .before .before .before .before in
     c .refusal-code .ensures
-    ∙ sym (unless-refused _ _ _ (ap (λ (x : Scan). x .verdict) (sym (s .scan-strictly .ensures)) ∙ c .before .before .verdict .given .1))
+    ∙ sym (unless-refused _ _ _ (ap (λ (x : Scan). x .verdict) (sym (s .scan-strictly .ensures .0)) ∙ c .before .before .verdict .given .1))
 
 returns-2 : tie.Need-returns-2
 unfolding traceResult
 returns-2 c =
-    let s = c .before .before .before .before .before in
-    let a = s .before .before .args in
-    let sound = ap (λ (x : Scan). x .verdict) (sym (s .scan-strictly .ensures)) ∙ c .before .before .enum-told .given .1 in
+    let s = c .before .before .before .before .before .before in
+    let a = s .before .before .before .args in
+    let sound = ap (λ (x : Scan). x .verdict) (sym (s .scan-strictly .ensures .0)) ∙ c .before .before .enum-told .given .1 in
     c .trace-code .ensures
     ∙ ap traceCode (c .before .traced .ensures)
-    ∙ ap (λ (x : Scan). traceCode (traced (says (x .map)) (a .vector) (a .number))) (s .scan-strictly .ensures)
+    ∙ ap (λ (x : Scan). traceCode (traced (says (x .map)) (a .vector) (a .number))) (s .scan-strictly .ensures .0)
     ∙ ap traceCode (sym (accepted-trace _ _ sound (a .vector) (a .number)))
     ∙ sym (unless-sound _ _ _ sound)
 
