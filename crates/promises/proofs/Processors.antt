@@ -25,10 +25,11 @@ use Rattle.tables.specs.declared.Survey.the-variants as surveys
 use Rattle.tables.specs.declared.Tables.{Tables}
 use Rattle.tables.proofs.Inside.{Accepted as TablesInside, tables-inside, survey-is, survey-told as told-by}
 use Rattle.lines.specs.declared.Map.{Map}
-use Rattle.madt.specs.Pieces.{Whole, pieces}
+use Rattle.madt.specs.Pieces.{Whole}
 use Rattle.madt.specs.Walk.{walkRules}
 use Rattle.madt.proofs.Accepted.{walk-verdict}
-use Rattle.processors.specs.Listing.{Processor, enabledCores, listed, processors, count, hasRoom, written, filled}
+use Rattle.processors.specs.Listing.{coresOf, listed, processors, count, hasRoom, written, filled}
+use Rattle.processors.specs.declared.Processor.{Processor}
 use Rattle.processors.specs.Repeats.{repeatsId, firstRepeating, firstRepeat}
 use Rattle.processors.specs.declared.Repeat.{Repeat}
 use Rattle.processors.specs.declared.Repeat.the-variants.{At, Nowhere}
@@ -63,7 +64,7 @@ not-before j k h = go (leb k j) refl
 -- ---- the numbers of a MADT's processors
 module _ (table : List ℕ) where
   abbrev cores : List Whole
-  cores = enabledCores (pieces table 44)
+  cores = coresOf table
 
   abbrev ps : List Processor
   ps = listed cores

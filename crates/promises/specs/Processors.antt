@@ -10,9 +10,8 @@ use Rattle.words.specs.Refusals.{refusedWith, firstRefusal}
 use Rattle.words.specs.declared.Verdict.the-variants.{Sound, Refused}
 use Rattle.tables.specs.Survey.{tablesOf, surveyRules}
 use Rattle.tables.specs.declared.Strictness.{Strictness}
-use Rattle.madt.specs.Pieces.{pieces}
 use Rattle.madt.specs.Walk.{walkRules}
-use Rattle.processors.specs.Listing.{enabledCores, processors, count}
+use Rattle.processors.specs.Listing.{coresOf, processors, count}
 use Rattle.processors.specs.Repeats.{offsetOf}
 use Rattle.map_promises.specs.Clashing.{OnePlace, Exactly}
 use Rattle.reading.specs.Scan.{madtBytes, scan}
@@ -55,7 +54,7 @@ pub record NamesRepeat (table : List ℕ) (base p : ℕ) : Type 0 where
   pub k : ℕ
   pub repeats : Repeats (processors table) (count table) k
   pub first : (j : ℕ) → Repeats (processors table) (count table) j → k ≤ j
-  pub at : p ≡ base + offsetOf (enabledCores (pieces table 44)) k
+  pub at : p ≡ base + offsetOf (coresOf table) k
 
 -- 39 is told exactly then, there, and with no second place: of what the capture is refused with, and of the reading's answer, whatever
 -- list it is lent

@@ -10,7 +10,7 @@ use native.Mathlib.Omega.{arith}
 use borrow.Author.Tests.{ne-eqb}
 use lib.ListN.{length, length-append, drop, getD, drop-of-length-le, length-drop}
 use lib.Seq.{sets, length-sets, drop-cons}
-use Rattle.processors.proofs.Filling.{sets-append}
+use Rattle.words.proofs.Rooms.{sets-append}
 use Rattle.words.specs.declared.Refusal.{Refusal}
 use Rattle.words.proofs.Choices.{no-if}
 use Rattle.kinds.specs.declared.Lio.{Lio}
