@@ -478,6 +478,51 @@ trace("39: a board with a spare CORE traces", put(2, core(0, 0, 0)), 3, 11, "kin
 read("35: a spare CORE with the IDs of an enabled one", made(C, core(0, 0, 2), *REST), refused(35, 177))
 read("38: 257 CORE, the first alone enabled", made(C, *256 * [core(0, 0, 0)], *REST), refused(38, 162 + 15 * 256))
 read("38: 257 CORE, the last alone enabled", made(*256 * [core(0, 0, 0)], C, *REST), refused(38, 162 + 15 * 256))
+
+# W-205: repeated IDs in any order, and among structures that are passed over; what the check promises stays as it is. CORE k of
+# those that stand one behind the other is at 162 + 15 * k.
+FALLING = [core(256 - k, 256 - k) for k in range(256)]
+FELL = "read 256" + "".join(2 * f" {256 - k}" for k in range(256))
+LAST = 162 + 15 * 255
+both(read, "39: 256 CORE that fall", made(*FALLING, *REST), ordinary=FELL, strict=FELL)
+read("39: falling, the last pair shares a UID", made(*FALLING[:255], core(2, 0), *REST), refused(39, LAST))
+read("39: falling, the last pair shares a physical ID", made(*FALLING[:255], core(0, 2), *REST), refused(39, LAST))
+read("39: falling, the last shares the first one's UID", made(*FALLING[:255], core(256, 0), *REST), refused(39, LAST))
+read("39: falling, the last shares the first one's physical ID", made(*FALLING[:255], core(0, 256), *REST), refused(39, LAST))
+read("39: falling, the last repeats two others", made(*FALLING[:255], core(256, 2), *REST), refused(39, LAST))
+read("39: falling, the first pair", made(core(255, 0), *FALLING[1:], *REST), refused(39, 177))
+read("39: UID of the first, physical ID of the second", made(core(1, 2), core(3, 4), core(1, 4), *REST), refused(39, 192))
+read("39: physical ID of the first, UID of the second", made(core(1, 2), core(3, 4), core(3, 2), *REST), refused(39, 192))
+read("39: third repeats second, fourth first", made(core(4, 4), core(3, 3), core(3, 2), core(4, 1), *REST), refused(39, 192))
+read("39: third repeats a physical ID, fourth a UID", made(core(9, 9), core(8, 8), core(7, 9), core(8, 6), *REST), refused(39, 192))
+read("39: above all UIDs, a physical ID repeated", made(core(1, 1), core(2, 2), core(3, 1), *REST), refused(39, 192))
+read("39: above all physical IDs, a UID repeated", made(core(1, 1), core(2, 2), core(1, 3), *REST), refused(39, 192))
+read("39: one out of place", made(core(1, 1), core(5, 5), core(3, 3), core(6, 6), *REST), "read 4 1 1 5 5 3 3 6 6")
+read("39: one out of place is repeated", made(core(1, 1), core(5, 5), core(3, 3), core(6, 3), *REST), refused(39, 207))
+read("39: UIDs rise, physical IDs fall", made(core(1, 3), core(2, 2), core(3, 1), *REST), "read 3 1 3 2 2 3 1")
+read("39: UIDs fall, physical IDs rise, the last repeats", made(core(3, 1), core(2, 2), core(1, 2), *REST), refused(39, 192))
+ALTERNATE = [x for k in range(128) for x in (core(128 - k, 128 - k), core(128, 128, 0))]
+read("39: 128 enabled among disabled ones like the first", made(*ALTERNATE, *REST), "read 128" + "".join(2 * f" {128 - k}" for k in range(128)))
+read("39: the last enabled of 128 repeats the first", made(*ALTERNATE[:254], core(0, 128), ALTERNATE[255], *REST), refused(39, 162 + 15 * 254))
+read("39: 255 enabled, a disabled one between", made(*FALLING[:100], core(256, 256, 0), *FALLING[101:], *REST),
+     "read 255" + "".join(2 * f" {256 - k}" for k in range(256) if k != 100))
+read("38: 256 enabled CORE, a disabled one behind", made(*FALLING, core(0, 0, 0), *REST), refused(38, LAST + 15))
+read("38: 256 enabled CORE, a disabled one before", made(core(0, 0, 0), *FALLING, *REST), refused(38, LAST + 15))
+read("38 before 39: 257 CORE, all alike", made(*257 * [C], *REST), refused(38, LAST + 15))
+PASSED = b"\xC8\2"  # a structure of two bytes, of a type that is passed over
+read("39: falling among two-byte structures", made(PASSED, core(3, 3), PASSED, PASSED, core(2, 2), PASSED, C, *REST), "read 3 3 3 2 2 0 0")
+read("39: repeated among two-byte structures", made(PASSED, core(3, 3), PASSED, PASSED, core(2, 2), PASSED, core(3, 1), *REST), refused(39, 200))
+for kind in (16, 24):
+    read(f"39: type {kind} with a CORE's bytes is passed over", made(C, bytes([kind]) + C[1:], core(1, 1), *REST), TWO)
+BEHIND, BETWEEN = 15000 * PASSED, 61 * PASSED  # with 256 CORE a capture of 65,514 bytes
+LONG = [BEHIND] + [x for c in FALLING for x in (c, BETWEEN)]
+read("39: 256 that fall among 30,616 two-byte structures", made(*LONG, *REST), FELL)
+read("39: the last of these repeats the first", made(*LONG[:-2], core(256, 0), BETWEEN, *REST), refused(39, 162 + 2 * 15000 + (15 + 2 * 61) * 255))
+read_bytes("39, for C: falling among two-byte structures", made(PASSED, core(3, 3), PASSED, core(2, 2), *REST), "read 2 3 0 0 0 3 0 0 0 2 0 0 0 2 0 0 0", 16)
+read_bytes("39, for C: the last of 256 repeats the first", made(*FALLING[:255], core(256, 0), *REST), refused(39, LAST), 2048)
+route("39: falling, route", made(core(2, 2), core(1, 1), *REST), 26, "kind 0 2 10")
+route("39: falling, the last repeats, route", made(core(2, 2), core(1, 1), core(2, 0), *REST), 26, refused(39, 192))
+trace("39: falling, the last repeats, trace", made(core(2, 2), core(1, 1), core(2, 0), *REST), 2, 10, refused(39, 192))
 read("38: 256 CORE, the last alone enabled", made(*255 * [core(0, 0, 0)], C, *REST), ONE)
 read("40: CORE alike, none enabled", made(core(0, 0, 0), core(0, 0, 0), *REST), refused(40, 118))
 read("60: room for the enabled ones alone", made(C, *SPARES, *REST), ONE, room=2)
