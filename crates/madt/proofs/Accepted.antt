@@ -23,7 +23,8 @@ use Rattle.tables.specs.declared.Step.the-variants.{End, Structure, Broken}
 use Rattle.madt.specs.Pieces.{Piece, whole, cut, Whole, pieceAt, piecesFrom, pieces, structures}
 use Rattle.madt.specs.Rules.{isType, structureRules}
 use Rattle.madt.specs.Contents.{ofType, howMany, isEnabledCore, enabledCores, offsetsOf, foundIn}
-use Rattle.madt.specs.Walk.{rulesInTurn, walkRules, turnedAway, walked, takenInTurn, taken}
+use Rattle.madt.specs.Walk.{rulesInTurn, walkRules, turnedAway, walked}
+use Rattle.madt.specs.Noting.{takenInTurn, taken}
 use Rattle.madt.specs.declared.Walked.{Walked}
 use Rattle.madt.proofs.Pieces.{step-inside, step-length}
 use Rattle.madt.proofs.Contents.{count-more, count-same}

@@ -20,7 +20,8 @@ use Rattle.lines.specs.declared.Places.{Places}
 use Rattle.madt.specs.Pieces.{Piece, whole, cut, Whole, pieces, structures}
 use Rattle.madt.specs.Rules.{structureRules}
 use Rattle.madt.specs.Contents.{ofType, howMany, made, standing, mapOf, placesOf, MadeBy, isEnabledCore, enabledCores, offsetsOf, foundIn}
-use Rattle.madt.specs.Walk.{rulesInTurn, walkRules, turnedAway, walked, takenInTurn, taken, noted}
+use Rattle.madt.specs.Walk.{rulesInTurn, walkRules, turnedAway, walked}
+use Rattle.madt.specs.Noting.{takenInTurn, taken, noted}
 use Rattle.madt.specs.declared.Walked.{Walked}
 use Rattle.madt.proofs.Pieces.{sizeAt, pieces-end, pieces-cut, pieces-next}
 use Rattle.madt.proofs.Contents.{Parts, map-of, places-of, enabled-same, enabled-more}

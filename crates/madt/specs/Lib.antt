@@ -3,3 +3,4 @@ pub mod Sizes
 pub mod Rules
 pub mod Contents
 pub mod Walk
+pub mod Noting

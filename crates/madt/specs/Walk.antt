@@ -3,7 +3,6 @@
 use Prim.Native.Nat.{ℕ, _+_}
 use mathlib.Core.Bool.{true}
 use mathlib.Core.List.{List, [], _∷_, _++_}
-use lib.Seq.{sets}
 use Rattle.words.specs.Bytes.{byteAt}
 use Rattle.words.specs.Refusals.{rule, unless, firstRefusal}
 use Rattle.words.specs.declared.Refusal.{Refusal}
@@ -11,7 +10,7 @@ use Rattle.words.specs.declared.Verdict.{Verdict}
 use Rattle.words.specs.declared.Verdict.the-variants.{Sound, Refused}
 use Rattle.madt.specs.Pieces.{Piece, whole, cut, Whole, pieces, structures}
 use Rattle.madt.specs.Rules.{structureRules}
-use Rattle.madt.specs.Contents.{howMany, enabledCores, offsetsOf, foundIn, nothing}
+use Rattle.madt.specs.Contents.{howMany, foundIn, nothing}
 use Rattle.madt.specs.declared.Walked.{Walked}
 
 -- the rules of some pieces in turn, after the structures before them: 31 of one that is cut, `structureRules` of a whole one. The MADT
@@ -36,21 +35,3 @@ unfoldable pub walked : List ℕ → ℕ → ℕ → Walked
 walked table base sci =
     unless turnedAway (firstRefusal (walkRules table base))
     (record { verdict = Sound; found = foundIn base sci (structures (pieces table 44)) })
-
--- ---- the room that is lent to the walk
--- the structures that are taken in turn, after some before them: a refusal ends it
-unfoldable pub takenInTurn : ℕ → List Whole → List Piece → List Whole
-takenInTurn base before [] = []
-takenInTurn base before (cut at ∷ pieces) = []
-takenInTurn base before (whole at s ∷ pieces) =
-    let x : Whole = record { at = at; bytes = s } in
-    unless (λ refusal. []) (firstRefusal (structureRules (base + at) (howMany (byteAt s 0) before) s))
-    (x ∷ takenInTurn base (before ++ (x ∷ [])) pieces)
-
--- all that are taken of the MADT with some bytes; where no rule is broken these are all its structures (proofs/Accepted)
-unfoldable pub taken : List ℕ → ℕ → List Whole
-taken table base = takenInTurn base [] (pieces table 44)
-
--- the room afterwards: in its front it is noted where the enabled CORE that were taken stand in the table, and the rest stays
-unfoldable pub noted : List ℕ → ℕ → List ℕ → List ℕ
-noted table base room = sets room 0 (offsetsOf (enabledCores (taken table base)))

@@ -19,7 +19,8 @@ ghost use mathlib.Core.Path.{_≡_};
 ghost use Prim.Native.Nat.{_<_};
 ghost use lib.ListN.{length};
 ghost use Rattle.words.specs.Bytes.{partAt};
-ghost use Rattle.madt.specs.Walk.{turnedAway, walked, noted};
+ghost use Rattle.madt.specs.Walk.{turnedAway, walked};
+ghost use Rattle.madt.specs.Noting.{noted};
 
 fn turn_away(refusal: Refusal) -> Walked
     ensures { λ r. ⌜ r ≡ turnedAway refusal ⌝ }

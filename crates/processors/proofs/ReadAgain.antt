@@ -15,7 +15,8 @@ use Rattle.words.proofs.Those.{length-map}
 use Rattle.kinds.specs.Makers.{coreOf}
 use Rattle.madt.specs.Pieces.{Whole}
 use Rattle.madt.specs.Contents.{enabledCores, offsetsOf, foundIn}
-use Rattle.madt.specs.Walk.{walkRules, walked, taken, noted}
+use Rattle.madt.specs.Walk.{walkRules, walked}
+use Rattle.madt.specs.Noting.{noted}
 use Rattle.madt.specs.declared.Found.{Found}
 use Rattle.madt.proofs.Accepted.{rules-sound, found-is, taken-all, few-enabled, core-bytes}
 use Rattle.processors.specs.Listing.{coresOf, idsOf, listed, numbersOf, processors, count}
