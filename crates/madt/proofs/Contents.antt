@@ -9,7 +9,6 @@ use lib.ListN.{length, set, length-append}
 use borrow.Author.Tests.{le-leb}
 use Rattle.words.specs.Bytes.{byteAt}
 use Rattle.words.specs.Choice.{if}
-use Rattle.words.specs.Lists.{those}
 use Rattle.words.proofs.Those.{those-more, those-same, map-more, length-map}
 use Rattle.kinds.specs.Makers.{coreOf, isEnabled, lioOf, eioOf, msiOf, bioOf, lpcOf}
 use Rattle.kinds.specs.Used.{noLio, noEio, noBio, noMsi, noLpc, saidLio}

@@ -4,7 +4,7 @@ use mathlib.Core.Bool.{true, false}
 use mathlib.Core.List.{List, [], _∷_, _++_, map, append-nil, append-assoc}
 use Prim.Native.Nat.{ℕ, _+_, _≤_, _<_}
 use native.Mathlib.Omega.{arith}
-use lib.ListN.{length, set, drop, length-append, length-take}
+use lib.ListN.{length, set, drop, length-take}
 use lib.Seq.{sets}
 use Rattle.words.specs.Bytes.{byteAt, partAt}
 use Rattle.words.specs.Lists.{those}

@@ -2,29 +2,33 @@
 -- its processors, so that neither the list nor 39 changes by it.
 use mathlib.Core.Path.{_≡_, refl, sym, ap, _∙_}
 use mathlib.Core.List.{List, [], _∷_, map, map-map}
-use Prim.Native.Nat.{ℕ, _+_, _≤_}
+use Prim.Native.Nat.{ℕ, zero, suc, _+_, _≤_, _<_}
 use native.Mathlib.Omega.{arith}
-use native.Mathlib.Nat.{zero-add}
-use lib.ListN.{length, take, drop}
-use lib.Seq.{sets, sets-eq, take-append-seam}
-use Rattle.words.specs.Bytes.{numberAt, partAt}
+use lib.ListN.{length, take, drop, getD}
+use lib.Seq.{sets-eq, take-append-seam}
+use Rattle.words.specs.Bytes.{partAt}
 use Rattle.words.specs.Refusals.{firstRefusal}
 use Rattle.words.specs.declared.Verdict.the-variants.{Sound}
 use Rattle.words.proofs.Numbers.{number-take, number-drop}
 use Rattle.words.proofs.Those.{length-map}
 use Rattle.kinds.specs.Makers.{coreOf}
 use Rattle.madt.specs.Pieces.{Whole}
-use Rattle.madt.specs.Contents.{enabledCores, offsetsOf, foundIn}
+use Rattle.madt.specs.Contents.{offsetsOf, foundIn}
 use Rattle.madt.specs.Walk.{walkRules, walked}
 use Rattle.madt.specs.Noting.{noted}
 use Rattle.madt.specs.declared.Found.{Found}
 use Rattle.madt.proofs.Accepted.{rules-sound, found-is, taken-all, few-enabled, core-bytes}
-use Rattle.processors.specs.Listing.{coresOf, idsOf, listed, numbersOf, processors, count}
-use Rattle.processors.specs.Repeats.{firstRepeat}
+use Rattle.processors.specs.Listing.{coresOf, idsOf, numbersOf, processors, count}
+use Rattle.processors.specs.Repeats.{noProcessor, firstRepeat}
 use Rattle.processors.specs.Again.{processorAt, processorsAt, repeatAt, Standing}
-use Rattle.processors.specs.declared.Processor.{Processor}
 
 -- ---- one CORE
+-- the processor that is read from offset k of some
+pub read-at : (table offsets : List ℕ) (k : ℕ) → k < length offsets → processorAt table (getD offsets k 0) ≡ getD (processorsAt table offsets) k noProcessor
+read-at table [] k l = absurd (omega arith)
+read-at table (at ∷ offsets) zero l = refl
+read-at table (at ∷ offsets) (suc k) l = read-at table offsets k (omega arith)
+
 -- its IDs are the same in its own fifteen bytes and in the table
 read-again : (table : List ℕ) (at : ℕ) → idsOf (coreOf (partAt table at 15)) ≡ processorAt table at
 unfolding coreOf processorAt

@@ -4,7 +4,7 @@ use mathlib.Core.Path.{_≡_, refl, sym, ap, _∙_}
 use mathlib.Core.Bool.{Bool, true, false, true≢false}
 use mathlib.Core.List.{List, [], _∷_, _++_}
 use mathlib.Core.Logic.{_⊎_, inl, inr}
-use Prim.Native.Nat.{ℕ, zero, suc, _+_, _-_, _≤_, _<_}
+use Prim.Native.Nat.{ℕ, _+_, _-_, _≤_, _<_}
 use native.Mathlib.Nat.{sub-zero}
 use native.Mathlib.Numerals.{add-one}
 use native.Mathlib.Omega.{arith}
@@ -18,15 +18,10 @@ use Rattle.words.proofs.Those.{length-map}
 use Rattle.processors.specs.Repeats.{shareId, sharesWithOne, noProcessor, repeatsId, firstRepeating}
 use Rattle.processors.specs.Again.{processorAt, processorsAt, repeatAt}
 use Rattle.processors.specs.declared.Processor.{Processor}
+use Rattle.processors.proofs.ReadAgain.{read-at}
 use Rattle.processors.specs.declared.repeats.Seen.{Seen}
 use Rattle.processors.specs.declared.Repeat.{Repeat}
 use Rattle.processors.specs.declared.Repeat.the-variants.{At, Nowhere}
-
--- the processor that is read from offset k of some
-pub read-at : (table offsets : List ℕ) (k : ℕ) → k < length offsets → processorAt table (getD offsets k 0) ≡ getD (processorsAt table offsets) k noProcessor
-read-at table [] k l = absurd (omega arith)
-read-at table (at ∷ offsets) zero l = refl
-read-at table (at ∷ offsets) (suc k) l = read-at table offsets k (omega arith)
 
 -- ---- a processor beside others
 -- one of a list in two parts
@@ -48,7 +43,6 @@ Looking p answer rest = Searching (shareId p) (λ (q : Processor). true) false a
 
 pub record Inner (ps : List Processor) (p : Processor) (later : ℕ) (repeat : Repeat) (earlier : ℕ) : Type 0 where
   pub none : repeat ≡ Nowhere
-  pub upto : earlier ≤ later
   pub rest : Looking p (sharesWithOne (take later ps) p) (drop earlier (take later ps))
 
 module _ {ps : List Processor} {p : Processor} {later earlier : ℕ} {repeat : Repeat} (inv : Inner ps p later repeat earlier) (inside : later ≤ length ps) where
@@ -58,7 +52,7 @@ module _ {ps : List Processor} {p : Processor} {later earlier : ℕ} {repeat : R
     at-hand = rw e (next-element ps later earlier noProcessor more inside)
 
     pub pass : {to : ℕ} → shareId p q ≡ false → to ≡ earlier + 1 → Inner ps p later repeat to
-    pass h g = rw g (record { none = inv .none; upto = omega arith; rest = search-miss (inv .rest) at-hand h })
+    pass h g = rw g (record { none = inv .none; rest = search-miss (inv .rest) at-hand h })
 
     pub caught : shareId p q ≡ true → sharesWithOne (take later ps) p ≡ true
     caught h = sym (search-hit (inv .rest) at-hand h)
@@ -101,12 +95,11 @@ module _ {table offsets : List ℕ} {later : ℕ} {repeat : Repeat} {seen : Seen
     -- the search for one that shares an ID begins at the first, or ends at once
     pub enter : {from : ℕ} → (from ≡ 0) ⊎ ((from ≡ later) × (seen .uids ≤ p .uid) × (seen .ids ≤ p .id)) → Inner all p later repeat from
     unfolding sharesWithOne first
-    enter (inl f) = rw f (record { none = inv .none; upto = omega arith; rest = record { gives = refl } })
+    enter (inl f) = rw f (record { none = inv .none; rest = record { gives = refl } })
     enter (inr f) =
         rw (f .0)
         (record {
           none = inv .none;
-          upto = omega arith;
           rest = record { gives = rw (no-element all later later (omega arith)) (sym (inv .above p (f .1) (f .2))) };
         })
 

@@ -1,7 +1,6 @@
 -- `reading::scan_noting` gives the refusals 1 to 30 first.
 use mathlib.Core.Path.{ap, sym, _∙_}
 use Rattle.words.proofs.Verdicts.{not-sound}
-use Rattle.tables.specs.declared.Tables.{Tables}
 use Rattle.reading.specs.Scan.{turnedDown}
 use Rattle.reading.specs.declared.Scan.{Scan}
 use Rattle.reading.proofs.Laws.{scan-refused, scan-found}

@@ -5,7 +5,7 @@ use native.Mathlib.Omega.{arith}
 use lib.ListN.{length}
 use Rattle.words.proofs.Those.{length-map}
 use Rattle.processors.specs.Again.{processorAt, processorsAt}
-use Rattle.processors.proofs.Repeating.{read-at}
+use Rattle.processors.proofs.ReadAgain.{read-at}
 use Rattle.processors.specs.Image.{image}
 use Rattle.processors.proofs.Image.{in-bytes}
 use Rattle.processors.proofs.Filling.{Writing, write-start, write-end, write-room, write-next}

@@ -5,7 +5,7 @@ use native.Mathlib.Omega.{arith}
 use lib.ListN.{length}
 use Rattle.words.proofs.Those.{length-map}
 use Rattle.processors.specs.Again.{processorAt, processorsAt}
-use Rattle.processors.proofs.Repeating.{read-at}
+use Rattle.processors.proofs.ReadAgain.{read-at}
 use Rattle.processors.proofs.Filling.{plain, plainly, Writing, write-start, write-end, write-room, write-next}
 use borrow.Author.Needs.{needs}
 use Rattle.processors.proofs.list.put_all.Statement.{statement}

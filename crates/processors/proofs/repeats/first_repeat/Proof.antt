@@ -5,7 +5,8 @@ use Prim.Native.Nat.{_-_, _<_}
 use lib.ListN.{length}
 use Rattle.words.proofs.Those.{length-map}
 use Rattle.processors.specs.Again.{processorAt, processorsAt}
-use Rattle.processors.proofs.Repeating.{read-at, Inner, Outer, start, pass, caught, over, enter, leave, named}
+use Rattle.processors.proofs.ReadAgain.{read-at}
+use Rattle.processors.proofs.Repeating.{Inner, Outer, start, pass, caught, over, enter, leave, named}
 use borrow.Author.Needs.{needs}
 use Rattle.processors.proofs.repeats.first_repeat.Statement.{statement}
 use Rattle.processors.proofs.repeats.first_repeat.Tie as tie
