@@ -1,7 +1,6 @@
 pub mod Arrays
 pub mod Logic
 pub mod Folding
-pub mod Turns
 pub mod Symmetric
 pub mod Searched
 pub mod Apart

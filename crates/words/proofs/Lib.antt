@@ -6,5 +6,6 @@ pub mod Tests
 pub mod Order
 pub mod Choices
 pub mod Searches
+pub mod Turns
 pub mod Verdicts
 pub mod Those
