@@ -7,8 +7,8 @@ use native.Mathlib.Omega.{arith}
 use lib.ListN.{length, length-take}
 use Rattle.words.specs.Bytes.{AllBytes, numberAt, partAt}
 use Rattle.words.proofs.Numbers.{number-take}
-use Rattle.capture.proofs.Laws.{count-small}
-use Rattle.capture.specs.Fields.{headerSize, segmentCount, descriptor, descriptorsEnd, segmentAddress, segmentLength}
+use Rattle.capture.proofs.Laws.{count-small, header-bounds}
+use Rattle.capture.specs.Fields.{version, segmentCount, descriptor, descriptorsEnd, segmentAddress, segmentLength}
 
 -- a loop stands at the descriptor of segment i, or behind the last one, and P holds of i
 pub record Standing (capture : List ℕ) (at : ℕ) (P : ℕ → Type 0) : Type 0 where
@@ -29,8 +29,8 @@ same-descriptor capture i j h = omega arith
 
 -- a descriptor's place has 16 bits
 pub descriptor-small : (capture : List ℕ) (i : ℕ) → AllBytes capture → i ≤ segmentCount capture → descriptor capture i + 12 < 65536
-unfolding descriptor headerSize
-descriptor-small capture i bytes counted = omega (arith, count-small capture bytes)
+unfolding descriptor
+descriptor-small capture i bytes counted = omega (arith, count-small capture bytes, header-bounds (version capture) .1)
 
 -- the head is what a loop reads
 module _ (capture : List ℕ) {head : List ℕ} (whole : descriptorsEnd capture ≤ length capture) (is : head ≡ partAt capture 0 (descriptorsEnd capture)) where

@@ -11,7 +11,7 @@ use lib.Dec.{eqb, ltb, leb}
 use lib.ListN.{length}
 use borrow.Author.Tests.{lt-ltb, le-ltb, ltb-true, ltb-false, leb-true}
 use Rattle.words.proofs.Tests.{both-left, both-right, neither-left}
-use Rattle.capture.specs.Fields.{segmentCount, totalLength, headerSize, descriptor, descriptorsEnd, segmentAddress, segmentLength, segmentEnd, hasAddress, segments, lengths, segmentPlace}
+use Rattle.capture.specs.Fields.{version, segmentCount, totalLength, headerSize, descriptor, descriptorsEnd, segmentAddress, segmentLength, segmentEnd, hasAddress, segments, lengths, segmentPlace}
 use Rattle.capture.specs.Rules.{wrongTotal, emptySegment, endsPastMemory, endBefore, startsEarly, segmentBroken, segmentRules}
 use Rattle.capture.specs.Presence.{runEnd, holds, placeIn}
 use Rattle.capture.specs.Reach.{reachIn, nowhere, reached}
@@ -19,9 +19,15 @@ use Rattle.words.specs.Bytes.{AllBytes}
 use Rattle.words.specs.Lists.{first}
 use Rattle.words.specs.Refusals.{refused, firstRefusal}
 use Rattle.words.specs.declared.Verdict.the-variants.{Sound, Refused}
-use Rattle.words.proofs.Choices.{yes-if, no-if}
+use Rattle.words.proofs.Choices.{yes-if, no-if, if-cases}
 use Rattle.words.proofs.Numbers.{number-small}
 use Rattle.words.proofs.Verdicts.{first-in-turn}
+
+-- a header has 18 bytes, or 26
+pub header-bounds : (version : ℕ) → (18 ≤ headerSize version) × (headerSize version ≤ 26)
+unfolding headerSize
+header-bounds version =
+    if-cases (λ (n : ℕ). (18 ≤ n) × (n ≤ 26)) (eqb version 2) 26 18 (λ t. (omega arith, omega arith)) (λ t. (omega arith, omega arith))
 
 -- one segment more
 pub lengths-next : (capture : List ℕ) (i : ℕ) → lengths capture (i + 1) ≡ lengths capture i + segmentLength capture i
@@ -123,8 +129,8 @@ place-next capture i = omega (arith, lengths-next capture i)
 
 -- all places are behind the header
 pub place-behind : (capture : List ℕ) (address i : ℕ) → 18 ≤ placeIn capture address i
-unfolding placeIn segmentPlace descriptorsEnd descriptor headerSize
-place-behind capture address i = omega arith
+unfolding placeIn segmentPlace descriptorsEnd descriptor
+place-behind capture address i = omega (arith, header-bounds (version capture) .0)
 
 -- 6, as a search for the first broken segment
 pub segments-first : (capture : List ℕ)

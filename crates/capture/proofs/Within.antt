@@ -14,6 +14,7 @@ use Rattle.words.proofs.Tests.{neither-right}
 use Rattle.words.proofs.Verdicts.{unless-sound, unless-told, first-sound, joined-kept}
 use Rattle.capture.specs.Fields.{version, headerSize, segmentCount, totalLength, rsdpAddress, descriptorsEnd, lengths, segmentPlace, segments}
 use Rattle.capture.specs.Rules.{wrongSize, wrongTotal, segmentRules, containerRules, verdict}
+use Rattle.capture.specs.Pairs.{pairRules}
 use Rattle.capture.specs.Presence.{Stretch, Present, Absent, isPresent, placeOf, holds, placeIn, located, rsdpSize, rsdpStretch, presenceRules, rsdpPlace, rsdp}
 use Rattle.words.specs.declared.Verdict.{Verdict}
 use Rattle.words.specs.declared.Verdict.the-variants as verdicts
@@ -31,14 +32,18 @@ sound-size : (capture : List ℕ) → Sound capture → wrongSize capture ≡ fa
 unfolding verdict containerRules
 sound-size capture h = first-sound _ 1 0 _ h .0
 
--- what 5 says, and the segments
-sound-rest : (capture : List ℕ) → Sound capture → (wrongTotal capture ≡ false) × (firstRefusal (segmentRules capture) ≡ verdicts.Sound)
+-- what 5 says, and the segments and the pairs
+sound-rest : (capture : List ℕ) → Sound capture
+    → (wrongTotal capture ≡ false) × (firstRefusal (segmentRules capture ++ pairRules capture) ≡ verdicts.Sound)
 unfolding verdict containerRules
 sound-rest capture h =
     first-sound _ 5 0 _ (first-sound _ 4 0 _ (first-sound _ 3 0 _ (first-sound _ 2 0 _ (first-sound _ 1 0 _ h .1) .1) .1) .1)
 
 pub sound-segments : (capture : List ℕ) → Sound capture → firstRefusal (segmentRules capture) ≡ verdicts.Sound
-sound-segments capture h = sound-rest capture h .1
+sound-segments capture h = joined-kept (segmentRules capture) (pairRules capture) (sound-rest capture h .1) .0
+
+pub sound-pairs : (capture : List ℕ) → Sound capture → firstRefusal (pairRules capture) ≡ verdicts.Sound
+sound-pairs capture h = joined-kept (segmentRules capture) (pairRules capture) (sound-rest capture h .1) .1
 
 -- a sound capture has at most 65,536 bytes
 pub sound-small : (capture : List ℕ) → Sound capture → length capture ≤ 65536

@@ -1,9 +1,10 @@
--- Document 01, "The capture": what stands where.
+-- Document 01, "The capture", and W-212 of document 02: what stands where.
 use Prim.Native.Nat.{ℕ, zero, suc, _+_, _*_}
 use mathlib.Core.Bool.{Bool, _&&_}
 use mathlib.Core.List.{List}
-use lib.Dec.{ltb, leb}
+use lib.Dec.{eqb, ltb, leb}
 use Rattle.words.specs.Bytes.{byteAt, numberAt}
+use Rattle.words.specs.Choice.{if}
 use Rattle.words.specs.Lists.{numbersBelow}
 
 -- "3 version, 16 bits"
@@ -22,15 +23,15 @@ totalLength capture = numberAt 4 capture 6
 unfoldable pub rsdpAddress : List ℕ → ℕ
 rsdpAddress capture = numberAt 8 capture 10
 
--- "18 n descriptors": the size of the header ahead of them, by the capture's version
+-- "18 n descriptors", or by W-212 of document 02 "descriptors from 26" in version 2: the size of the header ahead of them
 unfoldable pub headerSize : ℕ → ℕ
-headerSize version = 18
+headerSize version = if (eqb version 2) 26 18
 
 -- "n descriptors of 12 bytes": the place of descriptor i
 unfoldable pub descriptor : List ℕ → ℕ → ℕ
 descriptor capture i = headerSize (version capture) + 12 * i
 
--- "18 + 12n": where the descriptors end
+-- "18 + 12n", or "26 + 12n": where the descriptors end
 unfoldable pub descriptorsEnd : List ℕ → ℕ
 descriptorsEnd capture = descriptor capture (segmentCount capture)
 

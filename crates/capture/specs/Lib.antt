@@ -1,4 +1,5 @@
 pub mod Fields
+pub mod Pairs
 pub mod Rules
 pub mod Presence
 pub mod Reach

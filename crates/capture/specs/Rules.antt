@@ -1,16 +1,18 @@
--- Document 01, "The capture" and refusals 1 to 6: what a capture must keep, and which broken rule is named.
+-- Document 01, "The capture" and refusals 1 to 6, and 7 of W-212 of document 02: what a capture must keep, and which broken rule is
+-- named.
 use Prim.Native.Nat.{ℕ, zero, suc, _+_, _^_}
 use Prim.Native.Char.{code}
 use mathlib.Core.Bool.{Bool, not, _&&_, _||_}
-use mathlib.Core.List.{List, _∷_, map}
+use mathlib.Core.List.{List, _∷_, _++_, map}
 use lib.Dec.{eqb, ltb}
 use lib.ListN.{length}
 use Rattle.words.specs.Bytes.{byteAt}
 use Rattle.words.specs.Refusals.{rule, firstRefusal}
 use Rattle.capture.specs.Fields.{version, segmentCount, totalLength, headerSize, descriptor, descriptorsEnd, segmentAddress, segmentLength, segmentEnd, segments, lengths}
+use Rattle.capture.specs.Pairs.{pairRules}
 use Rattle.words.specs.declared.Verdict.{Verdict}
 
--- 1: "capture under 18 or over 65,536 bytes"
+-- 1: "capture under 18 or over 65,536 bytes"; "under 26 bytes in version 2"
 unfoldable pub wrongSize : List ℕ → Bool
 wrongSize capture = ltb (length capture) (headerSize (version capture)) || ltb 65536 (length capture)
 
@@ -19,15 +21,16 @@ unfoldable pub wrongMark : List ℕ → Bool
 wrongMark capture =
     not (eqb (byteAt capture 0) (code "T") && eqb (byteAt capture 1) (code "B") && eqb (byteAt capture 2) (code "C"))
 
--- 3: "3 version, 16 bits, 1"
+-- 3: the version is "other than 1 or 2"
 unfoldable pub wrongVersion : List ℕ → Bool
-wrongVersion capture = not (eqb (version capture) 1)
+wrongVersion capture = not (eqb (version capture) 1 || eqb (version capture) 2)
 
 -- 4: "segment count n, one byte, 1 to 16"
 unfoldable pub wrongCount : List ℕ → Bool
 wrongCount capture = eqb (segmentCount capture) 0 || ltb 16 (segmentCount capture)
 
--- 5: "descriptors past the end, or total length disagrees": it "equals the length handed in and 18 + 12n + the sum of the lengths"
+-- 5: "descriptors past the end, or total length disagrees": it "equals the length handed in and 18 + 12n + the sum of the lengths";
+-- "The total of a version 2 capture is 26 + 12n + the lengths."
 unfoldable pub wrongTotal : List ℕ → Bool
 wrongTotal capture =
     ltb (length capture) (descriptorsEnd capture)
@@ -59,7 +62,7 @@ segmentBroken capture i = emptySegment capture i || endsPastMemory capture i || 
 unfoldable pub segmentRules : List ℕ → List Verdict
 segmentRules capture = map (λ i. rule (segmentBroken capture i) 6 (descriptor capture i)) (segments capture)
 
--- the order of refusals 1 to 6
+-- the order of refusals 1 to 7: "7, after 6"
 unfoldable pub containerRules : List ℕ → List Verdict
 containerRules capture =
     rule (wrongSize capture) 1 0
@@ -67,7 +70,7 @@ containerRules capture =
     ∷ rule (wrongVersion capture) 3 0
     ∷ rule (wrongCount capture) 4 0
     ∷ rule (wrongTotal capture) 5 0
-    ∷ segmentRules capture
+    ∷ (segmentRules capture ++ pairRules capture)
 
 unfoldable pub verdict : List ℕ → Verdict
 verdict capture = firstRefusal (containerRules capture)

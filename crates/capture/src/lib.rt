@@ -1,18 +1,22 @@
-// The capture: what the bench is handed. Whether it is sound (refusals 1 to 6), where a stretch of memory stands in it,
+// The capture: what the bench is handed. Whether it is sound (refusals 1 to 7), where a stretch of memory stands in it,
 // and whether the RSDP is there (refusal 10). Every public function answers for any bytes.
 ghost use mathlib.Core.Path.{_≡_};
 ghost use mathlib.Core.Bool.{_&&_, _||_};
 ghost use Prim.Native.Nat.{ℕ, _+_, _-_, _^_, _≤_, _<_};
 ghost use lib.Dec.{eqb, ltb, leb};
 ghost use lib.ListN.{length};
+ghost use mathlib.Core.List.{_++_};
 ghost use Rattle.words.specs.Bytes.{numberAt, partAt};
 ghost use Rattle.capture.specs.Fields.{version, segmentCount, rsdpAddress, headerSize, descriptor, descriptorsEnd, segmentEnd, lengths};
 ghost use Rattle.capture.specs.Rules.{wrongSize, wrongMark, wrongVersion, wrongCount, wrongTotal, segmentRules, verdict};
+ghost use Rattle.capture.specs.Pairs.{pairRules};
 ghost use Rattle.capture.specs.Presence.{runEnd, presenceRules, rsdpPlace, rsdp};
 ghost use Rattle.capture.specs.Reach.{reached};
 ghost use Rattle.words.specs.Refusals.{unless, firstRefusal};
 use words::Refusal;
 use words::Verdict;
+
+pub mod pairs; // how many inputs bridges have, and refusal 7
 
 // The place of an address, and how many bytes there are from there on, as far as segments touch.
 pub struct Reach {
@@ -33,6 +37,10 @@ struct Segment {
 }
 
 const VERSION: usize = 3;
+
+const WITHOUT_PAIRS: u16 = 1;
+
+const WITH_PAIRS: u16 = 2;
 
 const SEGMENT_COUNT: usize = 5;
 
@@ -69,7 +77,7 @@ fn segment_count(capture: &[u8]) -> u8
 fn header_size(version: u16) -> u8
     ensures { λ r. ⌜ r ≡ headerSize version ⌝ }
 {
-    18
+    if version == WITH_PAIRS { 26 } else { 18 }
 }
 
 // The place of the first descriptor.
@@ -141,7 +149,8 @@ fn wrong_mark(capture: &[u8]) -> bool
 fn wrong_version(capture: &[u8]) -> bool
     ensures { λ r. ⌜ r ≡ wrongVersion (now (capture .entry)) ⌝ }
 {
-    !(version_of(capture) == 1)
+    let version = version_of(capture);
+    !((version == WITHOUT_PAIRS) | (version == WITH_PAIRS))
 }
 
 // Refusal 4.
@@ -217,7 +226,18 @@ fn check_segments(capture: &[u8]) -> Verdict
     Verdict::Sound
 }
 
-// Refusals 1 to 6: whether the capture is sound, or which rule it breaks first.
+// Refusals 6 and 7, where 5 is kept: all segments, then all pairs.
+fn check_parts(capture: &[u8]) -> Verdict
+    requires { ⌜ descriptorsEnd (now capture) ≤ length (now capture) ⌝ }
+    ensures { λ r. let c = now (capture .entry) in ⌜ r ≡ firstRefusal (segmentRules c ++ pairRules c) ⌝ }
+{
+    match check_segments(capture) {
+        Verdict::Refused(refusal) => Verdict::Refused(refusal),
+        Verdict::Sound => pairs::check(capture),
+    }
+}
+
+// Refusals 1 to 7: whether the capture is sound, or which rule it breaks first.
 pub fn check(capture: &[u8]) -> Verdict
     ensures { λ r. ⌜ r ≡ verdict (now (capture .entry)) ⌝ }
 {
@@ -236,7 +256,7 @@ pub fn check(capture: &[u8]) -> Verdict
     if wrong_total(capture) {
         return Verdict::Refused(words::refuse(5, 0));
     }
-    check_segments(capture)
+    check_parts(capture)
 }
 
 // Whether a segment has an address.
@@ -324,7 +344,7 @@ fn locate_rsdp(capture: &[u8]) -> Root
     Root::At(reach.place as u16)
 }
 
-// Refusals 1 to 6, then 10: the place of the RSDP.
+// Refusals 1 to 7, then 10: the place of the RSDP.
 pub fn find_rsdp(capture: &[u8]) -> Root
     ensures { λ r. ⌜ r ≡ rsdp (now (capture .entry)) ⌝ }
 {

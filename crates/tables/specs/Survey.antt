@@ -118,7 +118,7 @@ unfoldable pub rulesBefore29 : List ℕ → List Verdict
 rulesBefore29 capture =
     let rsdp = rsdpPlace capture in
     let xsdt = xsdtOf capture in
-    containerRules capture  -- 1 to 6
+    containerRules capture  -- 1 to 7
     ++ (presenceRules capture  -- 10
     ++ (rsdpRules capture rsdp  -- 11 to 14
     ++ (tableRules capture (xsdtField rsdp)  -- 20 to 22 of the XSDT

@@ -1,4 +1,4 @@
--- `capture::check` gives the first refusal of 1 to 6, in their order.
+-- `capture::check` gives the first refusal of 1 to 7, in their order.
 use mathlib.Core.Path.{ap, sym, _∙_}
 use Rattle.words.specs.declared.Verdict.the-variants.{Refused}
 use Rattle.words.proofs.Verdicts.{first-broken, first-kept}
@@ -68,8 +68,8 @@ returns-5 c =
     (first-kept _ _ _ _ (sym (p4 .before .wrong-count .ensures) ∙ p4 .if4 .left)
     (first-broken _ _ _ _ (sym (c .before .before .wrong-total .ensures) ∙ c .before .if5 .taken))))))
 
-check-segments-requires : tie.Need-check-segments-requires
-check-segments-requires c κs = total-whole _ (sym (c .before .wrong-total .ensures) ∙ c .if5 .left)
+check-parts-requires : tie.Need-check-parts-requires
+check-parts-requires c κs = total-whole _ (sym (c .before .wrong-total .ensures) ∙ c .if5 .left)
 
 returns-6 : tie.Need-returns-6
 unfolding verdict containerRules
@@ -84,7 +84,7 @@ returns-6 c =
     (first-kept _ _ _ _ (sym (p3 .before .wrong-version .ensures) ∙ p3 .if3 .left)
     (first-kept _ _ _ _ (sym (p4 .before .wrong-count .ensures) ∙ p4 .if4 .left)
     (first-kept _ _ _ _ (sym (p5 .before .wrong-total .ensures) ∙ p5 .if5 .left)
-    (sym (c .check-segments .ensures)))))))
+    (sym (c .check-parts .ensures)))))))
 
 pub check-spec : {M : Type 1} → statement M
 check-spec =
@@ -105,5 +105,5 @@ check-spec =
     wrong-total-requires
     refuse-requires-5
     returns-5
-    check-segments-requires
+    check-parts-requires
     returns-6)

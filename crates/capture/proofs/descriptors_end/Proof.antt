@@ -1,4 +1,5 @@
 -- `capture::descriptors_end` is the place behind the last descriptor.
+use mathlib.Core.Path.{ap, _∙_}
 use native.Mathlib.Omega.{arith}
 use Rattle.capture.specs.Fields.{headerSize, descriptor, descriptorsEnd}
 use borrow.Author.Needs.{needs}
@@ -30,8 +31,8 @@ add-result : tie.Need-add-result
 add-result c = search needs
 
 returns : tie.Need-returns
-unfolding descriptorsEnd descriptor headerSize
-returns c = omega (arith, c .before .header-size .ensures, c .segment-count .ensures)
+unfolding descriptorsEnd descriptor
+returns c = omega (arith, c .before .header-size .ensures ∙ ap headerSize (c .before .before .version-of .ensures), c .segment-count .ensures)
 
 pub descriptors-end-spec : {M : Type 1} → statement M
 descriptors-end-spec =

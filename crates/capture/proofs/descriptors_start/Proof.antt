@@ -1,4 +1,5 @@
 -- `capture::descriptors_start` is the place of the first descriptor.
+use mathlib.Core.Path.{ap, _∙_}
 use native.Mathlib.Omega.{arith}
 use Rattle.capture.specs.Fields.{headerSize, descriptor}
 use borrow.Author.Needs.{needs}
@@ -15,8 +16,8 @@ cast-result : tie.Need-cast-result
 cast-result c = search needs
 
 returns : tie.Need-returns
-unfolding descriptor headerSize
-returns c = omega (arith, c .header-size .ensures)
+unfolding descriptor
+returns c = omega (arith, c .header-size .ensures ∙ ap headerSize (c .before .version-of .ensures))
 
 pub descriptors-start-spec : {M : Type 1} → statement M
 descriptors-start-spec =

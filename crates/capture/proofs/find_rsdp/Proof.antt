@@ -1,4 +1,4 @@
--- `capture::find_rsdp` gives the refusals 1 to 6 first.
+-- `capture::find_rsdp` gives the refusals 1 to 7 first.
 use mathlib.Core.Path.{sym, _∙_}
 use Rattle.words.proofs.Verdicts.{joined-refused, joined-sound}
 use Rattle.capture.specs.Rules.{containerRules, verdict}
