@@ -39,9 +39,14 @@ eioOf s = record { cascade = byteAt s 3; node = byteAt s 4; nodes = numberAt 8 s
 unfoldable pub msiOf : List ℕ → Msi
 msiOf s = record { start = numberAt 4 s 11; count = numberAt 4 s 15 }
 
--- BIO: "base 3, size 11, hardware ID 13, GSI base 15"
+-- BIO: "base 3, size 11, hardware ID 13, GSI base 15"; W-212 of document 02: "the MADT has no field" for its number of inputs, and
+-- of itself a bridge has 64
 unfoldable pub bioOf : List ℕ → Bio
-bioOf s = record { node = numberAt 2 s 13; base = numberAt 2 s 15 }
+bioOf s = record { node = numberAt 2 s 13; base = numberAt 2 s 15; pins = 64 }
+
+-- the same bridge with so many inputs
+abbrev pub withPins : ℕ → Bio → Bio
+withPins pins bio = record { node = bio .node; base = bio .base; pins = pins }
 
 -- LPC: "base 3, size 11, cascade 13 (16 bits)"
 unfoldable pub lpcOf : List ℕ → Lpc

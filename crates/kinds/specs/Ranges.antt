@@ -36,6 +36,11 @@ endFits start count = leb (start + count) 256
 abbrev pub baseFits : ℕ → Bool
 baseFits base = leb 64 base && leb base 65472
 
+-- W-212 of document 02: "number of inputs 1 to 64". No structure has it, and no number refuses it here: a capture's pairs are held
+-- to it by 7, and a map by 61.
+abbrev pub pinsFit : ℕ → Bool
+pinsFit pins = leb 1 pins && leb pins 64
+
 -- "LPC cascade 0 to 63"
 abbrev pub inputFits : ℕ → Bool
 inputFits cascade = leb cascade 63

@@ -22,7 +22,7 @@ abbrev pub noEio : Eio
 noEio = record { cascade = 0; node = 0; nodes = 0 }
 
 abbrev pub noBio : Bio
-noBio = record { node = 0; base = 0 }
+noBio = record { node = 0; base = 0; pins = 0 }
 
 abbrev pub noMsi : Msi
 noMsi = record { start = 0; count = 0 }

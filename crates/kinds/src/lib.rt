@@ -27,10 +27,11 @@ pub struct Eio {
     pub nodes: u64,
 }
 
-// A bridge: its hardware ID, which is the node of its EIO, and its first global number.
+// A bridge: its hardware ID, which is the node of its EIO, its first global number, and how many inputs it has.
 pub struct Bio {
     pub node: u16,
     pub base: u16,
+    pub pins: u16,
 }
 
 // Message slots: the first, and how many.

@@ -7,7 +7,7 @@ use crate::Lio;
 use crate::Lpc;
 use crate::Msi;
 ghost use mathlib.Core.Path.{_≡_};
-ghost use Rattle.kinds.specs.Makers.{coreOf, lioOf, htOf, eioOf, msiOf, bioOf, lpcOf, reservedFlags, isEnabled};
+ghost use Rattle.kinds.specs.Makers.{coreOf, lioOf, htOf, eioOf, msiOf, bioOf, withPins, lpcOf, reservedFlags, isEnabled};
 
 // A processor: its UID, its physical ID, and its flags.
 pub struct Core {
@@ -126,12 +126,27 @@ impl Bio {
 
     pub const LENGTH: u8 = 17;
 
+    // The structure has no field for the inputs: a bridge has 64, unless its capture says how many.
+    pub const PINS: u16 = 64;
+
     pub fn from_bytes(structure: &[u8]) -> Bio
         ensures { λ r. ⌜ r ≡ bioOf (now (structure .entry)) ⌝ }
     {
         Bio {
             node: words::u16_at(structure, 13),
             base: words::u16_at(structure, 15),
+            pins: Bio::PINS,
+        }
+    }
+
+    // The same bridge with so many inputs.
+    pub fn with_pins(self, pins: u16) -> Bio
+        ensures { λ r. ⌜ r ≡ withPins pins self ⌝ }
+    {
+        Bio {
+            node: self.node,
+            base: self.base,
+            pins,
         }
     }
 }

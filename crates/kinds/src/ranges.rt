@@ -7,7 +7,7 @@ use crate::Lio;
 use crate::Lpc;
 use crate::Msi;
 ghost use mathlib.Core.Path.{_≡_};
-ghost use Rattle.kinds.specs.Ranges.{cascadeFits, nodeFits, nodesFit, countFits, endFits, baseFits, inputFits, halfFits, lioField, eioField, msiField, bioField, lpcField, bitInBoth};
+ghost use Rattle.kinds.specs.Ranges.{cascadeFits, nodeFits, nodesFit, countFits, endFits, baseFits, pinsFit, inputFits, halfFits, lioField, eioField, msiField, bioField, lpcField, bitInBoth};
 
 // The ends of the ranges.
 const LINE_FIRST: u8 = 2;
@@ -21,6 +21,8 @@ const SLOTS_END: u64 = 256;
 const BASE_FIRST: u16 = 64;
 
 const BASE_LAST: u16 = 65472;
+
+const PINS_MOST: u16 = 64;
 
 const INPUT_LAST: u16 = 63;
 
@@ -80,6 +82,13 @@ pub fn base_fits(base: u16) -> bool
     ensures { λ r. ⌜ r ≡ baseFits base ⌝ }
 {
     (BASE_FIRST <= base) & (base <= BASE_LAST)
+}
+
+// The number of inputs of a BIO.
+pub fn pins_fit(pins: u16) -> bool
+    ensures { λ r. ⌜ r ≡ pinsFit pins ⌝ }
+{
+    (1 <= pins) & (pins <= PINS_MOST)
 }
 
 // The input of its bridge that the LPC leads to.

@@ -8,7 +8,7 @@ use borrow.Author.Tests.{ltb-true}
 use Rattle.kinds.specs.declared.Bio.{Bio}
 use Rattle.kinds.specs.declared.Half.{Half}
 use Rattle.clashes.proofs.Logic.{and-left, and-right, or-cases}
-use Rattle.parts.specs.Inputs.{hasBit, pins, leads, hasPin}
+use Rattle.parts.specs.Inputs.{hasBit, leads, hasPin}
 
 -- a mask has bits below 32 only
 pub bit-small : (mask i : ℕ) → hasBit mask i ≡ true → i < 32
@@ -24,6 +24,6 @@ leads-small low high vector i h =
     ⊎-elim (lead-small low vector i) (lead-small high vector i) (or-cases (leads low vector i) (leads high vector i) h)
 
 -- an input that a bridge has is one of its pins
-pub pin-small : (node v : ℕ) (bio : Bio) → hasPin node v bio ≡ true → v < pins bio
+pub pin-small : (node v : ℕ) (bio : Bio) → hasPin node v bio ≡ true → v < bio .pins
 unfolding hasPin
-pin-small node v bio h = ltb-true v (pins bio) (and-right (eqb (bio .node) node) (ltb v (pins bio)) h)
+pin-small node v bio h = ltb-true v (bio .pins) (and-right (eqb (bio .node) node) (ltb v (bio .pins)) h)

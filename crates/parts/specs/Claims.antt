@@ -7,7 +7,6 @@ use Rattle.kinds.specs.declared.Msi.{Msi}
 use Rattle.clashes.specs.Rules.{noNode}
 use Rattle.clashes.specs.declared.Run.{Run}
 use Rattle.clashes.specs.declared.Claim.{Claim}
-use Rattle.parts.specs.Inputs.{pins}
 
 -- no numbers at all
 abbrev pub noRun : Run
@@ -39,13 +38,13 @@ eioClaim eio place =
       high = 0;
     }
 
--- global numbers b to b + 63, and the extended vectors 0 to 63 of the EIO of its node
+-- the global numbers of its inputs from b on, and as many extended vectors from 0 on of the EIO of its node
 abbrev pub bioClaim : Bio → ℕ → Claim
 bioClaim bio place =
     record {
       place = place;
-      numbers = record { first = bio .base; count = pins bio };
-      vectors = record { first = 0; count = pins bio };
+      numbers = record { first = bio .base; count = bio .pins };
+      vectors = record { first = 0; count = bio .pins };
       node = noNode;
       hub = bio .node;
       low = 0;

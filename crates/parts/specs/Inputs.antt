@@ -24,13 +24,9 @@ leads half vector i = eqb (half .cascade) vector && hasBit (half .mask) i
 abbrev pub hasSlot : ℕ → Msi → Bool
 hasSlot slot msi = leb (msi .start) slot && ltb slot (msi .start + msi .count)
 
--- how many inputs a bridge has: "its inputs 0 to 63"
-abbrev pub pins : Bio → ℕ
-pins bio = 64
-
--- "a BIO with base b owns b to b + 63"
+-- "a BIO with base b owns b to b + 63, its inputs 0 to 63": of 64 inputs, and of as many as it has (W-212 of document 02)
 abbrev pub owns : ℕ → Bio → Bool
-owns number bio = leb (bio .base) number && ltb number (bio .base + pins bio)
+owns number bio = leb (bio .base) number && ltb number (bio .base + bio .pins)
 
 -- "the one with the smallest hardware ID, the earliest of equals", of two
 unfoldable pub lesser : Bio → Bio → Bio
@@ -38,4 +34,4 @@ lesser b c = if (ltb (c .node) (b .node)) c b
 
 -- a BIO has an input v, and lands it on the EIO of a node
 unfoldable pub hasPin : ℕ → ℕ → Bio → Bool
-hasPin node v bio = eqb (bio .node) node && ltb v (pins bio)
+hasPin node v bio = eqb (bio .node) node && ltb v (bio .pins)

@@ -9,14 +9,11 @@ use kinds::Half;
 use kinds::Lio;
 use kinds::Msi;
 ghost use mathlib.Core.Path.{_≡_};
-ghost use Rattle.parts.specs.Inputs.{hasBit, leads, hasSlot, pins, owns, lesser, hasPin};
+ghost use Rattle.parts.specs.Inputs.{hasBit, leads, hasSlot, owns, lesser, hasPin};
 ghost use Rattle.parts.specs.Claims.{lioClaim, eioClaim, bioClaim, msiClaim};
 
 // The inputs of the LIO.
 const LIO_INPUTS: u32 = 32;
-
-// The inputs of a bridge.
-const PINS: u32 = 64;
 
 // Bit i of a mask of 32 inputs.
 pub fn bit(mask: u32, i: u32) -> bool
@@ -42,19 +39,12 @@ pub fn has_slot(msi: Msi, slot: u32) -> bool
     (msi.start <= slot) & ((slot as u64) < (msi.start as u64) + (msi.count as u64))
 }
 
-// How many inputs a bridge has.
-pub fn pins_of(bio: Bio) -> u32
-    ensures { λ r. ⌜ r ≡ pins bio ⌝ }
-{
-    PINS
-}
-
 // Whether a BIO owns a global number.
 pub fn owns_number(bio: Bio, number: u32) -> bool
     ensures { λ r. ⌜ r ≡ owns number bio ⌝ }
 {
     let base = bio.base as u32;
-    (base <= number) & (number < base + pins_of(bio))
+    (base <= number) & (number < base + bio.pins as u32)
 }
 
 // The BIO with the smaller hardware ID, the earlier of equals.
@@ -68,7 +58,7 @@ pub fn lesser_of(b: Bio, c: Bio) -> Bio
 pub fn has_pin(bio: Bio, node: u8, v: u32) -> bool
     ensures { λ r. ⌜ r ≡ hasPin node v bio ⌝ }
 {
-    (bio.node == node as u16) & (v < pins_of(bio))
+    (bio.node == node as u16) & (v < bio.pins as u32)
 }
 
 // ---- what each structure claims
@@ -112,7 +102,7 @@ pub fn eio_claim(eio: Eio, place: u32) -> Claim
 pub fn bio_claim(bio: Bio, place: u32) -> Claim
     ensures { λ r. ⌜ r ≡ bioClaim bio place ⌝ }
 {
-    let pins = pins_of(bio);
+    let pins = bio.pins as u32;
     let numbers = Run {
         first: bio.base as u32,
         count: pins,
