@@ -26,7 +26,7 @@ use Rattle.parts.specs.Claims.{noRun, lioClaim, eioClaim, bioClaim, msiClaim}
 use Rattle.lines.specs.Says.{Said}
 use Rattle.lines.specs.Claims.{placed, claims}
 use Rattle.lines.specs.Quiet.{farFrom, stillEach, noEioOf, eiosQuiet, biosQuiet, msisQuiet, quiet}
-use Rattle.lines.specs.Rules.{rule40, rule43, rule54, rulesTo43, rulesFrom51, mapRules}
+use Rattle.lines.specs.Rules.{rule40, rule43, rule45, rule54, rulesTo45, rulesFrom51, mapRules}
 use Rattle.lines.specs.declared.Places.{Places}
 
 -- ---- lists of claims without a clash
@@ -276,8 +276,9 @@ module _ (said : Said) (places : Places) (room : length (said .eios) ≤ length 
       (λ k. hubless x (all-placed msiClaim (λ y. y .hub ≡ noNode) (λ e p. refl) (said .msis) (places .msis) x k))
       (List·Memᴰ·append-cases (ls ++ es ++ bs) m)
 
-  -- only 40, 43 and 54 are left
+  -- only 40, 43, 45 and 54 are left
   pub quiet-first : (madt fadt : ℕ)
-      → firstRefusal (mapRules said places madt fadt) ≡ firstRefusal (rule40 said madt ∷ rule43 said (places .lpc) ∷ rule54 said fadt ∷ [])
-  unfolding firstRefusal mapRules rulesTo43 rulesFrom51 unless atLater atBoth spotted
+      → firstRefusal (mapRules said places madt fadt)
+      ≡ firstRefusal (rule40 said madt ∷ rule43 said (places .lpc) ∷ rule45 said (places .lpc) ∷ rule54 said fadt ∷ [])
+  unfolding firstRefusal mapRules rulesTo45 rulesFrom51 unless atLater atBoth spotted
   quiet-first madt fadt = rw (no-clash 41, lone-none (claims said places) housed, no-clash 51, no-clash 52, no-clash 53)

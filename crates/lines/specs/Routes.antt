@@ -44,7 +44,7 @@ unfoldable pub bioOwner : List Bio → ℕ → Owner
 bioOwner bios number = first (owns number) (λ b. BioInput (b .node) (number - b .base)) Nobody bios
 
 -- "global numbers 0 to 15 are the LPC inputs if there is an LPC; 16 to 47 the LIO inputs 0 to 31; a BIO with base b owns b
--- to b + 63, its inputs 0 to 63. The rest have no owner."
+-- to b + 63, its inputs 0 to 63" (as many as it has). "The rest have no owner."
 unfoldable pub owner : Said → ℕ → Owner
 owner said number =
     if (ltb number 16) (if (said .lpc .present) LpcInput Nobody)

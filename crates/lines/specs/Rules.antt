@@ -1,17 +1,18 @@
 -- The rules that a map must keep: document 01, "Refusals in order", 71 to 77 (36 before W-202 of document 02), 37, 38 and 40 to 54,
--- and their order.
+-- with 45 of W-212, and their order.
 use Prim.Native.Nat.{ℕ}
 use mathlib.Core.Bool.{Bool, true, false, not, _&&_, _||_}
 use mathlib.Core.List.{List, [], _∷_, _++_}
-use lib.Dec.{eqb, ltb}
+use lib.Dec.{eqb, ltb, leb}
 use lib.ListN.{length}
 use Rattle.words.specs.Lists.{every}
 use Rattle.words.specs.Refusals.{rule, firstRefusal, isSound}
 use Rattle.words.specs.declared.Verdict.{Verdict}
-use Rattle.kinds.specs.Ranges.{bitInBoth, lioField, eioField, bioField, msiField, lpcField}
+use Rattle.kinds.specs.Ranges.{bitInBoth, lioField, eioField, bioField, pinsFit, msiField, lpcField}
 use Rattle.kinds.specs.declared.Eio.{Eio}
 use Rattle.kinds.specs.declared.Bio.{Bio}
 use Rattle.kinds.specs.declared.Msi.{Msi}
+use Rattle.kinds.specs.declared.Lpc.{Lpc}
 use Rattle.clashes.specs.Search.{firstClash, firstLone}
 use Rattle.clashes.specs.Told.{atLater, atBoth, spotted}
 use Rattle.clashes.specs.declared.Claim.{Claim}
@@ -26,12 +27,12 @@ use Rattle.lines.specs.declared.Route.{Route}
 use Rattle.lines.specs.declared.Route.the-variants.{Arrives, Unwired, NoOwner, Refused as NoRoute}
 
 -- ---- the rules
--- 71 to 77: every EIO, BIO and MSI has its fields in their ranges
+-- 71 to 77: every EIO, BIO and MSI has its fields in their ranges; "61 also for a map with a count outside 1 to 64"
 unfoldable pub eiosFit : List Eio → Bool
 eiosFit eios = every (λ e. eqb (eioField e) 0) eios
 
 unfoldable pub biosFit : List Bio → Bool
-biosFit bios = every (λ b. eqb (bioField b) 0) bios
+biosFit bios = every (λ b. eqb (bioField b) 0 && pinsFit (b .pins)) bios
 
 unfoldable pub msisFit : List Msi → Bool
 msisFit msis = every (λ m. eqb (msiField m) 0) msis
@@ -70,6 +71,15 @@ noBridge present NoBio = present
 abbrev pub rule43 : Said → ℕ → Verdict
 rule43 said place = rule (noBridge (said .lpc .present) (bridge (said .bios))) 43 place
 
+-- there is an LPC, and its bridge lacks the input of its cascade
+unfoldable pub noInput : Lpc → Bridge → Bool
+noInput lpc (Is b) = lpc .present && leb (b .pins) (lpc .cascade)
+noInput lpc NoBio = false
+
+-- 45: "at the LPC for a cascade at or past its bridge's count"
+abbrev pub rule45 : Said → ℕ → Verdict
+rule45 said place = rule (noInput (said .lpc) (bridge (said .bios))) 45 place
+
 -- the rule of 51, 52 or 53, at "the first structure that clashes with an earlier"
 abbrev pub ruleClash : ℕ → List Claim → Verdict
 ruleClash number all = atBoth number (firstClash number all)
@@ -98,14 +108,15 @@ abbrev pub rule54 : Said → ℕ → Verdict
 rule54 said fadt = rule (lost (arrival said (said .sci))) 54 fadt
 
 -- ---- their order
--- what the rules say from 40 to 43
-unfoldable pub rulesTo43 : Said → Places → ℕ → List Verdict
-rulesTo43 said places madt =
+-- what the rules say from 40 to 45
+unfoldable pub rulesTo45 : Said → Places → ℕ → List Verdict
+rulesTo45 said places madt =
     let all = claims said places in
     rule40 said madt
     ∷ rule41 all
     ∷ rule42 all
     ∷ rule43 said (places .lpc)
+    ∷ rule45 said (places .lpc)
     ∷ []
 
 -- and from 51 to 54
@@ -119,13 +130,13 @@ rulesFrom51 said places fadt =
     ∷ []
 
 unfoldable pub mapRules : Said → Places → ℕ → ℕ → List Verdict
-mapRules said places madt fadt = rulesTo43 said places madt ++ rulesFrom51 said places fadt
+mapRules said places madt fadt = rulesTo45 said places madt ++ rulesFrom51 said places fadt
 
 -- the first broken rule of a map with places, from 38 on; the walk refuses 71 to 77, 37 and 38 at their structures
 unfoldable pub firstBroken : Map → Places → ℕ → ℕ → Verdict
 firstBroken map places madt fadt = firstRefusal (rule (tooMany map) 38 madt ∷ mapRules (says map) places madt fadt)
 
--- ---- 61: a map asked about breaks 71 to 77, 37, 38 or 40 to 54
+-- ---- 61: a map asked about breaks 71 to 77, 37, 38 or 40 to 54, or has a BIO with a count outside 1 to 64
 -- a map has no places: any that differ will do
 abbrev pub slotPlaces : Places
 slotPlaces =

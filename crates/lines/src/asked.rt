@@ -12,6 +12,7 @@ use kinds::ranges::eio_field;
 use kinds::ranges::lio_field;
 use kinds::ranges::lpc_field;
 use kinds::ranges::msi_field;
+use kinds::ranges::pins_fit;
 ghost use mathlib.Core.Path.{_≡_};
 ghost use Prim.Native.Nat.{_≤_};
 ghost use lib.ListN.{take};
@@ -34,7 +35,7 @@ fn eios_fit(eios: [Eio; 4], n: usize) -> bool
     fit
 }
 
-// 72 and 76, of every BIO.
+// 72, 76 and the number of inputs, of every BIO.
 fn bios_fit(bios: [Bio; 4], n: usize) -> bool
     requires { ⌜ n ≤ 4 ⌝ }
     ensures { λ r. ⌜ r ≡ biosFit (take n bios) ⌝ }
@@ -43,7 +44,7 @@ fn bios_fit(bios: [Bio; 4], n: usize) -> bool
     let mut i = 0;
     while i < n {
         let b = bios[i];
-        fit = fit & (bio_field(b) == 0);
+        fit = fit & ((bio_field(b) == 0) & pins_fit(b.pins));
         i += 1;
     }
     fit
@@ -65,7 +66,7 @@ fn msis_fit(msis: [Msi; 4], n: usize) -> bool
 }
 
 impl Map {
-    // 71 to 77, of every structure.
+    // 71 to 77 and the number of inputs, of every structure.
     fn ranges_kept(self) -> bool
         requires { ⌜ (self .eiocount ≤ 4) × (self .biocount ≤ 4) × (self .msicount ≤ 4) ⌝ }
         ensures { λ r. ⌜ r ≡ rangesKept (says self) ⌝ }
@@ -81,7 +82,7 @@ impl Map {
         (lio == 0) & e & b & m & (lpc == 0)
     }
 
-    // Whether a map breaks none of 71 to 77, 37, 38 and 40 to 54: of 40, only LIO and EIO.
+    // Whether a map breaks none of 71 to 77, 37, 38 and 40 to 54: of 40, only LIO and EIO. And each BIO has 1 to 64 inputs.
     pub fn keeps_rules(self) -> bool
         ensures { λ r. ⌜ r ≡ keepsRules self ⌝ }
     {

@@ -7,6 +7,7 @@ use crate::Map;
 use crate::Places;
 use crate::Route;
 use crate::routes::lpc_bridge;
+use kinds::Lpc;
 use words::Verdict;
 ghost use mathlib.Core.Path.{_≡_};
 ghost use mathlib.Core.List.{[], _∷_};
@@ -14,7 +15,7 @@ ghost use Prim.Native.Nat.{_≤_};
 ghost use Rattle.words.specs.Refusals.{rule, unless, firstRefusal, isSound};
 ghost use Rattle.words.specs.declared.Verdict.the-variants.{Refused};
 ghost use Rattle.lines.specs.Says.{says};
-ghost use Rattle.lines.specs.Rules.{noBridge, tooMany, rule40, rule43, rule54, mapRules, firstBroken, slotPlaces};
+ghost use Rattle.lines.specs.Rules.{noBridge, noInput, tooMany, rule40, rule43, rule45, rule54, mapRules, firstBroken, slotPlaces};
 
 // ---- verdicts
 
@@ -60,6 +61,16 @@ fn lacks_bridge(present: bool, bridge: Bridge) -> bool
     false
 }
 
+// Whether an LPC stands behind a bridge that lacks the input of its cascade.
+fn lacks_input(lpc: Lpc, bridge: Bridge) -> bool
+    ensures { λ r. ⌜ r ≡ noInput lpc bridge ⌝ }
+{
+    let Bridge::Is(b) = bridge else {
+        return false;
+    };
+    lpc.present & (b.pins <= lpc.cascade)
+}
+
 // Places for a map that comes with none.
 pub(crate) fn slot_places() -> Places
     ensures { λ r. ⌜ r ≡ slotPlaces ⌝ }
@@ -93,18 +104,16 @@ impl Map {
         rule_of(!lio.present | (self.eiocount == 0), 40, madt)
     }
 
-    // 43: LPC without a BIO.
-    fn rule_43(self, place: u32) -> Verdict
+    // 43: LPC without a BIO. 45: its BIO has no input of its cascade.
+    fn lpc_rules(self, place: u32) -> Verdict
         requires { ⌜ self .biocount ≤ 4 ⌝ }
-        ensures { λ r. ⌜ r ≡ rule43 (says self) place ⌝ }
+        ensures { λ r. ⌜ r ≡ unless Refused (rule43 (says self) place) (rule45 (says self) place) ⌝ }
     {
         let bios = self.bios;
         let lpc = self.lpc;
-        rule_of(
-            lacks_bridge(lpc.present, lpc_bridge(bios, self.biocount as usize)),
-            43,
-            place,
-        )
+        let bridge = lpc_bridge(bios, self.biocount as usize);
+        let rule43 = rule_of(lacks_bridge(lpc.present, bridge), 43, place);
+        or_else(rule43, rule_of(lacks_input(lpc, bridge), 45, place))
     }
 
     // 54: SCI_INT doesn't arrive.
@@ -120,10 +129,10 @@ impl Map {
     // The first broken rule from 40 on, of a map that breaks none of 41, 42 and 51 to 53.
     fn first_of_quiet(self, lpc: u32, madt: u32, fadt: u32) -> Verdict
         requires { ⌜ (self .eiocount ≤ 4) × (self .biocount ≤ 4) ⌝ }
-        ensures { λ r. ⌜ r ≡ firstRefusal (rule40 (says self) madt ∷ rule43 (says self) lpc ∷ rule54 (says self) fadt ∷ []) ⌝ }
+        ensures { λ r. ⌜ r ≡ firstRefusal (rule40 (says self) madt ∷ rule43 (says self) lpc ∷ rule45 (says self) lpc ∷ rule54 (says self) fadt ∷ []) ⌝ }
     {
         let from54 = self.rule_54(fadt);
-        let from43 = or_else(self.rule_43(lpc), from54);
+        let from43 = or_else(self.lpc_rules(lpc), from54);
         or_else(self.rule_40(madt), from43)
     }
 
@@ -136,7 +145,7 @@ impl Map {
         let from53 = or_else(clashes::at_both(53, self.first_clash(places, 53)), from54);
         let from52 = or_else(clashes::at_both(52, self.first_clash(places, 52)), from53);
         let from51 = or_else(clashes::at_both(51, self.first_clash(places, 51)), from52);
-        let from43 = or_else(self.rule_43(places.lpc), from51);
+        let from43 = or_else(self.lpc_rules(places.lpc), from51);
         let from42 = or_else(clashes::at_spot(42, self.first_lone(places)), from43);
         let from41 = or_else(clashes::at_later(41, self.first_clash(places, 41)), from42);
         or_else(self.rule_40(madt), from41)

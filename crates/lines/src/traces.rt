@@ -11,7 +11,6 @@ ghost use mathlib.Core.Path.{_≡_};
 ghost use Prim.Native.Nat.{_<_, _≤_};
 ghost use lib.ListN.{take};
 ghost use Rattle.lines.specs.Says.{says};
-ghost use Rattle.parts.specs.Inputs.{pins};
 ghost use Rattle.lines.specs.Traces.{slotTold, isBridge, isLpcPin, pinTold, landed, eioTraced, traced};
 
 // The slot on the EIO of a node, if an MSI has it.
@@ -52,7 +51,7 @@ impl Map {
 
     // What input v of a BIO is told as.
     fn pin_told(self, bio: Bio, v: u32) -> Trace
-        requires { ⌜ v < pins bio ⌝ }
+        requires { ⌜ v < bio .pins ⌝ }
         ensures { λ r. ⌜ r ≡ pinTold (says self) v bio ⌝ }
     {
         let number = (bio.base as u32) + v;

@@ -8,7 +8,7 @@ use borrow.Author.Tests.{eq-eqb, ne-eqb}
 use borrow.Author.Needs.{needs}
 use Rattle.words.proofs.Searches.{Searching, search-hit, search-miss, search-over}
 use Rattle.clashes.proofs.Arrays.{length-mapped}
-use Rattle.clashes.proofs.Turns.{Turn, element, next-turn, no-turn}
+use Rattle.words.proofs.Turns.{Turn, element, next-turn, no-turn}
 use Rattle.lines.specs.Says.{says}
 use Rattle.lines.specs.Traces.{landed, eioTraced}
 use Rattle.lines.specs.declared.Trace.the-variants.{Nothing}

@@ -1,8 +1,8 @@
 -- `Map::first_by_search` is the first refusal of the rules from 40 on, each asked of all claims.
 use borrow.Author.Needs.{needs}
 use Rattle.words.specs.Refusals.{firstRefusal}
-use Rattle.words.proofs.Verdicts.{unless-last}
-use Rattle.lines.specs.Rules.{rulesTo43, rulesFrom51, mapRules}
+use Rattle.words.proofs.Verdicts.{unless-again, unless-last}
+use Rattle.lines.specs.Rules.{rulesTo45, rulesFrom51, mapRules}
 use Rattle.lines.proofs.Map.first_by_search.Statement.{statement}
 use Rattle.lines.proofs.Map.first_by_search.Tie as tie
 
@@ -36,8 +36,8 @@ at-both-requires-3 c κs = search needs
 or-else-requires-3 : tie.Need-or-else-requires-3
 or-else-requires-3 c κs = search needs
 
-rule-43-requires : tie.Need-rule-43-requires
-rule-43-requires c κs = c .before .before .before .before .before .before .before .before .before .before .pre .1
+lpc-rules-requires : tie.Need-lpc-rules-requires
+lpc-rules-requires c κs = c .before .before .before .before .before .before .before .before .before .before .pre .1
 
 or-else-requires-4 : tie.Need-or-else-requires-4
 or-else-requires-4 c κs = search needs
@@ -67,7 +67,7 @@ or-else-requires-7 : tie.Need-or-else-requires-7
 or-else-requires-7 c κs = search needs
 
 returns : tie.Need-returns
-unfolding firstRefusal mapRules rulesTo43 rulesFrom51
+unfolding firstRefusal mapRules rulesTo45 rulesFrom51
 returns c =
     rw (
       c .or-else7 .ensures,
@@ -79,7 +79,7 @@ returns c =
       c .before .before .before .before .before .before .at-spot .ensures,
       c .before .before .before .before .before .before .before .first-lone .ensures,
       c .before .before .before .before .before .before .before .before .or-else4 .ensures,
-      c .before .before .before .before .before .before .before .before .before .rule-43 .ensures,
+      c .before .before .before .before .before .before .before .before .before .lpc-rules .ensures,
       c .before .before .before .before .before .before .before .before .before .before .or-else3 .ensures,
       c .before .before .before .before .before .before .before .before .before .before .before .at-both3 .ensures,
       c .before .before .before .before .before .before .before .before .before .before .before .before .first-clash3 .ensures,
@@ -90,6 +90,7 @@ returns c =
       c .before .before .before .before .before .before .before .before .before .before .before .before .before .before .before .before .before .at-both .ensures,
       c .before .before .before .before .before .before .before .before .before .before .before .before .before .before .before .before .before .before .first-clash .ensures,
       c .before .before .before .before .before .before .before .before .before .before .before .before .before .before .before .before .before .before .before .rule-54 .ensures,
+      unless-again,
       unless-last,
     )
 
@@ -107,7 +108,7 @@ first-by-search-spec =
     first-clash-requires-3
     at-both-requires-3
     or-else-requires-3
-    rule-43-requires
+    lpc-rules-requires
     or-else-requires-4
     first-lone-requires
     at-spot-requires

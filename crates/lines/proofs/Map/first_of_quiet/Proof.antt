@@ -1,15 +1,15 @@
--- `Map::first_of_quiet` is the first broken rule of 40, 43 and 54.
+-- `Map::first_of_quiet` is the first broken rule of 40, 43, 45 and 54.
 use borrow.Author.Needs.{needs}
 use Rattle.words.specs.Refusals.{firstRefusal}
-use Rattle.words.proofs.Verdicts.{unless-last}
+use Rattle.words.proofs.Verdicts.{unless-again, unless-last}
 use Rattle.lines.proofs.Map.first_of_quiet.Statement.{statement}
 use Rattle.lines.proofs.Map.first_of_quiet.Tie as tie
 
 rule-54-requires : tie.Need-rule-54-requires
 rule-54-requires c κs = search needs
 
-rule-43-requires : tie.Need-rule-43-requires
-rule-43-requires c κs = search needs
+lpc-rules-requires : tie.Need-lpc-rules-requires
+lpc-rules-requires c κs = search needs
 
 or-else-requires : tie.Need-or-else-requires
 or-else-requires c κs = search needs
@@ -27,8 +27,9 @@ returns c =
       c .or-else2 .ensures,
       c .before .rule-40 .ensures,
       c .before .before .or-else .ensures,
-      c .before .before .before .rule-43 .ensures,
+      c .before .before .before .lpc-rules .ensures,
       c .before .before .before .before .rule-54 .ensures,
+      unless-again,
       unless-last,
     )
 
@@ -37,7 +38,7 @@ first-of-quiet-spec =
     tie.close
     (tie.spec
     rule-54-requires
-    rule-43-requires
+    lpc-rules-requires
     or-else-requires
     rule-40-requires
     or-else-requires-2

@@ -6,7 +6,7 @@ use native.Mathlib.Omega.{arith}
 use borrow.Author.Needs.{needs}
 use Rattle.words.proofs.Searches.{Searching, search-hit, search-miss, search-over}
 use Rattle.clashes.proofs.Arrays.{length-mapped}
-use Rattle.clashes.proofs.Turns.{Turn, element, next-turn, no-turn}
+use Rattle.words.proofs.Turns.{Turn, element, next-turn, no-turn}
 use Rattle.parts.specs.Inputs.{hasPin}
 use Rattle.parts.proofs.Inputs.{pin-small}
 use Rattle.lines.specs.Says.{says}

@@ -7,7 +7,7 @@ use native.Mathlib.Omega.{arith}
 use borrow.Author.Needs.{needs}
 use Rattle.words.proofs.Searches.{Testing, test-next, test-over}
 use Rattle.kinds.specs.Ranges.{eioField}
-use Rattle.clashes.proofs.Turns.{Turn, element, next-turn, no-turn}
+use Rattle.words.proofs.Turns.{Turn, element, next-turn, no-turn}
 use Rattle.lines.specs.Rules.{eiosFit}
 use Rattle.lines.proofs.asked.eios_fit.Statement.{statement}
 use Rattle.lines.proofs.asked.eios_fit.Tie as tie

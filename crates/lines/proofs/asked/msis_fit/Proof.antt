@@ -7,7 +7,7 @@ use native.Mathlib.Omega.{arith}
 use borrow.Author.Needs.{needs}
 use Rattle.words.proofs.Searches.{Testing, test-next, test-over}
 use Rattle.kinds.specs.Ranges.{msiField}
-use Rattle.clashes.proofs.Turns.{Turn, element, next-turn, no-turn}
+use Rattle.words.proofs.Turns.{Turn, element, next-turn, no-turn}
 use Rattle.lines.specs.Rules.{msisFit}
 use Rattle.lines.proofs.asked.msis_fit.Statement.{statement}
 use Rattle.lines.proofs.asked.msis_fit.Tie as tie

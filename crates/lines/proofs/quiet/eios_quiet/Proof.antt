@@ -4,7 +4,7 @@ use lib.ListN.{take, drop}
 use Prim.Native.Nat.{_-_}
 use native.Mathlib.Omega.{arith}
 use borrow.Author.Needs.{needs}
-use Rattle.clashes.proofs.Turns.{Turn, element, next-turn, no-turn}
+use Rattle.words.proofs.Turns.{Turn, element, next-turn, no-turn}
 use Rattle.clashes.specs.Apart.{apart}
 use Rattle.parts.specs.Claims.{eioClaim}
 use Rattle.lines.specs.Quiet.{eiosQuiet}

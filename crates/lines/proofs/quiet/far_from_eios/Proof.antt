@@ -6,7 +6,7 @@ use native.Mathlib.Omega.{arith}
 use borrow.Author.Needs.{needs}
 use Rattle.words.proofs.Searches.{Testing, test-next, test-over}
 use Rattle.clashes.specs.Apart.{apart}
-use Rattle.clashes.proofs.Turns.{Turn, element, next-turn, no-turn}
+use Rattle.words.proofs.Turns.{Turn, element, next-turn, no-turn}
 use Rattle.parts.specs.Claims.{eioClaim}
 use Rattle.lines.specs.Quiet.{farFrom}
 use Rattle.lines.proofs.quiet.far_from_eios.Statement.{statement}

@@ -8,7 +8,7 @@ use native.Mathlib.Omega.{arith}
 use borrow.Author.Needs.{needs}
 use Rattle.words.proofs.Searches.{Testing, test-next, test-over}
 use Rattle.lines.specs.Quiet.{noEioOf}
-use Rattle.clashes.proofs.Turns.{Turn, element, next-turn, no-turn}
+use Rattle.words.proofs.Turns.{Turn, element, next-turn, no-turn}
 use Rattle.lines.proofs.quiet.no_eio_of.Statement.{statement}
 use Rattle.lines.proofs.quiet.no_eio_of.Tie as tie
 

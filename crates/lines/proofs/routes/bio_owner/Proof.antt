@@ -6,7 +6,7 @@ use native.Mathlib.Omega.{arith}
 use borrow.Author.Tests.{leb-true}
 use borrow.Author.Needs.{needs}
 use Rattle.words.proofs.Searches.{Searching, search-hit, search-miss, search-over}
-use Rattle.clashes.proofs.Turns.{Turn, element, next-turn, no-turn}
+use Rattle.words.proofs.Turns.{Turn, element, next-turn, no-turn}
 use Rattle.clashes.proofs.Logic.{and-left}
 use Rattle.parts.specs.Inputs.{owns}
 use Rattle.lines.specs.Routes.{bioOwner}

@@ -7,7 +7,7 @@ use borrow.Author.Needs.{needs}
 use Rattle.words.proofs.Searches.{next-element}
 use Rattle.clashes.specs.Folds.{fold}
 use Rattle.clashes.proofs.Folding.{Folding, fold-next, fold-over}
-use Rattle.clashes.proofs.Turns.{Turn, element, next-turn, no-turn}
+use Rattle.words.proofs.Turns.{Turn, element, next-turn, no-turn}
 use Rattle.parts.specs.Inputs.{lesser}
 use Rattle.lines.specs.Routes.{bridge}
 use Rattle.lines.specs.declared.Bridge.the-variants.{Is}

@@ -5,7 +5,7 @@ use Prim.Native.Nat.{_-_}
 use native.Mathlib.Omega.{arith}
 use borrow.Author.Needs.{needs}
 use Rattle.words.proofs.Searches.{Searching, search-hit, search-miss, search-over}
-use Rattle.clashes.proofs.Turns.{Turn, element, next-turn, no-turn}
+use Rattle.words.proofs.Turns.{Turn, element, next-turn, no-turn}
 use Rattle.parts.specs.Inputs.{hasSlot}
 use Rattle.lines.specs.Traces.{slotTold}
 use Rattle.lines.specs.declared.Trace.the-variants.{MsiSlot, Nothing}
