@@ -32,21 +32,21 @@ use Rattle.madt.proofs.Checks.{Kept, all-kept, length-core, room-core, 
 
 -- ---- what it found
 -- its verdict is the first refusal of its rules
-pub walk-verdict : (table : List ℕ) (base sci : ℕ) → walked table base sci .verdict ≡ firstRefusal (walkRules table base)
+pub walk-verdict : (table : List ℕ) (base sci : ℕ) (pins : ℕ → ℕ) → walked table base sci pins .verdict ≡ firstRefusal (walkRules table base)
 unfolding walked turnedAway
-walk-verdict table base sci = unless-told turnedAway (λ w. w .verdict) (λ r. refl) _ _ refl
+walk-verdict table base sci pins = unless-told turnedAway (λ w. w .verdict) (λ r. refl) _ _ refl
 
 stands : (v : Verdict) (w : Walked) → unless turnedAway v w .verdict ≡ Sound → (v ≡ Sound) × (unless turnedAway v w ≡ w)
 unfolding unless turnedAway
 stands Sound w h = (refl, refl)
 stands (Refused r) w h = not-sound h
 
-module _ (table : List ℕ) (base sci : ℕ) (h : walked table base sci .verdict ≡ Sound) where
+module _ (table : List ℕ) (base sci : ℕ) (pins : ℕ → ℕ) (h : walked table base sci pins .verdict ≡ Sound) where
   pub rules-sound : firstRefusal (walkRules table base) ≡ Sound
   unfolding walked
   rules-sound = stands _ _ h .0
 
-  pub found-is : walked table base sci .found ≡ foundIn base sci (structures (pieces table 44))
+  pub found-is : walked table base sci pins .found ≡ foundIn base sci pins (structures (pieces table 44))
   unfolding walked
   found-is = ap (λ (w : Walked). w .found) (stands _ _ h .1)
 

@@ -10,13 +10,13 @@ use borrow.Author.Tests.{le-leb}
 use Rattle.words.specs.Bytes.{byteAt}
 use Rattle.words.specs.Choice.{if}
 use Rattle.words.proofs.Those.{those-more, those-same, map-more, length-map}
-use Rattle.kinds.specs.Makers.{coreOf, isEnabled, lioOf, eioOf, msiOf, bioOf, lpcOf}
+use Rattle.kinds.specs.Makers.{coreOf, isEnabled, lioOf, eioOf, msiOf, lpcOf}
 use Rattle.kinds.specs.Used.{noLio, noEio, noBio, noMsi, noLpc, saidLio}
 use Rattle.lines.specs.declared.Map.{Map}
 use Rattle.lines.specs.declared.Places.{Places}
 use Rattle.madt.specs.Pieces.{Whole}
 use Rattle.madt.specs.Rules.{isType, oneTooMany}
-use Rattle.madt.specs.Contents.{ofType, howMany, made, standing, theOne, inFour, mapOf, placesOf, MadeBy, isEnabledCore, enabledCores}
+use Rattle.madt.specs.Contents.{ofType, howMany, made, standing, theOne, inFour, bridgeOf, mapOf, placesOf, MadeBy, isEnabledCore, enabledCores}
 use Rattle.madt.proofs.Types.{of-core, of-lio, of-eio, of-msi, of-bio, of-lpc}
 
 -- ---- one element more of a kind
@@ -121,17 +121,17 @@ module _ {A : Type 0} {number : ℕ} {maker : List ℕ → A} {none : A} {base :
         }
 
 -- ---- a map and its places, kind by kind
-pub record Parts (base sci : ℕ) (all : List Whole) (map : Map) (places : Places) : Type 0 where
+pub record Parts (base sci : ℕ) (pins : ℕ → ℕ) (all : List Whole) (map : Map) (places : Places) : Type 0 where
   pub lio : One 18 (λ s. saidLio (lioOf s)) noLio base all (map .lio) (places .lio)
   pub eios : Four 20 eioOf noEio base all (map .eiocount) (map .eios) (places .eios)
-  pub bios : Four 22 bioOf noBio base all (map .biocount) (map .bios) (places .bios)
+  pub bios : Four 22 (bridgeOf pins) noBio base all (map .biocount) (map .bios) (places .bios)
   pub msis : Four 21 msiOf noMsi base all (map .msicount) (map .msis) (places .msis)
   pub lpc : One 23 lpcOf noLpc base all (map .lpc) (places .lpc)
   pub number : map .sci ≡ sci
 
-module _ {base sci : ℕ} {all : List Whole} {map : Map} {places : Places} (k : Parts base sci all map places) where
+module _ {base sci : ℕ} {pins : ℕ → ℕ} {all : List Whole} {map : Map} {places : Places} (k : Parts base sci pins all map places) where
   -- together they are what the structures make
-  pub map-of : map ≡ mapOf sci all
+  pub map-of : map ≡ mapOf sci pins all
   unfolding mapOf
   map-of =
       rw (sym (k .lio .held), sym (k .eios .held), sym (k .eios .counted), sym (k .bios .held), sym (k .bios .counted), sym (k .msis .held), sym (k .msis .counted), sym (k .lpc .held), sym (k .number))
@@ -148,7 +148,7 @@ there present none made [] absent always = absent
 there present none made (x ∷ xs) absent always = always (x .bytes) ∙ sym (le-leb 1 (length (x ∷ xs)) (omega arith))
 
 -- the structures that made a map are so many of each kind
-module _ (s : List ℕ) (all : List Whole) {cores : ℕ} {m : Map} (by : MadeBy all cores m) where
+module _ (s : List ℕ) (pins : ℕ → ℕ) (all : List Whole) {cores : ℕ} {m : Map} (by : MadeBy pins all cores m) where
   pub full-core : byteAt s 0 ≡ 17 → leb 256 cores ≡ oneTooMany (howMany (byteAt s 0) all) s
   unfolding oneTooMany
   full-core t = rw (of-core s _ _ _ _ _ _ _ _ t, t, by .0)

@@ -27,21 +27,21 @@ use Rattle.madt.proofs.Pieces.{sizeAt, pieces-end, pieces-cut, pieces-n
 use Rattle.madt.proofs.Contents.{Parts, map-of, places-of, enabled-same, enabled-more}
 
 -- what comes of some pieces after the structures before them
-unfoldable pub walkFrom : ℕ → ℕ → List Whole → List Piece → Walked
-walkFrom base sci before pieces =
+unfoldable pub walkFrom : ℕ → ℕ → (ℕ → ℕ) → List Whole → List Piece → Walked
+walkFrom base sci pins before pieces =
     unless turnedAway (firstRefusal (rulesInTurn base before pieces))
-    (record { verdict = Sound; found = foundIn base sci (before ++ structures pieces) })
+    (record { verdict = Sound; found = foundIn base sci pins (before ++ structures pieces) })
 
 -- the structures in turn: a whole one is refused, or stands before those behind it
-module _ (base sci : ℕ) (before : List Whole) (at : ℕ) (s : List ℕ) (later : List Piece) where
+module _ (base sci : ℕ) (pins : ℕ → ℕ) (before : List Whole) (at : ℕ) (s : List ℕ) (later : List Piece) where
   abbrev rules : List Verdict
   rules = structureRules (base + at) (howMany (byteAt s 0) before) s
 
-  from-refused : {refusal : Refusal} → firstRefusal rules ≡ Refused refusal → walkFrom base sci before (whole at s ∷ later) ≡ turnedAway refusal
+  from-refused : {refusal : Refusal} → firstRefusal rules ≡ Refused refusal → walkFrom base sci pins before (whole at s ∷ later) ≡ turnedAway refusal
   unfolding walkFrom rulesInTurn
   from-refused h = joined-refused turnedAway rules _ _ h
 
-  from-next : firstRefusal rules ≡ Sound → walkFrom base sci before (whole at s ∷ later) ≡ walkFrom base sci (before ++ (record { at = at; bytes = s } ∷ [])) later
+  from-next : firstRefusal rules ≡ Sound → walkFrom base sci pins before (whole at s ∷ later) ≡ walkFrom base sci pins (before ++ (record { at = at; bytes = s } ∷ [])) later
   unfolding walkFrom rulesInTurn structures
   from-next h = rw append-assoc (joined-sound turnedAway rules _ _ h)
 
@@ -58,18 +58,18 @@ module _ (base sci : ℕ) (before : List Whole) (at : ℕ) (s : List ℕ) (later
   taken-next h = rw (unless-sound (λ refusal. []) _ _ h) (sym (append-assoc before one _))
 
 -- no piece is left
-from-end : (base sci : ℕ) (before : List Whole) → walkFrom base sci before [] ≡ record { verdict = Sound; found = foundIn base sci before }
+from-end : (base sci : ℕ) (pins : ℕ → ℕ) (before : List Whole) → walkFrom base sci pins before [] ≡ record { verdict = Sound; found = foundIn base sci pins before }
 unfolding walkFrom rulesInTurn structures firstRefusal unless
-from-end base sci before = rw append-nil
+from-end base sci pins before = rw append-nil
 
 taken-end : (base : ℕ) (before : List Whole) → before ++ takenInTurn base before [] ≡ before
 unfolding takenInTurn
 taken-end base before = append-nil before
 
 -- the last is cut
-from-cut : (base sci : ℕ) (before : List Whole) (at : ℕ) → walkFrom base sci before (cut at ∷ []) ≡ turnedAway (refused 31 (base + at))
+from-cut : (base sci : ℕ) (pins : ℕ → ℕ) (before : List Whole) (at : ℕ) → walkFrom base sci pins before (cut at ∷ []) ≡ turnedAway (refused 31 (base + at))
 unfolding walkFrom rulesInTurn
-from-cut base sci before at = unless-refused turnedAway _ _ (first-broken true 31 (base + at) [] refl)
+from-cut base sci pins before at = unless-refused turnedAway _ _ (first-broken true 31 (base + at) [] refl)
 
 taken-cut : (base : ℕ) (before : List Whole) (at : ℕ) → before ++ takenInTurn base before (cut at ∷ []) ≡ before
 unfolding takenInTurn
@@ -80,8 +80,8 @@ abbrev pub Few : Map → ℕ → ℕ → Type 0
 Few map enabled cores = (enabled ≤ cores) × (cores ≤ 256) × (map .eiocount ≤ 4) × (map .msicount ≤ 4) × (map .biocount ≤ 4)
 
 -- what some structures make, as the loop has it
-pub record Found (base sci : ℕ) (all : List Whole) (map : Map) (places : Places) (enabled cores : ℕ) : Type 0 where
-  pub parts : Parts base sci all map places
+pub record Found (base sci : ℕ) (pins : ℕ → ℕ) (all : List Whole) (map : Map) (places : Places) (enabled cores : ℕ) : Type 0 where
+  pub parts : Parts base sci pins all map places
   pub enabled-is : enabled ≡ length (enabledCores all)
   pub cores-is : cores ≡ howMany 17 all
   pub few : Few map enabled cores
@@ -102,17 +102,17 @@ module _ (all : List Whole) (room : List ℕ) (x : Whole) {offsets : List ℕ} (
       rw (enabled-more all x h, map-more (λ (y : Whole). y .at) (enabledCores all) x, sets-append room 0 _ (x .at ∷ []), behind, n, e, a)
 
 -- ---- what the loop has found before the structure at an offset
-pub record Walking (table : List ℕ) (base sci : ℕ) (room offsets : List ℕ) (map : Map) (places : Places) (enabled cores at : ℕ) : Type 0 where
+pub record Walking (table : List ℕ) (base sci : ℕ) (pins : ℕ → ℕ) (room offsets : List ℕ) (map : Map) (places : Places) (enabled cores at : ℕ) : Type 0 where
   pub all : List Whole
-  pub found : Found base sci all map places enabled cores
+  pub found : Found base sci pins all map places enabled cores
   pub noting : Noting all room offsets
-  pub rest : walkFrom base sci all (pieces table at) ≡ walked table base sci
+  pub rest : walkFrom base sci pins all (pieces table at) ≡ walked table base sci pins
   pub taking : all ++ takenInTurn base all (pieces table at) ≡ taken table base
 
-pub walk-starts : (table : List ℕ) (base sci : ℕ) (room : List ℕ) {map : Map} {places : Places} → map ≡ mapOf sci [] → places ≡ placesOf 0 []
-    → Walking table base sci room room map places 0 0 44
+pub walk-starts : (table : List ℕ) (base sci : ℕ) (pins : ℕ → ℕ) (room : List ℕ) {map : Map} {places : Places} → map ≡ mapOf sci pins [] → places ≡ placesOf 0 []
+    → Walking table base sci pins room room map places 0 0 44
 unfolding walkFrom walked walkRules taken mapOf placesOf standing enabledCores made ofType those
-walk-starts table base sci room m p =
+walk-starts table base sci pins room m p =
     rw (m, p)
     (record {
       all = [];
@@ -134,11 +134,11 @@ walk-starts table base sci room m p =
       taking = refl;
     })
 
-module _ {table : List ℕ} {base sci : ℕ} {room offsets : List ℕ} {map : Map} {places : Places} {enabled cores at : ℕ}
-    (w : Walking table base sci room offsets map places enabled cores at) where
+module _ {table : List ℕ} {base sci : ℕ} {pins : ℕ → ℕ} {room offsets : List ℕ} {map : Map} {places : Places} {enabled cores at : ℕ}
+    (w : Walking table base sci pins room offsets map places enabled cores at) where
   -- the structures that made the map
-  pub made-by : MadeBy (w .all) cores map
-  made-by = (w .found .cores-is, map-of (w .found .parts) ∙ ap (λ (n : ℕ). mapOf n (w .all)) (sym (w .found .parts .number)))
+  pub made-by : MadeBy pins (w .all) cores map
+  made-by = (w .found .cores-is, map-of (w .found .parts) ∙ ap (λ (n : ℕ). mapOf n pins (w .all)) (sym (w .found .parts .number)))
 
   -- there is a place for one more of a kind that is not full
   pub core-room : {number : ℕ} → number ≡ 17 → howMany number (w .all) < 256 → enabled < 256
@@ -160,15 +160,15 @@ module _ {table : List ℕ} {base sci : ℕ} {room offsets : List ℕ} {map : Ma
 
   -- the table's end
   pub walk-ends : length table ≤ at
-      → (record { verdict = Sound; found = record { map = map; places = places; enabled = enabled } } ≡ walked table base sci) × (offsets ≡ noted table base room)
+      → (record { verdict = Sound; found = record { map = map; places = places; enabled = enabled } } ≡ walked table base sci pins) × (offsets ≡ noted table base room)
   unfolding foundIn
   walk-ends h =
-      (rw (map-of (w .found .parts), places-of (w .found .parts), w .found .enabled-is) (sym (rw (pieces-end table at h) (from-end base sci (w .all))) ∙ w .rest), over (rw (pieces-end table at h) (taken-end base (w .all))))
+      (rw (map-of (w .found .parts), places-of (w .found .parts), w .found .enabled-is) (sym (rw (pieces-end table at h) (from-end base sci pins (w .all))) ∙ w .rest), over (rw (pieces-end table at h) (taken-end base (w .all))))
 
   -- a structure that is cut
-  pub walk-cuts : at < length table → sizeAt table at ≡ 0 → (turnedAway (refused 31 (base + at)) ≡ walked table base sci) × (offsets ≡ noted table base room)
+  pub walk-cuts : at < length table → sizeAt table at ≡ 0 → (turnedAway (refused 31 (base + at)) ≡ walked table base sci pins) × (offsets ≡ noted table base room)
   walk-cuts more h =
-      (sym (rw (pieces-cut table at more h) (from-cut base sci (w .all) at)) ∙ w .rest, over (rw (pieces-cut table at more h) (taken-cut base (w .all) at)))
+      (sym (rw (pieces-cut table at more h) (from-cut base sci pins (w .all) at)) ∙ w .rest, over (rw (pieces-cut table at more h) (taken-cut base (w .all) at)))
 
   module _ (more : sizeAt table at ≡ 0 → ⊥) where
     abbrev here : Whole
@@ -178,21 +178,21 @@ module _ {table : List ℕ} {base sci : ℕ} {room offsets : List ℕ} {map : Ma
     said = firstRefusal (structureRules (base + at) (howMany (byteAt (here .bytes) 0) (w .all)) (here .bytes))
 
     -- one that breaks a rule
-    pub walk-refuses : {refusal : Refusal} → said ≡ Refused refusal → (turnedAway refusal ≡ walked table base sci) × (offsets ≡ noted table base room)
+    pub walk-refuses : {refusal : Refusal} → said ≡ Refused refusal → (turnedAway refusal ≡ walked table base sci pins) × (offsets ≡ noted table base room)
     walk-refuses h =
-        (sym (rw (pieces-next table at more) (from-refused base sci (w .all) at (here .bytes) _ h)) ∙ w .rest, over (rw (pieces-next table at more) (taken-refused base sci (w .all) at (here .bytes) _ h)))
+        (sym (rw (pieces-next table at more) (from-refused base sci pins (w .all) at (here .bytes) _ h)) ∙ w .rest, over (rw (pieces-next table at more) (taken-refused base sci pins (w .all) at (here .bytes) _ h)))
 
     -- one that breaks none
     pub walk-goes-on : said ≡ Sound → {offsets′ : List ℕ} {map′ : Map} {places′ : Places} {enabled′ cores′ to : ℕ}
-        → Found base sci (w .all ++ (here ∷ [])) map′ places′ enabled′ cores′ → Noting (w .all ++ (here ∷ [])) room offsets′ → to ≡ at + sizeAt table at
-        → Walking table base sci room offsets′ map′ places′ enabled′ cores′ to
+        → Found base sci pins (w .all ++ (here ∷ [])) map′ places′ enabled′ cores′ → Noting (w .all ++ (here ∷ [])) room offsets′ → to ≡ at + sizeAt table at
+        → Walking table base sci pins room offsets′ map′ places′ enabled′ cores′ to
     walk-goes-on h f n e =
         record {
           all = w .all ++ (here ∷ []);
           found = f;
           noting = n;
-          rest = rw e (sym (rw (pieces-next table at more) (from-next base sci (w .all) at (here .bytes) _ h)) ∙ w .rest);
-          taking = rw e (sym (rw (pieces-next table at more) (taken-next base sci (w .all) at (here .bytes) _ h)) ∙ w .taking);
+          rest = rw e (sym (rw (pieces-next table at more) (from-next base sci pins (w .all) at (here .bytes) _ h)) ∙ w .rest);
+          taking = rw e (sym (rw (pieces-next table at more) (taken-next base sci pins (w .all) at (here .bytes) _ h)) ∙ w .taking);
         }
 
 -- a part is no longer than it is asked to be

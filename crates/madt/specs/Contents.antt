@@ -7,8 +7,9 @@ use mathlib.Core.List.{List, [], _∷_, map}
 use mathlib.Core.Path.{_≡_}
 use lib.ListN.{length, getD}
 use Rattle.words.specs.Lists.{those}
-use Rattle.kinds.specs.Makers.{coreOf, isEnabled, lioOf, eioOf, msiOf, bioOf, lpcOf}
+use Rattle.kinds.specs.Makers.{coreOf, isEnabled, lioOf, eioOf, msiOf, bioOf, withPins, lpcOf}
 use Rattle.kinds.specs.Used.{noLio, noEio, noBio, noMsi, noLpc, saidLio}
+use Rattle.kinds.specs.declared.Bio.{Bio}
 use Rattle.lines.specs.declared.Map.{Map}
 use Rattle.lines.specs.declared.Places.{Places}
 use Rattle.madt.specs.Pieces.{Whole}
@@ -38,15 +39,19 @@ theOne none xs = getD xs 0 none
 abbrev pub inFour : {A : Type 0} → A → List A → List A
 inFour none xs = getD xs 0 none ∷ getD xs 1 none ∷ getD xs 2 none ∷ getD xs 3 none ∷ []
 
--- ---- the map of some structures, with an SCI number
-unfoldable pub mapOf : ℕ → List Whole → Map
-mapOf sci all =
+-- "The map's BIO gets this count" (W-212 of document 02): a bridge with as many inputs as bridges of its hardware ID have
+unfoldable pub bridgeOf : (ℕ → ℕ) → List ℕ → Bio
+bridgeOf pins s = withPins (pins (bioOf s .node)) (bioOf s)
+
+-- ---- the map of some structures, with an SCI number, where `pins` tells how many inputs the bridges with a hardware ID have
+unfoldable pub mapOf : ℕ → (ℕ → ℕ) → List Whole → Map
+mapOf sci pins all =
     record {
       lio = theOne noLio (made 18 (λ s. saidLio (lioOf s)) all);
       eiocount = howMany 20 all;
       eios = inFour noEio (made 20 eioOf all);
       biocount = howMany 22 all;
-      bios = inFour noBio (made 22 bioOf all);
+      bios = inFour noBio (made 22 (bridgeOf pins) all);
       msicount = howMany 21 all;
       msis = inFour noMsi (made 21 msiOf all);
       lpc = theOne noLpc (made 23 lpcOf all);
@@ -65,8 +70,8 @@ placesOf base all =
     }
 
 -- so many CORE and a map are what some structures make
-abbrev pub MadeBy : List Whole → ℕ → Map → Type 0
-MadeBy all cores map = (cores ≡ howMany 17 all) × (map ≡ mapOf (map .sci) all)
+abbrev pub MadeBy : (ℕ → ℕ) → List Whole → ℕ → Map → Type 0
+MadeBy pins all cores map = (cores ≡ howMany 17 all) × (map ≡ mapOf (map .sci) pins all)
 
 -- ---- the processors: a structure, whose own bytes are s, is an enabled CORE
 unfoldable pub isEnabledCore : List ℕ → Bool
@@ -81,9 +86,9 @@ abbrev pub offsetsOf : List Whole → List ℕ
 offsetsOf some = map (λ x. x .at) some
 
 -- ---- all of it
-unfoldable pub foundIn : ℕ → ℕ → List Whole → Found
-foundIn base sci all = record { map = mapOf sci all; places = placesOf base all; enabled = length (enabledCores all) }
+unfoldable pub foundIn : ℕ → ℕ → (ℕ → ℕ) → List Whole → Found
+foundIn base sci pins all = record { map = mapOf sci pins all; places = placesOf base all; enabled = length (enabledCores all) }
 
--- nothing found: the empty map
+-- nothing found: the empty map, without bridges that could have inputs
 abbrev pub nothing : ℕ → Found
-nothing sci = foundIn 0 sci []
+nothing sci = foundIn 0 sci (λ id. 0) []

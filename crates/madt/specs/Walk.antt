@@ -30,8 +30,9 @@ walkRules table base = rulesInTurn base [] (pieces table 44)
 unfoldable pub turnedAway : Refusal → Walked
 turnedAway refusal = record { verdict = Refused refusal; found = nothing 0 }
 
--- what is found in the MADT with some bytes, at a place, with the SCI number of the map
-unfoldable pub walked : List ℕ → ℕ → ℕ → Walked
-walked table base sci =
+-- what is found in the MADT with some bytes, at a place, with the SCI number of the map, where `pins` tells how many inputs the
+-- bridges with a hardware ID have
+unfoldable pub walked : List ℕ → ℕ → ℕ → (ℕ → ℕ) → Walked
+walked table base sci pins =
     unless turnedAway (firstRefusal (walkRules table base))
-    (record { verdict = Sound; found = foundIn base sci (structures (pieces table 44)) })
+    (record { verdict = Sound; found = foundIn base sci pins (structures (pieces table 44)) })

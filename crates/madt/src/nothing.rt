@@ -10,11 +10,12 @@ use lines::Map;
 use lines::Places;
 ghost use mathlib.Core.Path.{_≡_};
 ghost use mathlib.Core.List.{[]};
+ghost use Prim.Native.Nat.{ℕ};
 ghost use Rattle.madt.specs.Contents.{mapOf, placesOf, nothing};
 
 // A map without structures: every place is unused, and holds 0.
 pub(crate) fn no_map(sci: u16) -> Map
-    ensures { λ r. ⌜ r ≡ mapOf sci [] ⌝ }
+    ensures { λ r. ⌜ ((pins : ℕ → ℕ) → r ≡ mapOf sci pins []) ⌝ }
 {
     let none = Half {
         cascade: 0,
@@ -30,7 +31,11 @@ pub(crate) fn no_map(sci: u16) -> Map
         node: 0,
         nodes: 0,
     };
-    let bio = Bio { node: 0, base: 0 };
+    let bio = Bio {
+        node: 0,
+        base: 0,
+        pins: 0,
+    };
     let msi = Msi { start: 0, count: 0 };
     let lpc = Lpc {
         present: false,

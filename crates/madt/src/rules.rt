@@ -12,6 +12,7 @@ use lines::Map;
 use words::Verdict;
 ghost use mathlib.Core.Path.{_≡_};
 ghost use mathlib.Core.Bool.{not};
+ghost use Prim.Native.Nat.{ℕ};
 ghost use mathlib.Core.List.{List, [], _∷_};
 ghost use lib.Dec.{eqb};
 ghost use Rattle.words.specs.Bytes.{byteAt};
@@ -105,7 +106,7 @@ fn check_lio(lio: Lio, full: bool, place: u32) -> Verdict
 // over, their version unread.
 pub(crate) fn check(structure: &[u8], place: u32, cores: u16, map: Map) -> Verdict
     ensures { λ r. let s = now (structure .entry) in
-        ⌜ ((all : List Whole) → MadeBy all cores map → r ≡ firstRefusal (structureRules place (howMany (byteAt s 0) all) s)) ⌝ }
+        ⌜ ((pins : ℕ → ℕ) (all : List Whole) → MadeBy pins all cores map → r ≡ firstRefusal (structureRules place (howMany (byteAt s 0) all) s)) ⌝ }
 {
     let length = length_of(structure);
     if length == 0 {

@@ -5,6 +5,8 @@ use crate::Walked;
 use crate::nothing;
 use crate::rules;
 use crate::steps;
+use capture::pairs;
+use capture::pairs::Pairs;
 use kinds::Bio;
 use kinds::Eio;
 use kinds::Lio;
@@ -19,6 +21,8 @@ ghost use mathlib.Core.Path.{_≡_};
 ghost use Prim.Native.Nat.{_<_};
 ghost use lib.ListN.{length};
 ghost use Rattle.words.specs.Bytes.{partAt};
+ghost use Rattle.capture.specs.Pairs.{pinsOf};
+ghost use Rattle.madt.specs.Contents.{bridgeOf};
 ghost use Rattle.madt.specs.Walk.{turnedAway, walked};
 ghost use Rattle.madt.specs.Noting.{noted};
 
@@ -32,12 +36,20 @@ fn turn_away(refusal: Refusal) -> Walked
     }
 }
 
+// The bridge of a structure, with as many inputs as pairs tell.
+fn bridge_of(structure: &[u8], pairs: Pairs) -> Bio
+    ensures { λ r. ⌜ r ≡ bridgeOf (pinsOf pairs) (now (structure .entry)) ⌝ }
+{
+    let bio = Bio::from_bytes(structure);
+    bio.with_pins(pairs::pins_of(pairs, bio.node))
+}
+
 // The structures of the MADT with some bytes, which stands at a place. What is found is changed where it stands, and is put
 // together at the end: it is large, and a copy for every structure would cost more than all else here. Where the enabled CORE
 // stand is noted in a lent room for the same reason.
-fn walk_table(table: &[u8], base: u16, sci: u16, offsets: &mut Offsets) -> Walked
+fn walk_table(table: &[u8], base: u16, sci: u16, pairs: Pairs, offsets: &mut Offsets) -> Walked
     requires { ⌜ length (now table) < 65536 ⌝ }
-    ensures { λ r. ⌜ r ≡ walked (now (table .entry)) base sci ⌝ }
+    ensures { λ r. ⌜ r ≡ walked (now (table .entry)) base sci (pinsOf pairs) ⌝ }
     ensures { λ r. ⌜ now (offsets .exit) ≡ noted (now (table .entry)) base (now (offsets .entry)) ⌝ }
 {
     let mut map = nothing::no_map(sci);
@@ -82,7 +94,7 @@ fn walk_table(table: &[u8], base: u16, sci: u16, offsets: &mut Offsets) -> Walke
             }
             Bio::TYPE => {
                 let n = map.biocount as usize;
-                map.bios[n] = Bio::from_bytes(structure);
+                map.bios[n] = bridge_of(structure, pairs);
                 places.bios[n] = place;
                 map.biocount = map.biocount + 1;
             }
@@ -103,13 +115,19 @@ fn walk_table(table: &[u8], base: u16, sci: u16, offsets: &mut Offsets) -> Walke
     Walked { verdict, found }
 }
 
-// Refusals 31 to 38 and 71 to 77 of the MADT of a capture, or the map with an SCI number, the places of its structures, and the
-// number of processors. Where these stand in the MADT is noted in the front of a lent room; a refusal leaves there what was noted
+// Refusals 31 to 38 and 71 to 77 of the MADT of a capture, or the map with an SCI number and with what pairs tell of its bridges, the
+// places of its structures, and the number of processors. Where these stand in the MADT is noted in the front of a lent room; a refusal leaves there what was noted
 // before it.
-pub fn walk_madt(capture: &[u8], madt: Table, sci: u16, offsets: &mut Offsets) -> Walked
-    ensures { λ r. ⌜ r ≡ walked (partAt (now (capture .entry)) (madt .place) (madt .length)) (madt .place) sci ⌝ }
+pub fn walk_madt(
+    capture: &[u8],
+    madt: Table,
+    sci: u16,
+    pairs: Pairs,
+    offsets: &mut Offsets,
+) -> Walked
+    ensures { λ r. ⌜ r ≡ walked (partAt (now (capture .entry)) (madt .place) (madt .length)) (madt .place) sci (pinsOf pairs) ⌝ }
     ensures { λ r. ⌜ now (offsets .exit) ≡ noted (partAt (now (capture .entry)) (madt .place) (madt .length)) (madt .place) (now (offsets .entry)) ⌝ }
 {
     let table = words::part(capture, madt.place as usize, madt.length as usize);
-    walk_table(table, madt.place, sci, offsets)
+    walk_table(table, madt.place, sci, pairs, offsets)
 }

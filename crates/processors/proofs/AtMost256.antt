@@ -7,6 +7,6 @@ use Rattle.madt.specs.Walk.{walked}
 use Rattle.madt.proofs.Accepted.{rules-sound, few-enabled}
 use Rattle.processors.specs.Listing.{count}
 
-pub at-most-256 : (table : List ℕ) (base sci : ℕ) → walked table base sci .verdict ≡ Sound → count table ≤ 256
+pub at-most-256 : (table : List ℕ) (base sci : ℕ) (pins : ℕ → ℕ) → walked table base sci pins .verdict ≡ Sound → count table ≤ 256
 unfolding count
-at-most-256 table base sci h = few-enabled table base (rules-sound table base sci h)
+at-most-256 table base sci pins h = few-enabled table base (rules-sound table base sci pins h)

@@ -40,9 +40,9 @@ all-again table [] = refl
 all-again table (at ∷ offsets) = rw (read-again table at, all-again table offsets)
 
 -- ---- all of them
-module _ (table : List ℕ) (base sci : ℕ) (h : walked table base sci .verdict ≡ Sound) where
+module _ (table : List ℕ) (base sci : ℕ) (pins : ℕ → ℕ) (h : walked table base sci pins .verdict ≡ Sound) where
   rules-kept : firstRefusal (walkRules table base) ≡ Sound
-  rules-kept = rules-sound table base sci h
+  rules-kept = rules-sound table base sci pins h
 
   standing : Standing table (offsetsOf (coresOf table))
   standing = (
@@ -54,12 +54,12 @@ module _ (table : List ℕ) (base sci : ℕ) (h : walked table base sci .verdict
   )
 
   -- the walk's count is the list's
-  pub enabled-count : walked table base sci .found .enabled ≡ count table
+  pub enabled-count : walked table base sci pins .found .enabled ≡ count table
   unfolding foundIn count
-  enabled-count = ap (λ (f : Found). f .enabled) (found-is table base sci h)
+  enabled-count = ap (λ (f : Found). f .enabled) (found-is table base sci pins h)
 
   -- the front of the room that was lent to the walk
-  noted-front : (room : List ℕ) → length room ≡ 256 → take (walked table base sci .found .enabled) (noted table base room) ≡ offsetsOf (coresOf table)
+  noted-front : (room : List ℕ) → length room ≡ 256 → take (walked table base sci pins .found .enabled) (noted table base room) ≡ offsetsOf (coresOf table)
   unfolding noted count
   noted-front room size =
       let offsets = offsetsOf (coresOf table) in
@@ -67,7 +67,7 @@ module _ (table : List ℕ) (base sci : ℕ) (h : walked table base sci .verdict
       let fits : 0 + length offsets ≤ length room = omega (arith, few-enabled table base rules-kept) in
       rw (enabled-count, taken-all table base rules-kept, sym many, sets-eq offsets room 0 fits) (take-append-seam offsets _)
 
-  pub noted-standing : (room : List ℕ) → length room ≡ 256 → {n : ℕ} {after offsets : List ℕ} → n ≡ walked table base sci .found .enabled
+  pub noted-standing : (room : List ℕ) → length room ≡ 256 → {n : ℕ} {after offsets : List ℕ} → n ≡ walked table base sci pins .found .enabled
       → after ≡ noted table base room → offsets ≡ take n after → Standing table offsets
   noted-standing room size e f g = rw (g, e, f, noted-front room size) standing
 

@@ -13,7 +13,7 @@ no-places-requires c κs = search needs
 
 returns : tie.Need-returns
 unfolding foundIn enabledCores those
-returns c = rw (c .no-places .ensures, c .before .no-map .ensures)
+returns c = rw (c .no-places .ensures, c .before .no-map .ensures (λ id. 0))
 
 pub nothing-spec : {M : Type 1} → statement M
 nothing-spec = tie.close (tie.spec no-map-requires no-places-requires returns)

@@ -7,7 +7,7 @@ use Rattle.madt.proofs.nothing.no_map.Tie as tie
 
 returns : tie.Need-returns
 unfolding mapOf made ofType those
-returns c = refl
+returns c pins = refl
 
 pub no-map-spec : {M : Type 1} → statement M
 no-map-spec = tie.close (tie.spec returns)

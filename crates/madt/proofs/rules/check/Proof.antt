@@ -12,7 +12,7 @@ length-of-requires : tie.Need-length-of-requires
 length-of-requires c κs = search needs
 
 returns : tie.Need-returns
-returns c = λ all by. sym (passed-over _ _ _ (no-length _ (sym (c .before .length-of .ensures) ∙ c .if1 .taken)))
+returns c = λ pins all by. sym (passed-over _ _ _ (no-length _ (sym (c .before .length-of .ensures) ∙ c .if1 .taken)))
 
 byte-at-requires : tie.Need-byte-at-requires
 byte-at-requires c κs = search needs
@@ -22,7 +22,7 @@ refuse-requires c κs = search needs
 
 returns-2 : tie.Need-returns-2
 returns-2 c =
-    λ all by. ap Refused (c .refuse .ensures)
+    λ pins all by. ap Refused (c .refuse .ensures)
     ∙ sym (at-32 _ _ (now (c .before .before .before .before .before .before .args .structure)) (length-wrong (now (c .before .before .before .before .before .before .args .structure)) (has-length (now (c .before .before .before .before .before .before .args .structure)) (λ h. c .before .before .before .if1 .left (c .before .before .before .before .length-of .ensures ∙ h))) (λ h. c .before .if2 .taken (c .before .before .byte-at .ensures ∙ h ∙ sym (c .before .before .before .before .length-of .ensures)))))
 
 byte-at-requires-2 : tie.Need-byte-at-requires-2
@@ -33,7 +33,7 @@ refuse-requires-2 c κs = search needs
 
 returns-3 : tie.Need-returns-3
 returns-3 c =
-    λ all by. ap Refused (c .refuse2 .ensures)
+    λ pins all by. ap Refused (c .refuse2 .ensures)
     ∙ sym (at-33 _ _ (now (c .before .before .before .before .before .before .before .before .args .structure))
     (length-right (now (c .before .before .before .before .before .before .before .before .args .structure)) (has-length (now (c .before .before .before .before .before .before .before .before .args .structure)) (λ h. c .before .before .before .before .before .if1 .left (c .before .before .before .before .before .before .length-of .ensures ∙ h))) (sym (c .before .before .before .before .byte-at .ensures) ∙ c .before .before .before .if2 .left ∙ c .before .before .before .before .before .before .length-of .ensures))
     (version-wrong (now (c .before .before .before .before .before .before .before .before .args .structure)) (has-length (now (c .before .before .before .before .before .before .before .before .args .structure)) (λ h. c .before .before .before .before .before .if1 .left (c .before .before .before .before .before .before .length-of .ensures ∙ h))) (λ h. c .before .if3 .taken (c .before .before .byte-at2 .ensures ∙ h))))
@@ -96,25 +96,25 @@ returns-4 : tie.Need-returns-4
 returns-4 c =
     let s = now (c .before .before .before .before .before .before .before .before .before .before .before .args .structure) in
     let t = sym (c .before .before .before .byte-at3 .ensures) ∙ c .before .before .match .keys1 in
-    λ all by. rw (c .check-core .ensures, c .before .from-bytes .ensures)
+    λ pins all by. rw (c .check-core .ensures, c .before .from-bytes .ensures)
     (sym (for-core _ _ s
     (length-right (now (c .before .before .before .before .before .before .before .before .before .before .before .args .structure)) (has-length (now (c .before .before .before .before .before .before .before .before .before .before .before .args .structure)) (λ h. c .before .before .before .before .before .before .before .before .if1 .left (c .before .before .before .before .before .before .before .before .before .length-of .ensures ∙ h))) (sym (c .before .before .before .before .before .before .before .byte-at .ensures) ∙ c .before .before .before .before .before .before .if2 .left ∙ c .before .before .before .before .before .before .before .before .before .length-of .ensures))
     (version-right (now (c .before .before .before .before .before .before .before .before .before .before .before .args .structure)) (has-length (now (c .before .before .before .before .before .before .before .before .before .before .before .args .structure)) (λ h. c .before .before .before .before .before .before .before .before .if1 .left (c .before .before .before .before .before .before .before .before .before .length-of .ensures ∙ h))) (sym (c .before .before .before .before .before .byte-at2 .ensures) ∙ c .before .before .before .before .if3 .left))
-    (full-core s all by t) t))
+    (full-core s pins all by t) t))
 
 returns-5 : tie.Need-returns-5
 returns-5 c =
     let s = now (c .before .before .before .before .before .before .before .before .before .before .before .args .structure) in
     let t = sym (c .before .before .before .byte-at3 .ensures) ∙ c .before .before .match .keys2 in
-    λ all by. rw (c .check-lio .ensures, c .before .from-bytes2 .ensures)
+    λ pins all by. rw (c .check-lio .ensures, c .before .from-bytes2 .ensures)
     (sym (for-lio _ _ s
     (length-right (now (c .before .before .before .before .before .before .before .before .before .before .before .args .structure)) (has-length (now (c .before .before .before .before .before .before .before .before .before .before .before .args .structure)) (λ h. c .before .before .before .before .before .before .before .before .if1 .left (c .before .before .before .before .before .before .before .before .before .length-of .ensures ∙ h))) (sym (c .before .before .before .before .before .before .before .byte-at .ensures) ∙ c .before .before .before .before .before .before .if2 .left ∙ c .before .before .before .before .before .before .before .before .before .length-of .ensures))
     (version-right (now (c .before .before .before .before .before .before .before .before .before .before .before .args .structure)) (has-length (now (c .before .before .before .before .before .before .before .before .before .before .before .args .structure)) (λ h. c .before .before .before .before .before .before .before .before .if1 .left (c .before .before .before .before .before .before .before .before .before .length-of .ensures ∙ h))) (sym (c .before .before .before .before .before .byte-at2 .ensures) ∙ c .before .before .before .before .if3 .left))
-    (full-lio s all by t) t))
+    (full-lio s pins all by t) t))
 
 returns-6 : tie.Need-returns-6
 returns-6 c =
-    λ all by. ap Refused (c .refuse3 .ensures)
+    λ pins all by. ap Refused (c .refuse3 .ensures)
     ∙ sym (at-34 _ _ (now (c .before .before .before .before .before .before .before .before .before .before .args .structure))
     (length-right (now (c .before .before .before .before .before .before .before .before .before .before .args .structure)) (has-length (now (c .before .before .before .before .before .before .before .before .before .before .args .structure)) (λ h. c .before .before .before .before .before .before .before .if1 .left (c .before .before .before .before .before .before .before .before .length-of .ensures ∙ h))) (sym (c .before .before .before .before .before .before .byte-at .ensures) ∙ c .before .before .before .before .before .if2 .left ∙ c .before .before .before .before .before .before .before .before .length-of .ensures))
     (version-right (now (c .before .before .before .before .before .before .before .before .before .before .args .structure)) (has-length (now (c .before .before .before .before .before .before .before .before .before .before .args .structure)) (λ h. c .before .before .before .before .before .before .before .if1 .left (c .before .before .before .before .before .before .before .before .length-of .ensures ∙ h))) (sym (c .before .before .before .before .byte-at2 .ensures) ∙ c .before .before .before .if3 .left))
@@ -124,45 +124,45 @@ returns-7 : tie.Need-returns-7
 returns-7 c =
     let s = now (c .before .before .before .before .before .before .before .before .before .before .before .before .before .args .structure) in
     let t = sym (c .before .before .before .before .before .byte-at3 .ensures) ∙ c .before .before .before .before .match .keys4 in
-    λ all by. rw (c .check-field .ensures, c .before .before .eio-field .ensures, c .before .before .before .from-bytes3 .ensures)
+    λ pins all by. rw (c .check-field .ensures, c .before .before .eio-field .ensures, c .before .before .before .from-bytes3 .ensures)
     (sym (for-eio _ _ s
     (length-right (now (c .before .before .before .before .before .before .before .before .before .before .before .before .before .args .structure)) (has-length (now (c .before .before .before .before .before .before .before .before .before .before .before .before .before .args .structure)) (λ h. c .before .before .before .before .before .before .before .before .before .before .if1 .left (c .before .before .before .before .before .before .before .before .before .before .before .length-of .ensures ∙ h))) (sym (c .before .before .before .before .before .before .before .before .before .byte-at .ensures) ∙ c .before .before .before .before .before .before .before .before .if2 .left ∙ c .before .before .before .before .before .before .before .before .before .before .before .length-of .ensures))
     (version-right (now (c .before .before .before .before .before .before .before .before .before .before .before .before .before .args .structure)) (has-length (now (c .before .before .before .before .before .before .before .before .before .before .before .before .before .args .structure)) (λ h. c .before .before .before .before .before .before .before .before .before .before .if1 .left (c .before .before .before .before .before .before .before .before .before .before .before .length-of .ensures ∙ h))) (sym (c .before .before .before .before .before .before .before .byte-at2 .ensures) ∙ c .before .before .before .before .before .before .if3 .left))
-    (full-eio s all by t) t))
+    (full-eio s pins all by t) t))
 
 returns-8 : tie.Need-returns-8
 returns-8 c =
     let s = now (c .before .before .before .before .before .before .before .before .before .before .before .before .before .args .structure) in
     let t = sym (c .before .before .before .before .before .byte-at3 .ensures) ∙ c .before .before .before .before .match .keys5 in
-    λ all by. rw (c .check-field2 .ensures, c .before .before .msi-field .ensures, c .before .before .before .from-bytes4 .ensures)
+    λ pins all by. rw (c .check-field2 .ensures, c .before .before .msi-field .ensures, c .before .before .before .from-bytes4 .ensures)
     (sym (for-msi _ _ s
     (length-right (now (c .before .before .before .before .before .before .before .before .before .before .before .before .before .args .structure)) (has-length (now (c .before .before .before .before .before .before .before .before .before .before .before .before .before .args .structure)) (λ h. c .before .before .before .before .before .before .before .before .before .before .if1 .left (c .before .before .before .before .before .before .before .before .before .before .before .length-of .ensures ∙ h))) (sym (c .before .before .before .before .before .before .before .before .before .byte-at .ensures) ∙ c .before .before .before .before .before .before .before .before .if2 .left ∙ c .before .before .before .before .before .before .before .before .before .before .before .length-of .ensures))
     (version-right (now (c .before .before .before .before .before .before .before .before .before .before .before .before .before .args .structure)) (has-length (now (c .before .before .before .before .before .before .before .before .before .before .before .before .before .args .structure)) (λ h. c .before .before .before .before .before .before .before .before .before .before .if1 .left (c .before .before .before .before .before .before .before .before .before .before .before .length-of .ensures ∙ h))) (sym (c .before .before .before .before .before .before .before .byte-at2 .ensures) ∙ c .before .before .before .before .before .before .if3 .left))
-    (full-msi s all by t) t))
+    (full-msi s pins all by t) t))
 
 returns-9 : tie.Need-returns-9
 returns-9 c =
     let s = now (c .before .before .before .before .before .before .before .before .before .before .before .before .before .args .structure) in
     let t = sym (c .before .before .before .before .before .byte-at3 .ensures) ∙ c .before .before .before .before .match .keys6 in
-    λ all by. rw (c .check-field3 .ensures, c .before .before .bio-field .ensures, c .before .before .before .from-bytes5 .ensures)
+    λ pins all by. rw (c .check-field3 .ensures, c .before .before .bio-field .ensures, c .before .before .before .from-bytes5 .ensures)
     (sym (for-bio _ _ s
     (length-right (now (c .before .before .before .before .before .before .before .before .before .before .before .before .before .args .structure)) (has-length (now (c .before .before .before .before .before .before .before .before .before .before .before .before .before .args .structure)) (λ h. c .before .before .before .before .before .before .before .before .before .before .if1 .left (c .before .before .before .before .before .before .before .before .before .before .before .length-of .ensures ∙ h))) (sym (c .before .before .before .before .before .before .before .before .before .byte-at .ensures) ∙ c .before .before .before .before .before .before .before .before .if2 .left ∙ c .before .before .before .before .before .before .before .before .before .before .before .length-of .ensures))
     (version-right (now (c .before .before .before .before .before .before .before .before .before .before .before .before .before .args .structure)) (has-length (now (c .before .before .before .before .before .before .before .before .before .before .before .before .before .args .structure)) (λ h. c .before .before .before .before .before .before .before .before .before .before .if1 .left (c .before .before .before .before .before .before .before .before .before .before .before .length-of .ensures ∙ h))) (sym (c .before .before .before .before .before .before .before .byte-at2 .ensures) ∙ c .before .before .before .before .before .before .if3 .left))
-    (full-bio s all by t) t))
+    (full-bio s pins all by t) t))
 
 returns-10 : tie.Need-returns-10
 returns-10 c =
     let s = now (c .before .before .before .before .before .before .before .before .before .before .before .before .args .structure) in
     let t = sym (c .before .before .before .before .byte-at3 .ensures) ∙ c .before .before .before .match .keys7 in
-    λ all by. rw (c .check-field4 .ensures, c .before .lpc-field .ensures, c .before .before .from-bytes6 .ensures)
+    λ pins all by. rw (c .check-field4 .ensures, c .before .lpc-field .ensures, c .before .before .from-bytes6 .ensures)
     (sym (for-lpc _ _ s
     (length-right (now (c .before .before .before .before .before .before .before .before .before .before .before .before .args .structure)) (has-length (now (c .before .before .before .before .before .before .before .before .before .before .before .before .args .structure)) (λ h. c .before .before .before .before .before .before .before .before .before .if1 .left (c .before .before .before .before .before .before .before .before .before .before .length-of .ensures ∙ h))) (sym (c .before .before .before .before .before .before .before .before .byte-at .ensures) ∙ c .before .before .before .before .before .before .before .if2 .left ∙ c .before .before .before .before .before .before .before .before .before .before .length-of .ensures))
     (version-right (now (c .before .before .before .before .before .before .before .before .before .before .before .before .args .structure)) (has-length (now (c .before .before .before .before .before .before .before .before .before .before .before .before .args .structure)) (λ h. c .before .before .before .before .before .before .before .before .before .if1 .left (c .before .before .before .before .before .before .before .before .before .before .length-of .ensures ∙ h))) (sym (c .before .before .before .before .before .before .byte-at2 .ensures) ∙ c .before .before .before .before .before .if3 .left))
-    (full-lpc s all by t) t))
+    (full-lpc s pins all by t) t))
 
 returns-11 : tie.Need-returns-11
 returns-11 c =
-    λ all by. absurd (one-of-seven (now (c .before .before .before .before .before .before .before .before .before .args .structure)) (has-length (now (c .before .before .before .before .before .before .before .before .before .args .structure)) (λ h. c .before .before .before .before .before .before .if1 .left (c .before .before .before .before .before .before .before .length-of .ensures ∙ h)))
+    λ pins all by. absurd (one-of-seven (now (c .before .before .before .before .before .before .before .before .before .args .structure)) (has-length (now (c .before .before .before .before .before .before .before .before .before .args .structure)) (λ h. c .before .before .before .before .before .before .if1 .left (c .before .before .before .before .before .before .before .length-of .ensures ∙ h)))
     (λ h. c .match .rest .0 .0 .0 .0 .0 .0 .1 (c .before .byte-at3 .ensures ∙ h))
     (λ h. c .match .rest .0 .0 .0 .0 .0 .1 (c .before .byte-at3 .ensures ∙ h))
     (λ h. c .match .rest .0 .0 .0 .0 .1 (c .before .byte-at3 .ensures ∙ h))

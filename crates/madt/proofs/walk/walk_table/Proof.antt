@@ -9,6 +9,7 @@ use lib.ListN.{length, length-append}
 use Rattle.words.specs.Bytes.{byteAt, partAt}
 use Rattle.words.specs.Refusals.{firstRefusal}
 use Rattle.words.specs.declared.Verdict.the-variants.{Sound}
+use Rattle.capture.specs.Pairs.{pinsOf}
 use Rattle.madt.specs.Pieces.{Whole}
 use Rattle.madt.specs.Rules.{structureRules}
 use Rattle.madt.specs.Contents.{howMany, enabledCores}
@@ -22,10 +23,10 @@ use Rattle.madt.proofs.walk.walk_table.Statement.{statement}
 use Rattle.madt.proofs.walk.walk_table.Tie as tie
 
 abbrev Inv-loop : tie.InvT-loop
-Inv-loop table base sci offsets₀ map₀ places₀ enabled₀ cores₀ at₀ offsets map places enabled cores at = Walking table base sci offsets₀ offsets map places enabled cores at
+Inv-loop table base sci pairs offsets₀ map₀ places₀ enabled₀ cores₀ at₀ offsets map places enabled cores at = Walking table base sci (pinsOf pairs) offsets₀ offsets map places enabled cores at
 
 abbrev μ-loop : tie.MeasureT-loop
-μ-loop table base sci offsets₀ map₀ places₀ enabled₀ cores₀ at₀ offsets map places enabled cores at = length table - at
+μ-loop table base sci pairs offsets₀ map₀ places₀ enabled₀ cores₀ at₀ offsets map places enabled cores at = length table - at
 
 no-map-requires : tie.Need-no-map-requires Inv-loop μ-loop
 no-map-requires c κs = search needs
@@ -34,7 +35,7 @@ no-places-requires : tie.Need-no-places-requires Inv-loop μ-loop
 no-places-requires c κs = search needs
 
 loop-holds : tie.Need-loop-holds Inv-loop μ-loop
-loop-holds c = walk-starts _ _ _ _ (c .before .no-map .ensures) (c .no-places .ensures)
+loop-holds c = walk-starts _ _ _ _ _ (c .before .no-map .ensures _) (c .no-places .ensures)
 
 cast-place : tie.Need-cast-place Inv-loop μ-loop
 cast-place c = search needs
@@ -75,7 +76,7 @@ returns-2 c =
     let size = c .before .before .before .before .before .before .before .size-at .ensures .0 in
     let s = partAt table (l .at) (sizeAt table (l .at)) in
     let same : now (c .before .before .before .before .before .part .result) ≡ s = rw (c .before .before .before .before .before .part .ensures, size) in
-    let told = walk-refuses (l .inv) (λ h. c .before .before .before .before .before .before .if1 .left (size ∙ h)) (rw same at (sym (c .before .before .before .before .check .ensures (l .inv .all) (made-by (l .inv))) ∙ c .before .before .refusal .given .1)) in
+    let told = walk-refuses (l .inv) (λ h. c .before .before .before .before .before .before .if1 .left (size ∙ h)) (rw same at (sym (c .before .before .before .before .check .ensures _ (l .inv .all) (made-by (l .inv))) ∙ c .before .before .refusal .given .1)) in
     (c .turn-away2 .ensures ∙ told .0, told .1)
 
 enum-told : tie.Need-enum-told Inv-loop μ-loop
@@ -92,7 +93,7 @@ add-cores c =
     let s = partAt table (l .at) (sizeAt table (l .at)) in
     let same : now (c .before .before .before .before .before .part .result) ≡ s = rw (c .before .before .before .before .before .part .ensures, size) in
     let sound : firstRefusal (structureRules (c .before .before .before .before .before .before .before .before .before .before .before .before .before .args .base + l .at) (howMany (byteAt s 0) (l .inv .all)) s) ≡ Sound =
-    rw (sym same) (sym (c .before .before .before .before .check .ensures (l .inv .all) (made-by (l .inv))) ∙ c .before .before .enum-told .given .1) in
+    rw (sym same) (sym (c .before .before .before .before .check .ensures _ (l .inv .all) (made-by (l .inv))) ∙ c .before .before .enum-told .given .1) in
     let kept = all-kept _ _ _ sound in
     let type : byteAt s 0 ≡ c .before .byte-at .result = rw (sym same) (sym (c .before .byte-at .ensures)) in
     let room = room-core kept (type ∙ c .match2 .keys1) in
@@ -121,7 +122,7 @@ element-write-offsets c =
     let s = partAt table (l .at) (sizeAt table (l .at)) in
     let same : now (c .before .before .before .before .before .before .before .before .part .result) ≡ s = rw (c .before .before .before .before .before .before .before .before .part .ensures, size) in
     let sound : firstRefusal (structureRules (c .before .before .before .before .before .before .before .before .before .before .before .before .before .before .before .before .args .base + l .at) (howMany (byteAt s 0) (l .inv .all)) s) ≡ Sound =
-    rw (sym same) (sym (c .before .before .before .before .before .before .before .check .ensures (l .inv .all) (made-by (l .inv))) ∙ c .before .before .before .before .before .enum-told .given .1) in
+    rw (sym same) (sym (c .before .before .before .before .before .before .before .check .ensures _ (l .inv .all) (made-by (l .inv))) ∙ c .before .before .before .before .before .enum-told .given .1) in
     let type : byteAt s 0 ≡ c .before .before .before .before .byte-at .result = rw (sym same) (sym (c .before .before .before .before .byte-at .ensures)) in
     let here = type ∙ c .before .before .before .match2 .keys1 in
     core-room (l .inv) here (room-core (all-kept _ _ _ sound) here)
@@ -141,8 +142,8 @@ cast-n c = search needs
 from-bytes-requires-3 : tie.Need-from-bytes-requires-3 Inv-loop μ-loop
 from-bytes-requires-3 c κs = search needs
 
-mul-t40 : tie.Need-mul-t40 Inv-loop μ-loop
-mul-t40 c = search needs
+mul-t41 : tie.Need-mul-t41 Inv-loop μ-loop
+mul-t41 c = search needs
 
 element-set-from-map : tie.Need-element-set-from-map Inv-loop μ-loop
 element-set-from-map c =
@@ -152,7 +153,7 @@ element-set-from-map c =
     let s = partAt table (l .at) (sizeAt table (l .at)) in
     let same : now (c .before .before .before .before .before .before .part .result) ≡ s = rw (c .before .before .before .before .before .before .part .ensures, size) in
     let sound : firstRefusal (structureRules (c .before .before .before .before .before .before .before .before .before .before .before .before .before .before .args .base + l .at) (howMany (byteAt s 0) (l .inv .all)) s) ≡ Sound =
-    rw (sym same) (sym (c .before .before .before .before .before .check .ensures (l .inv .all) (made-by (l .inv))) ∙ c .before .before .before .enum-told .given .1) in
+    rw (sym same) (sym (c .before .before .before .before .before .check .ensures _ (l .inv .all) (made-by (l .inv))) ∙ c .before .before .before .enum-told .given .1) in
     let kept = all-kept _ _ _ sound in
     let type : byteAt s 0 ≡ c .before .before .byte-at .result = rw (sym same) (sym (c .before .before .byte-at .ensures)) in
     let here = type ∙ c .before .match2 .keys3 in
@@ -173,8 +174,8 @@ cast-n-2 c = search needs
 from-bytes-requires-4 : tie.Need-from-bytes-requires-4 Inv-loop μ-loop
 from-bytes-requires-4 c κs = search needs
 
-mul-t48 : tie.Need-mul-t48 Inv-loop μ-loop
-mul-t48 c = search needs
+mul-t49 : tie.Need-mul-t49 Inv-loop μ-loop
+mul-t49 c = search needs
 
 element-set-from-map-2 : tie.Need-element-set-from-map-2 Inv-loop μ-loop
 element-set-from-map-2 c =
@@ -184,7 +185,7 @@ element-set-from-map-2 c =
     let s = partAt table (l .at) (sizeAt table (l .at)) in
     let same : now (c .before .before .before .before .before .before .part .result) ≡ s = rw (c .before .before .before .before .before .before .part .ensures, size) in
     let sound : firstRefusal (structureRules (c .before .before .before .before .before .before .before .before .before .before .before .before .before .before .args .base + l .at) (howMany (byteAt s 0) (l .inv .all)) s) ≡ Sound =
-    rw (sym same) (sym (c .before .before .before .before .before .check .ensures (l .inv .all) (made-by (l .inv))) ∙ c .before .before .before .enum-told .given .1) in
+    rw (sym same) (sym (c .before .before .before .before .before .check .ensures _ (l .inv .all) (made-by (l .inv))) ∙ c .before .before .before .enum-told .given .1) in
     let kept = all-kept _ _ _ sound in
     let type : byteAt s 0 ≡ c .before .before .byte-at .result = rw (sym same) (sym (c .before .before .byte-at .ensures)) in
     let here = type ∙ c .before .match2 .keys4 in
@@ -202,11 +203,11 @@ add-map-2 c = search needs
 cast-n-3 : tie.Need-cast-n-3 Inv-loop μ-loop
 cast-n-3 c = search needs
 
-from-bytes-requires-5 : tie.Need-from-bytes-requires-5 Inv-loop μ-loop
-from-bytes-requires-5 c κs = search needs
+bridge-of-requires : tie.Need-bridge-of-requires Inv-loop μ-loop
+bridge-of-requires c κs = search needs
 
-mul-t56 : tie.Need-mul-t56 Inv-loop μ-loop
-mul-t56 c = search needs
+mul-t57 : tie.Need-mul-t57 Inv-loop μ-loop
+mul-t57 c = search needs
 
 element-set-from-map-3 : tie.Need-element-set-from-map-3 Inv-loop μ-loop
 element-set-from-map-3 c =
@@ -216,7 +217,7 @@ element-set-from-map-3 c =
     let s = partAt table (l .at) (sizeAt table (l .at)) in
     let same : now (c .before .before .before .before .before .before .part .result) ≡ s = rw (c .before .before .before .before .before .before .part .ensures, size) in
     let sound : firstRefusal (structureRules (c .before .before .before .before .before .before .before .before .before .before .before .before .before .before .args .base + l .at) (howMany (byteAt s 0) (l .inv .all)) s) ≡ Sound =
-    rw (sym same) (sym (c .before .before .before .before .before .check .ensures (l .inv .all) (made-by (l .inv))) ∙ c .before .before .before .enum-told .given .1) in
+    rw (sym same) (sym (c .before .before .before .before .before .check .ensures _ (l .inv .all) (made-by (l .inv))) ∙ c .before .before .before .enum-told .given .1) in
     let kept = all-kept _ _ _ sound in
     let type : byteAt s 0 ≡ c .before .before .byte-at .result = rw (sym same) (sym (c .before .before .byte-at .ensures)) in
     let here = type ∙ c .before .match2 .keys5 in
@@ -231,8 +232,8 @@ element-write-places-3 c = element-set-from-map-3 c
 add-map-3 : tie.Need-add-map-3 Inv-loop μ-loop
 add-map-3 c = search needs
 
-from-bytes-requires-6 : tie.Need-from-bytes-requires-6 Inv-loop μ-loop
-from-bytes-requires-6 c κs = search needs
+from-bytes-requires-5 : tie.Need-from-bytes-requires-5 Inv-loop μ-loop
+from-bytes-requires-5 c κs = search needs
 
 add-at : tie.Need-add-at Inv-loop μ-loop
 add-at c = search needs
@@ -244,13 +245,14 @@ loop-again : tie.Need-loop-again Inv-loop μ-loop
 loop-again c =
     let base = c .before .before .before .before .before .before .before .before .before .before .before .before .before .args .base in
     let sci = c .before .before .before .before .before .before .before .before .before .before .before .before .before .args .sci in
+    let pins = pinsOf (c .before .before .before .before .before .before .before .before .before .before .before .before .before .args .pairs) in
     let l = c .before .before .before .before .before .before .before .before .before .loop in
     let table = now (c .before .before .before .before .before .before .before .before .before .before .before .before .before .args .table) in
     let size = c .before .before .before .before .before .before .before .size-at .ensures .0 in
     let s = partAt table (l .at) (sizeAt table (l .at)) in
     let same : now (c .before .before .before .before .before .part .result) ≡ s = rw (c .before .before .before .before .before .part .ensures, size) in
     let sound : firstRefusal (structureRules (c .before .before .before .before .before .before .before .before .before .before .before .before .before .args .base + l .at) (howMany (byteAt s 0) (l .inv .all)) s) ≡ Sound =
-    rw (sym same) (sym (c .before .before .before .before .check .ensures (l .inv .all) (made-by (l .inv))) ∙ c .before .before .enum-told .given .1) in
+    rw (sym same) (sym (c .before .before .before .before .check .ensures _ (l .inv .all) (made-by (l .inv))) ∙ c .before .before .enum-told .given .1) in
     let kept = all-kept _ _ _ sound in
     let type : byteAt s 0 ≡ c .before .byte-at .result = rw (sym same) (sym (c .before .byte-at .ensures)) in
     let w = l .inv in
@@ -259,7 +261,7 @@ loop-again c =
     let p = f .parts in
     let few = f .few in
     let lent = now (c .before .before .before .before .before .before .before .before .before .before .before .before .before .args .offsets) in
-    let next : Found base sci (w .all ++ (x ∷ [])) (c .match2 .map) (c .match2 .places) (c .match2 .enabled) (c .match2 .cores) × Noting (w .all ++ (x ∷ [])) lent (c .match2 .offsets) =
+    let next : Found base sci pins (w .all ++ (x ∷ [])) (c .match2 .map) (c .match2 .places) (c .match2 .enabled) (c .match2 .cores) × Noting (w .all ++ (x ∷ [])) lent (c .match2 .offsets) =
     ⊎-elim (λ v. let t = type ∙ v .0 .keys1 in let core = type-yes 17 s t in
     let on = by-its-flags s core (rw (sym same, sym (v .1 .ensures)) (sym (v .2 .ensures) ∙ v .3 .taken)) in
     let free : l .cores < 256 = rw (f .cores-is, sym t) (room-core kept t) in
@@ -394,26 +396,26 @@ walk-table-spec =
     said-lio-requires
     cast-n
     from-bytes-requires-3
-    mul-t40
+    mul-t41
     element-set-from-map
     mul-places
     element-write-places
     add-map
     cast-n-2
     from-bytes-requires-4
-    mul-t48
+    mul-t49
     element-set-from-map-2
     mul-places-2
     element-write-places-2
     add-map-2
     cast-n-3
-    from-bytes-requires-5
-    mul-t56
+    bridge-of-requires
+    mul-t57
     element-set-from-map-3
     mul-places-3
     element-write-places-3
     add-map-3
-    from-bytes-requires-6
+    from-bytes-requires-5
     add-at
     loop-less
     loop-again
