@@ -10,9 +10,9 @@ use lib.Dec.{eqb, leb, ltb}
 use lib.ListN.{length, getD}
 use Rattle.words.specs.Lists.{first}
 use Rattle.words.proofs.Choices.{if-cases}
-use Rattle.clashes.proofs.Logic.{and-left, and-right, or-cases}
-use Rattle.kinds.specs.declared.Half.{Half}
-use Rattle.parts.specs.Inputs.{hasBit, leads, hasPin, hasSlot, owns}
+use Rattle.clashes.proofs.Logic.{and-right}
+use Rattle.parts.specs.Inputs.{hasPin, hasSlot, owns}
+use Rattle.parts.proofs.Inputs.{pin-small, leads-small}
 use Rattle.lines.specs.Says.{Said, says}
 use Rattle.lines.specs.Routes.{lioArrival, through, bridge, pinArrival, bioOwner, owner, arrivalOf}
 use Rattle.lines.specs.Traces.{slotTold, pinTold, landed, eioTraced, traced}
@@ -39,17 +39,6 @@ found-holds : {A R : Type 0} (d : A) (P : R → Type 0) (test : A → Bool) (fou
     → ((i : ℕ) → i < length l → test (getD l i d) ≡ true → P (found (getD l i d))) → P none → P (first test found none l)
 found-holds d P test found none l each last =
     ⊎-elim (λ w. subst P (sym (w .3)) (each (w .0) (w .1) (w .2))) (λ w. subst P (sym (w .1)) last) (found-or-not d test found none l)
-
-bit-small : (mask i : ℕ) → hasBit mask i ≡ true → i < 32
-unfolding hasBit
-bit-small mask i h = ltb-true i 32 (and-left (ltb i 32) _ h)
-
-lead-small : (half : Half) (v i : ℕ) → leads half v i ≡ true → i < 32
-lead-small half v i h = bit-small (half .mask) i (and-right (eqb (half .cascade) v) (hasBit (half .mask) i) h)
-
-pin-small : (node v : ℕ) (b : _) → hasPin node v b ≡ true → v < 64
-unfolding hasPin
-pin-small node v b h = ltb-true v 64 (and-right (eqb (b .node) node) (ltb v 64) h)
 
 -- an unused half's byte is 0
 half-small : (mask cascade : ℕ) → ((mask ≡ 0 → ⊥) → (2 ≤ cascade) × (cascade ≤ 9)) → (mask ≡ 0 → cascade ≡ 0) → cascade ≤ 9
@@ -94,8 +83,9 @@ module _ (map : Map) (kept : keepsRules map ≡ true) where
       found-holds noBio (λ (o : Owner). RouteFits (arrivalOf said o)) (owns n) (λ b. ofBio (b .node) (n - b .base)) Nobody (said .bios)
       (λ i k t.
       let base = bioAt said i .base in
-      let high : n < base + 64 = ltb-true _ _ (and-right (leb base n) (ltb n (base + 64)) t) in
-      through-fits (bioAt said i .node) (n - base) (omega arith))
+      let pins = bioAt said i .pins in
+      let high : n < base + pins = ltb-true _ _ (and-right (leb base n) (ltb n (base + pins)) t) in
+      through-fits (bioAt said i .node) (n - base) (omega (arith, bio-fits said ranged i k .4)))
       (omega arith)
 
   arrival-fits : (n : ℕ) → RouteFits (arrivalOf said (owner said n))
@@ -124,7 +114,7 @@ module _ (map : Map) (kept : keepsRules map ≡ true) where
       found-holds noBio TraceFits (hasPin node k) (pinTold said k) (slotTold (said .msis) node k) (said .bios)
       (λ i l t.
       let few = pin-small node k (bioAt said i) t in
-      let fits : bioAt said i .base + k < 2 ^ 32 = omega (arith, bio-fits said ranged i l .2) in
+      let fits : bioAt said i .base + k < 2 ^ 32 = (let fit = bio-fits said ranged i l in omega (arith, fit .2, fit .4)) in
       if-cases TraceFits _ _ _ (λ u. fits) (λ u. fits))
       (slot-fits node k small)
 
@@ -140,8 +130,7 @@ module _ (map : Map) (kept : keepsRules map ≡ true) where
   traced-fits v k =
       if-cases TraceFits _ _ _
       (λ t.
-      let which = or-cases (leads (said .lio .low) v k) (leads (said .lio .high) v k) t in
-      let small : k < 32 = ⊎-elim (lead-small (said .lio .low) v k) (lead-small (said .lio .high) v k) which in
+      let small = leads-small (said .lio .low) (said .lio .high) v k t in
       omega arith)
       (λ t. eio-trace-fits v k)
 

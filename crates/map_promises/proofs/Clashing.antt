@@ -1,32 +1,51 @@
--- Each of 41, 42 and 51 to 53 is told of a map exactly where it is the first that is broken, and names what the documents name.
-use Prim.Native.Nat.{ℕ, zero, suc, _<_}
+-- Each of 41, 42, 45 and 51 to 53 is told of a map exactly where it is the first that is broken, and names what the documents name.
+use Prim.Native.Nat.{ℕ, zero, suc, _<_, _≤_}
 use native.Mathlib.Omega.{arith}
 use mathlib.Core.Path.{_≡_, refl, sym, _∙_}
 use mathlib.Core.Logic.{inr}
 use mathlib.Core.List.{List, [], _∷_}
-use mathlib.Core.Bool.{true, false}
+use mathlib.Core.Bool.{true, false, true≢false}
+use borrow.Author.Tests.{leb-true, le-leb}
+use lib.Dec.{leb}
 use lib.ListN.{getD}
 use Rattle.words.specs.Choice.{if}
 use Rattle.words.specs.Refusals.{refusedWith, rule, unless, firstRefusal}
 use Rattle.words.specs.declared.Verdict.{Verdict}
 use Rattle.words.specs.declared.Verdict.the-variants.{Sound, Refused}
 use Rattle.words.proofs.Verdicts.{first-kept, first-told}
+use Rattle.kinds.specs.declared.Bio.{Bio}
+use Rattle.kinds.specs.declared.Lpc.{Lpc}
+use Rattle.clashes.proofs.Logic.{and-left, and-right}
 use Rattle.clashes.specs.Search.{firstClash, firstLone}
 use Rattle.clashes.specs.Told.{atLater, atBoth, spotted}
 use Rattle.clashes.specs.declared.Claim.{Claim}
-use Rattle.clashes.specs.declared.Pair.the-variants.{None}
+use Rattle.clashes.specs.declared.Pair.the-variants.{None as NoPair}
 use Rattle.lines.specs.Says.{Said, says}
 use Rattle.lines.specs.Claims.{claims}
-use Rattle.lines.specs.Rules.{tooMany, ruleClash, rangesKept, rule51, rule52, rule53, rule54, rulesTo43, rulesFrom51, mapRules, firstBroken}
+use Rattle.lines.specs.Routes.{bridge}
+use Rattle.lines.specs.Rules.{tooMany, noInput, ruleClash, rangesKept, rule51, rule52, rule53, rule54, rulesTo45, rulesFrom51, mapRules, firstBroken}
 use Rattle.lines.specs.declared.Map.{Map}
 use Rattle.lines.specs.declared.Places.{Places}
+use Rattle.lines.specs.declared.Bridge.{Bridge}
+use Rattle.lines.specs.declared.Bridge.the-variants.{Is, None}
 use Rattle.map_promises.specs.Structures.{Structure, Placed}
-use Rattle.map_promises.specs.Clashing.{ShareNode, ShareNumber, ShareVector, ShareCore, Sharing, TwoNode, LoneBio, TwoNumber, TwoVector, TwoCore, Names, NamesLater, NamesLone, OnePlace, KeepsTo40, KeepsTo43, RefusedWith, OthersCarryNone, NodeExactly, LoneExactly, NumberExactly, VectorExactly, CoreExactly}
+use Rattle.map_promises.specs.Clashing.{ShareNode, ShareNumber, ShareVector, ShareCore, Sharing, TwoNode, LoneBio, TwoNumber, TwoVector, TwoCore, Names, NamesLater, NamesLone, OnePlace, KeepsTo40, KeepsTo43, KeepsTo45, NoInput, RefusedWith, OthersCarryNone, NodeExactly, LoneExactly, InputExactly, NumberExactly, VectorExactly, CoreExactly}
 use Rattle.map_promises.proofs.Hubs.{bio-hub, names-lone, finds-lone}
 use Rattle.map_promises.proofs.Meetings.{Agrees, names, sharing, no-sharing, finds-two, finds-nothing}
 use Rattle.map_promises.proofs.Sharing.{node-agrees, number-agrees, vector-agrees, core-agrees, number-sharing, sharing-number, vector-sharing, sharing-vector}
 use Rattle.map_promises.proofs.Unused.{lio-said}
 use Rattle.map_promises.proofs.Verdicts.{eio-there, later-kept, both-kept, spotted-kept, later-told, both-told, spotted-told, rule-read, position, Second, own, told-at}
+
+-- 45: an LPC whose bridge lacks the input of its cascade
+no-input : (lpc : Lpc) (bridge : Bridge) → noInput lpc bridge ≡ true → (lpc .present ≡ true) × (b : Bio) × (bridge ≡ Is b) × (b .pins ≤ lpc .cascade)
+unfolding noInput
+no-input lpc (Is b) h =
+    (and-left (lpc .present) (leb (b .pins) (lpc .cascade)) h, b, refl, leb-true _ _ (and-right (lpc .present) (leb (b .pins) (lpc .cascade)) h))
+no-input lpc None h = absurd (true≢false (sym h))
+
+input-gone : (lpc : Lpc) (bridge : Bridge) → (lpc .present ≡ true) × (b : Bio) × (bridge ≡ Is b) × (b .pins ≤ lpc .cascade) → noInput lpc bridge ≡ true
+unfolding noInput
+input-gone lpc bridge w = rw (w .2, w .0, le-leb (w .1 .pins) (lpc .cascade) (w .3))
 
 module _ (map : Map) (places : Places) (madt fadt : ℕ) where
   abbrev said : Said
@@ -51,6 +70,20 @@ module _ (map : Map) (places : Places) (madt fadt : ℕ) where
       → (getD rules (position n) Sound ≡ Refused (refusedWith n p q)) × ((i : ℕ) → i < position n → getD rules i Sound ≡ Sound)
   told few n p q h = told-at said places madt fadt n p q (sym (from-40 few) ∙ h)
 
+  -- ---- 45
+  module _ (h : KeepsTo43 map places madt) where
+    input-told : (p q : ℕ) → Told 45 p q → NoInput said × OnePlace (λ p. p ≡ places .lpc) p q
+    unfolding mapRules rulesTo45 rulesFrom51 if
+    input-told p q t =
+        let r = told (h .to40 .r38) 45 p q t .0 in
+        let w = rule-read (noInput (said .lpc) (bridge (said .bios))) 45 (places .lpc) 45 p q r in
+        (no-input (said .lpc) (bridge (said .bios)) (w .3), (w .2, w .1))
+
+    input-tells : NoInput said → (p : ℕ) × (q : ℕ) × Told 45 p q
+    unfolding mapRules rulesTo45 rulesFrom51 firstRefusal unless if
+    input-tells w =
+        (places .lpc, 0, from-40 (h .to40 .r38) ∙ rw (h .to40 .r40, h .r41, h .r42, h .r43, input-gone (said .lpc) (bridge (said .bios)) w))
+
   module _ (ok : Placed said places) where
     -- ---- 41 and 42
     module _ (h : KeepsTo40 map madt) where
@@ -58,20 +91,20 @@ module _ (map : Map) (places : Places) (madt fadt : ℕ) where
       nodes = node-agrees said (h .ranges)
 
       node-told : (p q : ℕ) → Told 41 p q → TwoNode said × OnePlace (NamesLater said places (ShareNode said)) p q
-      unfolding mapRules rulesTo43 rulesFrom51 if
+      unfolding mapRules rulesTo45 rulesFrom51 if
       node-told p q t =
           let w = later-told 41 41 p q (firstClash 41 all) (told (h .r38) 41 p q t .0) in
           let named = names said places ok nodes p (w .2 .0) (w .2 .1) in
           (sharing said places ok nodes p (w .2 .0) named, ((w .2 .0, named), w .1))
 
       node-tells : TwoNode said → (p : ℕ) × (q : ℕ) × Told 41 p q
-      unfolding mapRules rulesTo43 rulesFrom51 firstRefusal unless atLater
+      unfolding mapRules rulesTo45 rulesFrom51 firstRefusal unless atLater
       node-tells w =
           let f = finds-two said places ok nodes w in
           (f .0, 0, from-40 (h .r38) ∙ rw (h .r40, f .2))
 
       lone-told : (p q : ℕ) → Told 42 p q → ((TwoNode said → ⊥) × LoneBio said) × OnePlace (NamesLone said places) p q
-      unfolding mapRules rulesTo43 rulesFrom51 if
+      unfolding mapRules rulesTo45 rulesFrom51 if
       lone-told p q t =
           let r = told (h .r38) 42 p q t in
           let w = spotted-told 42 42 p q (firstLone all) (r .0) in
@@ -80,24 +113,24 @@ module _ (map : Map) (places : Places) (madt fadt : ℕ) where
           ((never, (n .j, n .lone)), (n, w .1))
 
       lone-tells : (TwoNode said → ⊥) → LoneBio said → (p : ℕ) × (q : ℕ) × Told 42 p q
-      unfolding mapRules rulesTo43 rulesFrom51 firstRefusal unless atLater spotted
+      unfolding mapRules rulesTo45 rulesFrom51 firstRefusal unless atLater spotted
       lone-tells never w =
           let f = finds-lone said (h .ranges) places ok w in
           (f .0, 0, from-40 (h .r38) ∙ rw (h .r40, finds-nothing said places ok nodes never, f .1))
 
     -- ---- 51 to 53
-    module _ (h : KeepsTo43 map places madt) where
+    module _ (h : KeepsTo45 map places madt) where
       abbrev ranged : rangesKept said ≡ true
-      ranged = h .to40 .ranges
+      ranged = h .to43 .to40 .ranges
 
       abbrev few : tooMany map ≡ false
-      few = h .to40 .r38
+      few = h .to43 .to40 .r38
 
       numbers : Agrees said 51 (ShareNumber said)
       numbers = number-agrees said ranged
 
       vectors : Agrees said 52 (ShareVector said)
-      vectors = vector-agrees said ranged (eio-there said madt (h .to40 .r40)) (bio-hub said ranged places ok (spotted-kept 42 (firstLone all) (h .r42)))
+      vectors = vector-agrees said ranged (eio-there said madt (h .to43 .to40 .r40)) (bio-hub said ranged places ok (spotted-kept 42 (firstLone all) (h .to43 .r42)))
 
       cores : Agrees said 53 (ShareCore said)
       cores = core-agrees said ranged (lio-said (map .lio) .0) (lio-said (map .lio) .1)
@@ -111,28 +144,28 @@ module _ (map : Map) (places : Places) (madt fadt : ℕ) where
           (sharing said places ok agrees p q named, named)
 
       -- the searches before it found nothing
-      clash-none : (k n m : ℕ) → getD rules k Sound ≡ ruleClash n all → k < position m → (p q : ℕ) → Told m p q → firstClash n all ≡ None
+      clash-none : (k n m : ℕ) → getD rules k Sound ≡ ruleClash n all → k < position m → (p q : ℕ) → Told m p q → firstClash n all ≡ NoPair
       clash-none k n m own l p q t = both-kept n (firstClash n all) (sym own ∙ told few m p q t .1 k l)
 
       -- with the rules below 51 kept, the verdict is that of the rest
       from-51 : firstBroken map places madt fadt ≡ firstRefusal (rule51 all ∷ rule52 all ∷ rule53 all ∷ rule54 said fadt ∷ [])
-      unfolding mapRules rulesTo43 rulesFrom51 firstRefusal unless
-      from-51 = from-40 few ∙ rw (h .to40 .r40, h .r41, h .r42, h .r43)
+      unfolding mapRules rulesTo45 rulesFrom51 firstRefusal unless
+      from-51 = from-40 few ∙ rw (h .to43 .to40 .r40, h .to43 .r41, h .to43 .r42, h .to43 .r43, h .r45)
 
-      no-number : (TwoNumber said → ⊥) → firstClash 51 all ≡ None
+      no-number : (TwoNumber said → ⊥) → firstClash 51 all ≡ NoPair
       no-number never = finds-nothing said places ok numbers (λ w. never (sharing-number said w))
 
-      number-none : firstClash 51 all ≡ None → TwoNumber said → ⊥
+      number-none : firstClash 51 all ≡ NoPair → TwoNumber said → ⊥
       number-none e w = no-sharing said places ok numbers e (number-sharing said w)
 
-      no-vector : (TwoVector said → ⊥) → firstClash 52 all ≡ None
+      no-vector : (TwoVector said → ⊥) → firstClash 52 all ≡ NoPair
       no-vector never = finds-nothing said places ok vectors (λ w. never (sharing-vector said w))
 
-      vector-none : firstClash 52 all ≡ None → TwoVector said → ⊥
+      vector-none : firstClash 52 all ≡ NoPair → TwoVector said → ⊥
       vector-none e w = no-sharing said places ok vectors e (vector-sharing said w)
 
       number-told : (p q : ℕ) → Told 51 p q → TwoNumber said × Names said places (ShareNumber said) p q
-      unfolding mapRules rulesTo43 rulesFrom51 if
+      unfolding mapRules rulesTo45 rulesFrom51 if
       number-told p q t =
           let w = clash-told numbers refl p q t in
           (sharing-number said (w .0), w .1)
@@ -144,10 +177,10 @@ module _ (map : Map) (places : Places) (madt fadt : ℕ) where
           (f .0, f .1, from-51 ∙ rw (f .2))
 
       vector-told : (p q : ℕ) → Told 52 p q → ((TwoNumber said → ⊥) × TwoVector said) × Names said places (ShareVector said) p q
-      unfolding mapRules rulesTo43 rulesFrom51 if
+      unfolding mapRules rulesTo45 rulesFrom51 if
       vector-told p q t =
           let w = clash-told vectors refl p q t in
-          let never = number-none (clash-none 4 51 52 refl (omega arith) p q t) in
+          let never = number-none (clash-none 5 51 52 refl (omega arith) p q t) in
           ((never, sharing-vector said (w .0)), w .1)
 
       vector-tells : (TwoNumber said → ⊥) → TwoVector said → (p : ℕ) × (q : ℕ) × Told 52 p q
@@ -158,11 +191,11 @@ module _ (map : Map) (places : Places) (madt fadt : ℕ) where
 
       core-told : (p q : ℕ) → Told 53 p q
           → ((TwoNumber said → ⊥) × (TwoVector said → ⊥) × TwoCore said) × Names said places (ShareCore said) p q
-      unfolding mapRules rulesTo43 rulesFrom51 if
+      unfolding mapRules rulesTo45 rulesFrom51 if
       core-told p q t =
           let w = clash-told cores refl p q t in
-          let never = number-none (clash-none 4 51 53 refl (omega arith) p q t) in
-          let none = vector-none (clash-none 5 52 53 refl (omega arith) p q t) in
+          let never = number-none (clash-none 5 51 53 refl (omega arith) p q t) in
+          let none = vector-none (clash-none 6 52 53 refl (omega arith) p q t) in
           ((never, none, w .0), w .1)
 
       core-tells : (TwoNumber said → ⊥) → (TwoVector said → ⊥) → TwoCore said → (p : ℕ) × (q : ℕ) × Told 53 p q
@@ -187,6 +220,9 @@ node-exactly map places madt fadt ok h = (node-told map places madt fadt ok h, n
 
 pub lone-exactly : (map : Map) (places : Places) (madt fadt : ℕ) → LoneExactly map places madt fadt
 lone-exactly map places madt fadt ok h = (lone-told map places madt fadt ok h, λ w. lone-tells map places madt fadt ok h (w .0) (w .1))
+
+pub input-exactly : (map : Map) (places : Places) (madt fadt : ℕ) → InputExactly map places madt fadt
+input-exactly map places madt fadt h = (input-told map places madt fadt h, input-tells map places madt fadt h)
 
 pub number-exactly : (map : Map) (places : Places) (madt fadt : ℕ) → NumberExactly map places madt fadt
 number-exactly map places madt fadt ok h = (number-told map places madt fadt ok h, number-tells map places madt fadt ok h)

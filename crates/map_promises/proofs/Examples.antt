@@ -13,20 +13,24 @@ use Rattle.parts.specs.Inputs.{hasBit, lesser, hasPin}
 use Rattle.lines.specs.Answers.{routeOf, traceOf}
 use Rattle.lines.specs.Claims.{placed, claims}
 use Rattle.lines.specs.Routes.{lioArrival, through, bridge, pinArrival, bioOwner, owner, arrivalOf, arrival}
-use Rattle.lines.specs.Rules.{eiosFit, biosFit, msisFit, rangesKept, noBridge, lost, rulesTo43, rulesFrom51, mapRules, firstBroken, keepsRules}
+use Rattle.lines.specs.Rules.{eiosFit, biosFit, msisFit, rangesKept, noBridge, noInput, lost, rulesTo45, rulesFrom51, mapRules, firstBroken, keepsRules}
 use Rattle.lines.specs.Traces.{slotTold, isBridge, isLpcPin, pinTold, landed, eioTraced, traced}
 use Rattle.lines.specs.declared.Map.{Map}
-use Rattle.map_promises.specs.Examples.{Question, Told, told, brokenAlone, unusedPlaces, firstNamed, MapExamples}
+use Rattle.map_promises.specs.Examples.{Question, Told, told, brokenAlone, fewerPins, unusedPlaces, firstNamed, MapExamples}
 
 -- what is told, with all that it is computed by
 unfoldable computed : Map → Question → Told
-unfolding if first every fold lioField eioField msiField bioField lpcField usedHalf saidLio saidLpc clash sooner nearer partner better firstClash lonelier firstLone hasBit lesser hasPin routeOf traceOf placed claims lioArrival through bridge pinArrival bioOwner owner arrivalOf arrival atLater atBoth spotted eiosFit biosFit msisFit rangesKept noBridge lost rulesTo43 rulesFrom51 mapRules firstBroken unless firstRefusal isSound keepsRules slotTold isBridge isLpcPin pinTold landed eioTraced traced told
+unfolding if first every fold lioField eioField msiField bioField lpcField usedHalf saidLio saidLpc clash sooner nearer partner better firstClash lonelier firstLone hasBit lesser hasPin routeOf traceOf placed claims lioArrival through bridge pinArrival bioOwner owner arrivalOf arrival atLater atBoth spotted eiosFit biosFit msisFit rangesKept noBridge noInput lost rulesTo45 rulesFrom51 mapRules firstBroken unless firstRefusal isSound keepsRules slotTold isBridge isLpcPin pinTold landed eioTraced traced told
 computed map question = told map question
 
 -- THE PROMISES
 pub broken-alone : MapExamples brokenAlone
 unfolding computed brokenAlone
 broken-alone = refl
+
+pub fewer-pins : MapExamples fewerPins
+unfolding computed fewerPins
+fewer-pins = refl
 
 pub unused-places : MapExamples unusedPlaces
 unfolding computed unusedPlaces

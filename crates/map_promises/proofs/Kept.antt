@@ -5,7 +5,7 @@ use mathlib.Core.Path.{_≡_, refl, sym, _∙_}
 use mathlib.Core.Logic.{⊎-elim}
 use mathlib.Core.List.{_∷_}
 use mathlib.Core.Bool.{Bool, true, false, not, _&&_, true≢false}
-use borrow.Author.Tests.{eqb-true, not-true, not-false}
+use borrow.Author.Tests.{eqb-true, leb-false, not-true, not-false}
 use lib.Bits.{bitAnd}
 use lib.Dec.{eqb}
 use lib.ListN.{length}
@@ -14,13 +14,14 @@ use Rattle.words.specs.declared.Verdict.the-variants.{Sound}
 use Rattle.words.proofs.Verdicts.{is-sound, rule-kept, each-sound}
 use Rattle.kinds.specs.Ranges.{bitInBoth}
 use Rattle.kinds.specs.declared.Bio.{Bio}
+use Rattle.kinds.specs.declared.Lpc.{Lpc}
 use Rattle.clashes.specs.Search.{firstClash, firstLone}
 use Rattle.clashes.specs.declared.Pair.the-variants.{None as NoPair}
 use Rattle.clashes.proofs.Logic.{and-left, and-right}
 use Rattle.lines.specs.Says.{Said, says}
 use Rattle.lines.specs.Routes.{bridge}
 use Rattle.lines.specs.Claims.{claims}
-use Rattle.lines.specs.Rules.{tooMany, noBridge, rangesKept, ruleClash, rulesTo43, rulesFrom51, mapRules, firstBroken, keepsRules, slotPlaces}
+use Rattle.lines.specs.Rules.{tooMany, noBridge, noInput, rangesKept, ruleClash, rulesTo45, rulesFrom51, mapRules, firstBroken, keepsRules, slotPlaces}
 use Rattle.lines.specs.declared.Map.{Map}
 use Rattle.lines.specs.declared.Bridge.{Bridge}
 use Rattle.lines.specs.declared.Bridge.the-variants.{Is, None}
@@ -31,6 +32,7 @@ use Rattle.map_promises.specs.Clashing.{Enters, Sharing, TwoNode, TwoNum
 use Rattle.map_promises.proofs.Hubs.{Hub, bio-hub}
 use Rattle.map_promises.proofs.Logic.{order}
 use Rattle.map_promises.proofs.Meetings.{no-sharing}
+use Rattle.map_promises.proofs.Ranged.{bio-fits}
 use Rattle.map_promises.proofs.Sharing.{node-agrees, number-agrees, vector-agrees, core-agrees, number-sharing, vector-sharing}
 use Rattle.map_promises.proofs.Slots.{slots-placed}
 use Rattle.map_promises.proofs.Unused.{lio-said}
@@ -43,19 +45,20 @@ pub record Good (said : Said) : Type 0 where
   pub some : length (said .eios) ≡ 0 → ⊥
   pub no41 : TwoNode said → ⊥
   pub hub : (j : ℕ) → j < length (said .bios) → Hub said j
-  pub behind : said .lpc .present ≡ true → (b : Bio) × (bridge (said .bios) ≡ Is b)
+  pub behind : said .lpc .present ≡ true → (b : Bio) × (bridge (said .bios) ≡ Is b) × (said .lpc .cascade < b .pins)
   pub no51 : TwoNumber said → ⊥
   pub no52 : TwoVector said → ⊥
   pub no53 : TwoCore said → ⊥
 
--- an LPC that does not lack a bridge has one
-behind-bridge : (present : Bool) (b : Bridge) → noBridge present b ≡ false → present ≡ true → (x : Bio) × (b ≡ Is x)
-unfolding noBridge
-behind-bridge present (Is x) h p = (x, refl)
-behind-bridge present None h p = absurd (true≢false (sym p ∙ h))
+-- an LPC that lacks neither a bridge nor an input has both
+behind-bridge : (lpc : Lpc) (b : Bridge) → noBridge (lpc .present) b ≡ false → noInput lpc b ≡ false → lpc .present ≡ true
+    → (x : Bio) × (b ≡ Is x) × (lpc .cascade < x .pins)
+unfolding noBridge noInput
+behind-bridge lpc (Is x) h i p = (x, refl, leb-false _ _ (rw p at i))
+behind-bridge lpc None h i p = absurd (true≢false (sym p ∙ h))
 
 pub good : (map : Map) → keepsRules map ≡ true → Good (says map)
-unfolding keepsRules firstBroken mapRules rulesTo43 rulesFrom51
+unfolding keepsRules firstBroken mapRules rulesTo45 rulesFrom51
 good map h =
     let said = says map in
     let w = rangesKept said && not (bitInBoth (said .lio)) in
@@ -77,10 +80,12 @@ good map h =
       some = some;
       no41 = no-sharing said slotPlaces ok (node-agrees said ranged) (later-kept 41 (firstClash 41 (claims said slotPlaces)) (f 2));
       hub = hub;
-      behind = behind-bridge (said .lpc .present) (bridge (said .bios)) (rule-kept (noBridge (said .lpc .present) (bridge (said .bios))) 43 14 (f 4));
-      no51 = λ w. no-sharing said slotPlaces ok (number-agrees said ranged) (none 51 (f 5)) (number-sharing said w);
-      no52 = λ w. no-sharing said slotPlaces ok (vector-agrees said ranged some hub) (none 52 (f 6)) (vector-sharing said w);
-      no53 = no-sharing said slotPlaces ok (core-agrees said ranged low0 high0) (none 53 (f 7));
+      behind = behind-bridge (said .lpc) (bridge (said .bios))
+          (rule-kept (noBridge (said .lpc .present) (bridge (said .bios))) 43 14 (f 4))
+          (rule-kept (noInput (said .lpc) (bridge (said .bios))) 45 14 (f 5));
+      no51 = λ w. no-sharing said slotPlaces ok (number-agrees said ranged) (none 51 (f 6)) (number-sharing said w);
+      no52 = λ w. no-sharing said slotPlaces ok (vector-agrees said ranged some hub) (none 52 (f 7)) (vector-sharing said w);
+      no53 = no-sharing said slotPlaces ok (core-agrees said ranged low0 high0) (none 53 (f 8));
     }
 
 -- two numbers that cannot differ are equal
@@ -120,12 +125,13 @@ module _ (said : Said) (g : Good said) where
   pub bio-node : (i j : ℕ) → i < length (said .bios) → j < length (said .bios) → bioAt said i .node ≡ bioAt said j .node → i ≡ j
   bio-node i j hi hj e =
       let w = g .hub i hi in
+      let some : (k : ℕ) → k < length (said .bios) → 0 < bioAt said k .pins = λ k l. bio-fits said (g .ranged) k l .3 in
       same i j
-      (λ n. g .no52 (pin i 0, pin j 0, (hi, omega arith), (hj, omega arith), (λ q. n cc), w .0, 0, w .1, (w .2, refl), (w .2 ∙ e, refl)))
+      (λ n. g .no52 (pin i 0, pin j 0, (hi, some i hi), (hj, some j hj), (λ q. n cc), w .0, 0, w .1, (w .2, refl), (w .2 ∙ e, refl)))
 
   -- 51: two bridges that own one global number are one
   pub bio-number : (i j n : ℕ) → i < length (said .bios) → j < length (said .bios)
-      → bioAt said i .base ≤ n → n < bioAt said i .base + 64 → bioAt said j .base ≤ n → n < bioAt said j .base + 64 → i ≡ j
+      → bioAt said i .base ≤ n → n < bioAt said i .base + bioAt said i .pins → bioAt said j .base ≤ n → n < bioAt said j .base + bioAt said j .pins → i ≡ j
   bio-number i j n hi hj a b c d =
       same i j
       (λ z. g .no51 (
@@ -150,7 +156,7 @@ module _ (said : Said) (g : Good said) where
 
   -- 52: no slot is a pin's extended vector
   pub bio-msi : (j m s : ℕ) → j < length (said .bios) → m < length (said .msis)
-      → s < 64 → msiAt said m .start ≤ s → s < msiAt said m .start + msiAt said m .count → ⊥
+      → s < bioAt said j .pins → msiAt said m .start ≤ s → s < msiAt said m .start + msiAt said m .count → ⊥
   bio-msi j m s hj hm a b c =
       let w = g .hub j hj in
       g .no52 (

@@ -26,5 +26,6 @@ pub mod InOrder
 pub mod Rising
 pub mod WalkKeepsBooks
 pub mod WalkInTableOrder
+pub mod OnlyItsBridges
 pub mod NormalMapsEqual
 pub mod Fields

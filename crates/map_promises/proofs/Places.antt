@@ -19,7 +19,7 @@ use Rattle.clashes.proofs.Searched.{none-lone, lone-none}
 use Rattle.lines.specs.Says.{Said, says}
 use Rattle.lines.specs.Claims.{claims}
 use Rattle.lines.specs.Routes.{bridge, arrival}
-use Rattle.lines.specs.Rules.{tooMany, noBridge, lost, rangesKept, ruleClash, rulesTo43, rulesFrom51, mapRules, firstBroken, keepsRules, slotPlaces}
+use Rattle.lines.specs.Rules.{tooMany, noBridge, noInput, lost, rangesKept, ruleClash, rulesTo45, rulesFrom51, mapRules, firstBroken, keepsRules, slotPlaces}
 use Rattle.lines.specs.declared.Map.{Map}
 use Rattle.lines.specs.declared.Places.{Places}
 use Rattle.lines.proofs.Counts.{counts, few-of-kept}
@@ -64,12 +64,13 @@ known bad n here there h = rule-sound bad n there (rule-kept bad n here h)
 -- no rule is broken here, none there
 moves : (map : Map) (p q : Places) → Placed (says map) p → Placed (says map) q → (a b c d : ℕ)
     → firstBroken map p a b ≡ Sound → firstBroken map q c d ≡ Sound
-unfolding firstBroken mapRules rulesTo43 rulesFrom51 firstRefusal unless
+unfolding firstBroken mapRules rulesTo45 rulesFrom51 firstRefusal unless
 moves map p q op oq a b c d h =
     let said = says map in
     let f = each-sound (rule (tooMany map) 38 a ∷ mapRules said p a b) h in
     let bad40 = not (said .lio .present) || eqb (length (said .eios)) 0 in
     let bad43 = noBridge (said .lpc .present) (bridge (said .bios)) in
+    let bad45 = noInput (said .lpc) (bridge (said .bios)) in
     let bad54 = lost (arrival said (said .sci)) in
     let clash : (n : ℕ) → ruleClash n (claims said p) ≡ Sound → ruleClash n (claims said q) ≡ Sound =
     λ n k. kept-both n (firstClash n (claims said q)) (clash-moves said p q op oq n (both-kept n (firstClash n (claims said p)) k)) in
@@ -78,11 +79,12 @@ moves map p q op oq a b c d h =
     let e41 = kept-later 41 (firstClash 41 (claims said q)) (clash-moves said p q op oq 41 (later-kept 41 (firstClash 41 (claims said p)) (f 2))) in
     let e42 = kept-spotted 42 (firstLone (claims said q)) (lone-moves said p q op oq (spotted-kept 42 (firstLone (claims said p)) (f 3))) in
     let e43 = known bad43 43 (p .lpc) (q .lpc) (f 4) in
-    let e51 = clash 51 (f 5) in
-    let e52 = clash 52 (f 6) in
-    let e53 = clash 53 (f 7) in
-    let e54 = known bad54 54 b d (f 8) in
-    rw (e38, e40, e41, e42, e43, e51, e52, e53, e54)
+    let e45 = known bad45 45 (p .lpc) (q .lpc) (f 5) in
+    let e51 = clash 51 (f 6) in
+    let e52 = clash 52 (f 7) in
+    let e53 = clash 53 (f 8) in
+    let e54 = known bad54 54 b d (f 9) in
+    rw (e38, e40, e41, e42, e43, e45, e51, e52, e53, e54)
 
 few-of-first : (map : Map) (places : Places) (madt fadt : ℕ) → firstBroken map places madt fadt ≡ Sound → tooMany map ≡ false
 unfolding firstBroken

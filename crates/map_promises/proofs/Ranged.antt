@@ -1,4 +1,4 @@
--- What 71 to 77 tell of the structures of a map.
+-- What 71 to 77, and 61 of the number of inputs, tell of the structures of a map.
 use Prim.Native.Nat.{ℕ, _+_, _<_, _≤_}
 use native.Mathlib.Omega.{arith}
 use mathlib.Core.Path.{_≡_, refl}
@@ -8,7 +8,7 @@ use lib.Dec.{eqb, leb}
 use lib.ListN.{length}
 use Rattle.words.specs.Choice.{if}
 use Rattle.words.proofs.Choices.{passed}
-use Rattle.kinds.specs.Ranges.{cascadeFits, nodeFits, countFits, endFits, baseFits, inputFits, halfFits, lioField, eioField, bioField, msiField, lpcField}
+use Rattle.kinds.specs.Ranges.{cascadeFits, nodeFits, countFits, endFits, baseFits, pinsFit, inputFits, halfFits, lioField, eioField, bioField, msiField, lpcField}
 use Rattle.kinds.specs.Used.{noEio, noBio, noMsi}
 use Rattle.kinds.specs.declared.Half.{Half}
 use Rattle.kinds.specs.declared.Lio.{Lio}
@@ -38,14 +38,18 @@ eio-right e h =
       leb-true (e .cascade) 9 (and-right (leb 2 (e .cascade)) (leb (e .cascade) 9) (not-false (cascadeFits (e .cascade)) (a .0))),
     )
 
-bio-right : (b : Bio) → eqb (bioField b) 0 ≡ true → (b .node ≤ 63) × (64 ≤ b .base) × (b .base ≤ 65472)
+bio-right : (b : Bio) → (eqb (bioField b) 0 && pinsFit (b .pins)) ≡ true
+    → (b .node ≤ 63) × (64 ≤ b .base) × (b .base ≤ 65472) × (1 ≤ b .pins) × (b .pins ≤ 64)
 unfolding bioField
 bio-right b h =
-    let a = passed (not (nodeFits (b .node))) 72 _ 0 (eqb-true _ 0 h) (λ z. omega arith) in
+    let a = passed (not (nodeFits (b .node))) 72 _ 0 (eqb-true _ 0 (and-left (eqb (bioField b) 0) (pinsFit (b .pins)) h)) (λ z. omega arith) in
+    let n = and-right (eqb (bioField b) 0) (pinsFit (b .pins)) h in
     let f = fits-of (baseFits (b .base)) 76 (λ z. omega arith) (a .1) in (
       leb-true (b .node) 63 (not-false (nodeFits (b .node)) (a .0)),
       leb-true 64 (b .base) (and-left (leb 64 (b .base)) (leb (b .base) 65472) f),
       leb-true (b .base) 65472 (and-right (leb 64 (b .base)) (leb (b .base) 65472) f),
+      leb-true 1 (b .pins) (and-left (leb 1 (b .pins)) (leb (b .pins) 64) n),
+      leb-true (b .pins) 64 (and-right (leb 1 (b .pins)) (leb (b .pins) 64) n),
     )
 
 msi-right : (m : Msi) → eqb (msiField m) 0 ≡ true → (1 ≤ m .count) × (m .start + m .count ≤ 256)
@@ -94,11 +98,13 @@ module _ (said : Said) (ranged : rangesKept said ≡ true) where
   eio-fits e k =
       eio-right (eioAt said e) (every-at noEio (λ x. eqb (eioField x) 0) (said .eios) (and-right l (eiosFit (said .eios)) to-eios) e k)
 
-  pub bio-fits : (j : ℕ) → j < length (said .bios) → (bioAt said j .node ≤ 63) × (64 ≤ bioAt said j .base) × (bioAt said j .base ≤ 65472)
+  pub bio-fits : (j : ℕ) → j < length (said .bios)
+      → (bioAt said j .node ≤ 63) × (64 ≤ bioAt said j .base) × (bioAt said j .base ≤ 65472)
+      × (1 ≤ bioAt said j .pins) × (bioAt said j .pins ≤ 64)
   unfolding biosFit
   bio-fits j k =
       bio-right (bioAt said j)
-      (every-at noBio (λ x. eqb (bioField x) 0) (said .bios) (and-right (l && eiosFit (said .eios)) (biosFit (said .bios)) to-bios) j k)
+      (every-at noBio (λ x. eqb (bioField x) 0 && pinsFit (x .pins)) (said .bios) (and-right (l && eiosFit (said .eios)) (biosFit (said .bios)) to-bios) j k)
 
   pub msi-fits : (m : ℕ) → m < length (said .msis) → (1 ≤ msiAt said m .count) × (msiAt said m .start + msiAt said m .count ≤ 256)
   unfolding msisFit

@@ -23,7 +23,7 @@ use Rattle.lines.specs.declared.Bridge.the-variants.{Is}
 use Rattle.lines.specs.declared.Owner.the-variants.{LpcInput, LioInput, BioInput, Nobody}
 use Rattle.lines.specs.declared.Route.{Route}
 use Rattle.lines.specs.declared.Route.the-variants.{Arrives, NoOwner, Unwired}
-use Rattle.map_promises.specs.Sources.{input, pin, slot, bioAt}
+use Rattle.map_promises.specs.Sources.{input, pin, slot, bioAt, IsSource}
 use Rattle.map_promises.specs.Routing.{IsSourced, IsUnwired, IsLpcLine, Rest, RouteIsSources, UnwiredExactly, NoOwnerExactly}
 use Rattle.map_promises.proofs.Bridges.{bridge-one}
 use Rattle.map_promises.proofs.Kept.{Good, good, bio-number}
@@ -70,29 +70,30 @@ module _ (map : Map) (kept : keepsRules map ≡ true) where
   g = good map kept
 
   -- a bridge owns its numbers alone
-  owned : (j n : ℕ) → j < length (said .bios) → bioAt said j .base ≤ n → n < bioAt said j .base + 64
+  owned : (j n : ℕ) → j < length (said .bios) → bioAt said j .base ≤ n → n < bioAt said j .base + bioAt said j .pins
       → bioOwner (said .bios) n ≡ BioInput (bioAt said j .node) (n - bioAt said j .base)
   unfolding bioOwner
   owned j n k a b =
       finds noBio (owns n) (λ x. BioInput (x .node) (n - x .base)) Nobody (said .bios) j k
-      (both-true (leb (bioAt said j .base) n) (ltb n (bioAt said j .base + 64)) (le-leb _ _ a) (lt-ltb _ _ b))
+      (both-true (leb (bioAt said j .base) n) (ltb n (bioAt said j .base + bioAt said j .pins)) (le-leb _ _ a) (lt-ltb _ _ b))
       (λ i h t.
       ap (λ m. BioInput (bioAt said m .node) (n - bioAt said m .base))
       (bio-number said g i j n h k
-      (leb-true _ _ (and-left (leb (bioAt said i .base) n) (ltb n (bioAt said i .base + 64)) t))
-      (ltb-true _ _ (and-right (leb (bioAt said i .base) n) (ltb n (bioAt said i .base + 64)) t)) a b))
+      (leb-true _ _ (and-left (leb (bioAt said i .base) n) (ltb n (bioAt said i .base + bioAt said i .pins)) t))
+      (ltb-true _ _ (and-right (leb (bioAt said i .base) n) (ltb n (bioAt said i .base + bioAt said i .pins)) t)) a b))
 
   -- ---- where each kind of number is routed
-  -- the LPC's bridge by its place, and where the LPC lines go
+  -- the LPC's bridge by its place, the pin that the LPC lines share, and where they go
   pub lpc-line : (n : ℕ) → n < 16 → said .lpc .present ≡ true
-      → (j : ℕ) × (j < length (said .bios)) × (bridge (said .bios) ≡ Is (bioAt said j))
+      → (j : ℕ) × IsSource said (pin j (said .lpc .cascade)) × (bridge (said .bios) ≡ Is (bioAt said j))
       × (routeOf map n ≡ through (said .eios) (bioAt said j .node) (said .lpc .cascade))
   unfolding arrivalOf pinArrival
   lpc-line n l p =
       let b = g .behind p in
       let w = bridge-one (said .bios) (b .0) (b .1) in
       let e : bridge (said .bios) ≡ Is (bioAt said (w .0)) = b .1 ∙ ap Is (sym (w .2)) in
-      (w .0, w .1, e, routed map kept n ∙ rw (owner-lpc said n l p, e))
+      let has : said .lpc .cascade < bioAt said (w .0) .pins = rw (w .2) (b .2) in
+      (w .0, (w .1, has), e, routed map kept n ∙ rw (owner-lpc said n l p, e))
 
   input-routed : (i : ℕ) → i < 32 → routeOf map (16 + i) ≡ lioArrival (said .lio) i
   unfolding arrivalOf
@@ -100,7 +101,7 @@ module _ (map : Map) (kept : keepsRules map ≡ true) where
       let same : 16 + i - 16 ≡ i = add-sub-cancel-left 16 i in
       routed map kept (16 + i) ∙ rw (owner-lio said (16 + i) (omega arith) (omega arith), same)
 
-  pub pin-routed : (j v : ℕ) → j < length (said .bios) → v < 64
+  pub pin-routed : (j v : ℕ) → j < length (said .bios) → v < bioAt said j .pins
       → routeOf map (bioAt said j .base + v) ≡ through (said .eios) (bioAt said j .node) v
   unfolding arrivalOf
   pin-routed j v k l =
@@ -125,7 +126,7 @@ module _ (map : Map) (kept : keepsRules map ≡ true) where
   lpc-lands : (n : ℕ) → IsLpcLine said n → Lands n
   lpc-lands n l =
       let w = lpc-line n (l .0) (l .1) in
-      let a = pin-at said g (w .0) (said .lpc .cascade) (w .1) in
+      let a = pin-at said g (w .0) (said .lpc .cascade) (w .1 .0) in
       (_, _, w .3 ∙ a .3)
 
   source-lands : (n : ℕ) → IsSourced said n → Lands n
@@ -158,8 +159,9 @@ module _ (map : Map) (kept : keepsRules map ≡ true) where
       ⊎-elim
       (λ w.
       let base = bioAt said (w .0) .base in
-      let low : base ≤ n = leb-true _ _ (and-left (leb base n) (ltb n (base + 64)) (w .2)) in
-      let high : n < base + 64 = ltb-true _ _ (and-right (leb base n) (ltb n (base + 64)) (w .2)) in
+      let end = base + bioAt said (w .0) .pins in
+      let low : base ≤ n = leb-true _ _ (and-left (leb base n) (ltb n end) (w .2)) in
+      let high : n < end = ltb-true _ _ (and-right (leb base n) (ltb n end) (w .2)) in
       inr (inl (pin (w .0) (n - base), (w .1, omega arith), omega arith)))
       (λ w. inr (inr (inr (routed map kept n ∙ rw (owner-bio said n a, w .1)))))
       (found-or-not noBio (owns n) (λ b. BioInput (b .node) (n - b .base)) Nobody (said .bios))

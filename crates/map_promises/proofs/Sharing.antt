@@ -102,8 +102,8 @@ module _ (said : Said) (ranged : rangesKept said ≡ true) where
   number-clash (slot k s e) y p q n g u v = absurd u
   number-clash (pin i x) (pin j y) p q n g u v =
       rw (
-        lt-ltb (bioAt said i .base) (bioAt said j .base + 64) (omega (arith, p .1, q .1)),
-        lt-ltb (bioAt said j .base) (bioAt said i .base + 64) (omega (arith, p .1, q .1)),
+        lt-ltb (bioAt said i .base) (bioAt said j .base + bioAt said j .pins) (omega (arith, p .1, q .1)),
+        lt-ltb (bioAt said j .base) (bioAt said i .base + bioAt said i .pins) (omega (arith, p .1, q .1)),
       )
 
   -- a claim with no numbers clashes with none
@@ -123,12 +123,12 @@ module _ (said : Said) (ranged : rangesKept said ≡ true) where
       let y = bioAt said j .base in
       let r = runs (at (bio i) .numbers) (at (bio j) .numbers) h in
       ⊎-elim
-      (λ o. (pin i (y - x), pin j 0, ((p, omega (arith, r .0, r .1)), refl), ((q, omega arith), refl), y, omega arith, omega arith))
+      (λ o. (pin i (y - x), pin j 0, ((p, omega (arith, r .0, r .1)), refl), ((q, bio-fits said ranged j q .3), refl), y, omega arith, omega arith))
       (λ o. (
         pin i 0,
         pin j (x - y),
-        ((p, omega arith), refl),
-        ((q, omega (arith, r .0, r .1)), refl),
+        ((p, bio-fits said ranged i p .3), refl),
+        ((q, omega (arith, r .0, r .1, bio-fits said ranged j q .3)), refl),
         x,
         omega arith,
         ⊎-elim (λ z. omega arith) (λ z. omega arith) o,
@@ -151,18 +151,23 @@ module _ (said : Said) (ranged : rangesKept said ≡ true) where
   vector-clash (input i) y p q e k u v = absurd u
   vector-clash (pin i x) (input j) p q e k u v = absurd v
   vector-clash (slot i s f) (input j) p q e k u v = absurd v
-  vector-clash (pin i x) (pin j y) p q e k u v = rw (eq-eqb (bioAt said i .node) (bioAt said j .node) (sym (u .0) ∙ v .0))
+  vector-clash (pin i x) (pin j y) p q e k u v =
+      rw (
+        eq-eqb (bioAt said i .node) (bioAt said j .node) (sym (u .0) ∙ v .0),
+        lt-ltb 0 (0 + bioAt said j .pins) (omega (arith, q .1)),
+        lt-ltb 0 (0 + bioAt said i .pins) (omega (arith, p .1)),
+      )
   vector-clash (pin i x) (slot j s f) p q e k u v =
       rw (
         or-true,
         lt-ltb 0 (msiAt said j .start + msiAt said j .count) (omega (arith, q .3)),
-        lt-ltb (msiAt said j .start) 64 (omega (arith, q .2, p .1, u .1, v .1)),
+        lt-ltb (msiAt said j .start) (0 + bioAt said i .pins) (omega (arith, q .2, p .1, u .1, v .1)),
       )
   vector-clash (slot j s f) (pin i x) p q e k u v =
       rw (
         or-true,
         lt-ltb 0 (msiAt said j .start + msiAt said j .count) (omega (arith, p .3)),
-        lt-ltb (msiAt said j .start) 64 (omega (arith, p .2, q .1, u .1, v .1)),
+        lt-ltb (msiAt said j .start) (0 + bioAt said i .pins) (omega (arith, p .2, q .1, u .1, v .1)),
       )
   vector-clash (slot i s f) (slot j t g) p q e k u v =
       rw (
@@ -195,7 +200,7 @@ module _ (said : Said) (ranged : rangesKept said ≡ true) where
     vector-shared (bio i) (msi k) p q h =
         let r = hub i p in
         let s = msiAt said k .start in
-        let l : s < 64 = vectors (at (bio i)) (at (msi k)) h .2 in (
+        let l : s < bioAt said i .pins = omega (arith, vectors (at (bio i)) (at (msi k)) h .2) in (
           pin i s,
           slot k s (r .0),
           ((p, l), refl),
@@ -209,7 +214,7 @@ module _ (said : Said) (ranged : rangesKept said ≡ true) where
     vector-shared (msi k) (bio i) p q h =
         let r = hub i q in
         let s = msiAt said k .start in
-        let l : s < 64 = vectors (at (msi k)) (at (bio i)) h .1 in (
+        let l : s < bioAt said i .pins = omega (arith, vectors (at (msi k)) (at (bio i)) h .1) in (
           slot k s (r .0),
           pin i s,
           ((p, r .1, omega arith, omega (arith, msi-fits said ranged k p .0)), refl),
@@ -225,7 +230,7 @@ module _ (said : Said) (ranged : rangesKept said ≡ true) where
         let r = hub i p in
         let same : bioAt said i .node ≡ bioAt said j .node =
         ⊎-elim (⊎-elim (λ e. e) (λ e. absurd (omega (arith, bio-fits said ranged i p .0)))) (λ e. absurd (omega (arith, bio-fits said ranged j q .0))) (v .0) in
-        (pin i 0, pin j 0, ((p, omega arith), refl), ((q, omega arith), refl), r .0, 0, r .1, (r .2, refl), (r .2 ∙ same, refl))
+        (pin i 0, pin j 0, ((p, bio-fits said ranged i p .3), refl), ((q, bio-fits said ranged j q .3), refl), r .0, 0, r .1, (r .2, refl), (r .2 ∙ same, refl))
     vector-shared (msi i) (msi k) p q h =
         let v = vectors (at (msi i)) (at (msi k)) h in
         ⊎-elim

@@ -27,7 +27,6 @@ use Rattle.map_promises.proofs.Bridges.{pin-told}
 use Rattle.map_promises.proofs.Kept.{Good, good}
 use Rattle.map_promises.proofs.Logic.{order, is-bool}
 use Rattle.map_promises.proofs.Members.{found-or-not}
-use Rattle.map_promises.proofs.Ranged.{lpc-fits}
 use Rattle.map_promises.proofs.Routing.{owner-nobody, owner-lio, owner-bio, routed, lpc-line, pin-routed}
 use Rattle.map_promises.proofs.Tracing.{tracing-names}
 
@@ -55,8 +54,7 @@ module _ (map : Map) (kept : keepsRules map ≡ true) where
   pub lines-share : LpcLinesShare map
   lines-share n l p =
       let w = lpc-line map kept n l p in
-      let c = lpc-fits said (g .ranged) in
-      (bioAt said (w .0), w .2, w .3 ∙ sym (pin-routed map kept (w .0) (said .lpc .cascade) (w .1) (omega arith)))
+      (bioAt said (w .0), w .2, w .3 ∙ sym (pin-routed map kept (w .0) (said .lpc .cascade) (w .1 .0) (w .1 .1)))
 
   -- ---- there and back
   back-lio : (n v k : ℕ) → 16 ≤ n → n < 48 → routeOf map n ≡ Arrives v k → Tells n (traceOf map v k)
@@ -83,8 +81,9 @@ module _ (map : Map) (kept : keepsRules map ≡ true) where
       ⊎-elim
       (λ w.
       let j = w .0 in
-      let low : bioAt said j .base ≤ n = leb-true _ _ (and-left (leb (bioAt said j .base) n) (ltb n (bioAt said j .base + 64)) (w .2)) in
-      let high : n < bioAt said j .base + 64 = ltb-true _ _ (and-right (leb (bioAt said j .base) n) (ltb n (bioAt said j .base + 64)) (w .2)) in
+      let end = bioAt said j .base + bioAt said j .pins in
+      let low : bioAt said j .base ≤ n = leb-true _ _ (and-left (leb (bioAt said j .base) n) (ltb n end) (w .2)) in
+      let high : n < end = ltb-true _ _ (and-right (leb (bioAt said j .base) n) (ltb n end) (w .2)) in
       let r : through (said .eios) (bioAt said j .node) (n - bioAt said j .base) ≡ Arrives v k =
       rw (routed map kept n, owner-bio said n a, w .3) at q in
       let t = tracing-names map kept (pin j (n - bioAt said j .base)) v k (w .1, omega arith) .0 r in
@@ -106,9 +105,8 @@ module _ (map : Map) (kept : keepsRules map ≡ true) where
       (λ p. absurd (not-arrived v k (rw (routed map kept n, owner-nobody said n l p) at q)))
       (λ p.
       let w = lpc-line map kept n l p in
-      let c = lpc-fits said (g .ranged) in
-      let t = tracing-names map kept (pin (w .0) (said .lpc .cascade)) v k (w .1, omega arith) .0 (sym (w .3) ∙ q) in
-      (bioAt said (w .0), w .2, t ∙ sym (pin-told said g (w .0) (w .1) (said .lpc .cascade)) ∙ pin-is-lpc (w .0) p (w .2)))
+      let t = tracing-names map kept (pin (w .0) (said .lpc .cascade)) v k (w .1) .0 (sym (w .3) ∙ q) in
+      (bioAt said (w .0), w .2, t ∙ sym (pin-told said g (w .0) (w .1 .0) (said .lpc .cascade)) ∙ pin-is-lpc (w .0) p (w .2)))
       (is-bool (said .lpc .present))
 
   pub there-back : ThereAndBack map

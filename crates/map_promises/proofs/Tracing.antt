@@ -68,14 +68,14 @@ module _ (said : Said) (g : Good said) where
   traced-eio e k l = no-if _ _ _ (not-led e k l) (eio-at e k l)
 
   -- a pin lands on the EIO of its bridge's node
-  landed-pin : (j v : ℕ) → j < length (said .bios) → v < 64 → landed said (bioAt said j .node) v ≡ pinTold said v (bioAt said j)
+  landed-pin : (j v : ℕ) → j < length (said .bios) → v < bioAt said j .pins → landed said (bioAt said j .node) v ≡ pinTold said v (bioAt said j)
   unfolding landed hasPin
   landed-pin j v k l =
       finds noBio (hasPin (bioAt said j .node) v) (pinTold said v) (slotTold (said .msis) (bioAt said j .node) v) (said .bios) j k
-      (both-true (eqb (bioAt said j .node) (bioAt said j .node)) (ltb v 64) (eq-eqb (bioAt said j .node) _ refl) (lt-ltb v 64 l))
+      (both-true (eqb (bioAt said j .node) (bioAt said j .node)) (ltb v (bioAt said j .pins)) (eq-eqb (bioAt said j .node) _ refl) (lt-ltb v (bioAt said j .pins) l))
       (λ i h t.
       ap (λ n. pinTold said v (bioAt said n))
-      (bio-node said g i j h k (eqb-true _ _ (and-left (eqb (bioAt said i .node) (bioAt said j .node)) (ltb v 64) t))))
+      (bio-node said g i j h k (eqb-true _ _ (and-left (eqb (bioAt said i .node) (bioAt said j .node)) (ltb v (bioAt said i .pins)) t))))
 
   -- a slot is on every EIO
   slot-at : (m s node : ℕ) → m < length (said .msis) → msiAt said m .start ≤ s → s < msiAt said m .start + msiAt said m .count
@@ -90,7 +90,7 @@ module _ (said : Said) (g : Good said) where
   unfolding landed hasPin
   landed-slot m s node k p q =
       finds-none noBio (hasPin node s) (pinTold said s) (slotTold (said .msis) node s) (said .bios)
-      (λ j h t. bio-msi said g j m s h k (ltb-true s 64 (and-right (eqb (bioAt said j .node) node) (ltb s 64) t)) p q)
+      (λ j h t. bio-msi said g j m s h k (ltb-true s (bioAt said j .pins) (and-right (eqb (bioAt said j .node) node) (ltb s (bioAt said j .pins)) t)) p q)
       ∙ slot-at m s node k p q
 
   pub names : (x : Source) (v k : ℕ) → IsSource said x → arrives said x ≡ Arrives v k → traced said v k ≡ name said x
@@ -163,10 +163,10 @@ module _ (said : Said) (g : Good said) where
       ⊎-elim
       (λ w.
       let t = w .2 in
-      let node = eqb-true _ _ (and-left (eqb (bioAt said (w .0) .node) (eioAt said e .node)) (ltb k 64) t) in
+      let node = eqb-true _ _ (and-left (eqb (bioAt said (w .0) .node) (eioAt said e .node)) (ltb k (bioAt said (w .0) .pins)) t) in
       inl (
         pin (w .0) k,
-        (w .1, ltb-true k 64 (and-right (eqb (bioAt said (w .0) .node) (eioAt said e .node)) (ltb k 64) t)),
+        (w .1, ltb-true k _ (and-right (eqb (bioAt said (w .0) .node) (eioAt said e .node)) (ltb k (bioAt said (w .0) .pins)) t)),
         through-at said g e (bioAt said (w .0) .node) k l (sym node) ∙ ap (λ n. Arrives n k) q,
       ))
       (λ w. ⊎-elim inl (λ z. inr (w .1 ∙ z)) (of-slot e v k l q))

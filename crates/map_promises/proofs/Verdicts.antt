@@ -3,7 +3,7 @@ use Prim.Native.Nat.{ℕ, zero, suc, _-_, _<_, _≤_}
 use native.Mathlib.Omega.{arith}
 use mathlib.Core.Path.{_≡_, refl, sym, ap}
 use mathlib.Core.Logic.{_⊎_, inl, inr}
-use mathlib.Core.Bool.{Bool, not, _||_}
+use mathlib.Core.Bool.{Bool, true, not, _||_}
 use borrow.Author.Tests.{eqb-false}
 use lib.Dec.{eqb, ltb}
 use lib.ListN.{length, getD}
@@ -11,6 +11,7 @@ use Rattle.words.specs.Choice.{if}
 use Rattle.words.specs.Refusals.{refusedWith, rule, firstRefusal}
 use Rattle.words.specs.declared.Refusal.{Refusal}
 use Rattle.words.specs.declared.Verdict.the-variants.{Sound, Refused}
+use Rattle.words.proofs.Choices.{if-cases}
 use Rattle.words.proofs.Verdicts.{not-sound, same-refusal, rule-kept, rule-told, first-told}
 use Rattle.clashes.specs.declared.Spot.{Spot}
 use Rattle.clashes.specs.declared.Spot.the-variants.{At, Nowhere}
@@ -20,7 +21,7 @@ use Rattle.clashes.proofs.Logic.{or-neither}
 use Rattle.lines.specs.Says.{Said}
 use Rattle.lines.specs.Routes.{bridge, arrival}
 use Rattle.clashes.specs.Told.{atLater, atBoth, spotted}
-use Rattle.lines.specs.Rules.{rule40, noBridge, lost, rulesTo43, rulesFrom51, mapRules}
+use Rattle.lines.specs.Rules.{rule40, noBridge, noInput, lost, rulesTo45, rulesFrom51, mapRules}
 use Rattle.lines.specs.declared.Places.{Places}
 
 -- ---- a rule that two structures break, one place or both told, and one that a structure breaks by itself
@@ -75,10 +76,15 @@ module _ (n : ℕ) where
       (ap (λ (r : Refusal). r .number) same, sym (ap (λ (r : Refusal). r .second) same), ap (λ (r : Refusal). At (r .place)) same)
 
 -- a rule at a known place
-pub rule-read : (broken : Bool) (number place n p q : ℕ) → rule broken number place ≡ Refused (refusedWith n p q) → (number ≡ n) × (q ≡ 0)
+pub rule-read : (broken : Bool) (number place n p q : ℕ) → rule broken number place ≡ Refused (refusedWith n p q)
+    → (number ≡ n) × (q ≡ 0) × (p ≡ place) × (broken ≡ true)
 rule-read broken number place n p q h =
-    let same = rule-told broken number place h in
-    (ap (λ (r : Refusal). r .number) same, sym (ap (λ (r : Refusal). r .second) same))
+    let same = rule-told broken number place h in (
+      ap (λ (r : Refusal). r .number) same,
+      sym (ap (λ (r : Refusal). r .second) same),
+      sym (ap (λ (r : Refusal). r .place) same),
+      if-cases (λ v. v ≡ Refused (refusedWith n p q) → broken ≡ true) broken _ _ (λ t e. t) (λ t e. not-sound (sym e)) h,
+    )
 
 -- 40: there is an EIO
 pub eio-there : (said : Said) (madt : ℕ) → rule40 said madt ≡ Sound → length (said .eios) ≡ 0 → ⊥
@@ -90,7 +96,7 @@ eio-there said madt h =
 -- ---- the rules of a map from 40 on
 -- where a rule stands among them
 abbrev pub position : ℕ → ℕ
-position n = if (ltb n 44) (n - 40) (n - 47)
+position n = if (ltb n 44) (n - 40) (if (ltb n 46) (n - 41) (n - 46))
 
 -- a second place is told by 51 to 53 alone
 abbrev pub Second : ℕ → ℕ → Type 0
@@ -108,18 +114,21 @@ two low high e = (ap position (sym e), inl (omega arith, omega arith))
 module _ (said : Said) (places : Places) (madt fadt : ℕ) where
   -- a rule that is broken gives its own number, and no second place but for 51 to 53
   pub own : (k n p q : ℕ) → getD (mapRules said places madt fadt) k Sound ≡ Refused (refusedWith n p q) → Own k n q
-  unfolding mapRules rulesTo43 rulesFrom51 if
+  unfolding mapRules rulesTo45 rulesFrom51 if
   own zero n p q h = let w = rule-read (not (said .lio .present) || eqb (length (said .eios)) 0) 40 madt n p q h in one (w .0) (w .1)
   own (suc zero) n p q h = let w = later-told 41 n p q _ h in one (w .0) (w .1)
   own (suc (suc zero)) n p q h = let w = spotted-told 42 n p q _ h in one (w .0) (w .1)
   own (suc (suc (suc zero))) n p q h =
       let w = rule-read (noBridge (said .lpc .present) (bridge (said .bios))) 43 (places .lpc) n p q h in
       one (w .0) (w .1)
-  own (suc (suc (suc (suc zero)))) n p q h = two (omega arith) (omega arith) (both-told 51 n p q _ h .0)
-  own (suc (suc (suc (suc (suc zero))))) n p q h = two (omega arith) (omega arith) (both-told 52 n p q _ h .0)
-  own (suc (suc (suc (suc (suc (suc zero)))))) n p q h = two (omega arith) (omega arith) (both-told 53 n p q _ h .0)
-  own (suc (suc (suc (suc (suc (suc (suc zero))))))) n p q h = let w = rule-read (lost (arrival said (said .sci))) 54 fadt n p q h in one (w .0) (w .1)
-  own (suc (suc (suc (suc (suc (suc (suc (suc k)))))))) n p q h = not-sound (sym h)
+  own (suc (suc (suc (suc zero)))) n p q h =
+      let w = rule-read (noInput (said .lpc) (bridge (said .bios))) 45 (places .lpc) n p q h in
+      one (w .0) (w .1)
+  own (suc (suc (suc (suc (suc zero))))) n p q h = two (omega arith) (omega arith) (both-told 51 n p q _ h .0)
+  own (suc (suc (suc (suc (suc (suc zero)))))) n p q h = two (omega arith) (omega arith) (both-told 52 n p q _ h .0)
+  own (suc (suc (suc (suc (suc (suc (suc zero))))))) n p q h = two (omega arith) (omega arith) (both-told 53 n p q _ h .0)
+  own (suc (suc (suc (suc (suc (suc (suc (suc zero)))))))) n p q h = let w = rule-read (lost (arrival said (said .sci))) 54 fadt n p q h in one (w .0) (w .1)
+  own (suc (suc (suc (suc (suc (suc (suc (suc (suc k))))))))) n p q h = not-sound (sym h)
 
   -- the number that is told is that of the first broken rule
   pub told-at : (n p q : ℕ) → firstRefusal (mapRules said places madt fadt) ≡ Refused (refusedWith n p q)

@@ -8,11 +8,11 @@ use lib.ListN.{length, getD, length-append}
 use Rattle.words.specs.Choice.{if}
 use Rattle.words.specs.Lists.{those}
 use Rattle.words.proofs.Choices.{yes-if}
-use Rattle.kinds.specs.Makers.{lioOf, eioOf, msiOf, bioOf, lpcOf}
+use Rattle.kinds.specs.Makers.{lioOf, eioOf, msiOf, lpcOf}
 use Rattle.kinds.specs.Used.{noLio, noEio, noBio, noMsi, noLpc, saidLio}
 use Rattle.madt.specs.Pieces.{Whole}
 use Rattle.madt.specs.Rules.{isType}
-use Rattle.madt.specs.Contents.{ofType, howMany, made, standing, inFour, mapOf, placesOf, foundIn}
+use Rattle.madt.specs.Contents.{ofType, howMany, made, standing, inFour, bridgeOf, mapOf, placesOf, foundIn}
 use Rattle.madt.proofs.Contents.{made-many, standing-many}
 use Rattle.madt.proofs.Accepted.{rules-sound, found-is, few-lios, few-eios, few-msis, few-bios, few-lpcs}
 use Rattle.map_promises.specs.Walks.{InTableOrder, WalkInTableOrder}
@@ -72,15 +72,15 @@ module _ (number : ℕ) (before later : List Whole) (x : Whole) {all : List Whol
   four-standing base few =
       at-four 0 (standing number base all) (omega (arith, standing-many number base all)) (howMany number before) ∙ standing-at base
 
-in-table-order : (base sci : ℕ) (all : List Whole) → howMany 18 all ≤ 1 → howMany 20 all ≤ 4 → howMany 21 all ≤ 4 → howMany 22 all ≤ 4 → howMany 23 all ≤ 1
-    → InTableOrder base all (mapOf sci all) (placesOf base all)
+in-table-order : (base sci : ℕ) (pins : ℕ → ℕ) (all : List Whole) → howMany 18 all ≤ 1 → howMany 20 all ≤ 4 → howMany 21 all ≤ 4 → howMany 22 all ≤ 4 → howMany 23 all ≤ 1
+    → InTableOrder base pins all (mapOf sci pins all) (placesOf base all)
 unfolding mapOf placesOf
-in-table-order base sci all lios eios msis bios lpcs =
+in-table-order base sci pins all lios eios msis bios lpcs =
     record {
       lio = λ b l x e t. (one-made 18 b l x e t (λ s. saidLio (lioOf s)) noLio lios, one-standing 18 b l x e t base lios);
       eio = λ b l x e t. (four-made 20 b l x e t eioOf noEio eios, four-standing 20 b l x e t base eios);
       msi = λ b l x e t. (four-made 21 b l x e t msiOf noMsi msis, four-standing 21 b l x e t base msis);
-      bio = λ b l x e t. (four-made 22 b l x e t bioOf noBio bios, four-standing 22 b l x e t base bios);
+      bio = λ b l x e t. (four-made 22 b l x e t (bridgeOf pins) noBio bios, four-standing 22 b l x e t base bios);
       lpc = λ b l x e t. (one-made 23 b l x e t lpcOf noLpc lpcs, one-standing 23 b l x e t base lpcs);
       counts = (refl, refl, refl);
       nolio = λ z. past noLio (made 18 (λ s. saidLio (lioOf s)) all) 0 (omega (arith, made-many 18 (λ s. saidLio (lioOf s)) all));
@@ -88,9 +88,9 @@ in-table-order base sci all lios eios msis bios lpcs =
     }
 
 -- THE PROMISE
-pub walk-in-table-order : (table : List ℕ) (base sci : ℕ) → WalkInTableOrder table base sci
+pub walk-in-table-order : (table : List ℕ) (base sci : ℕ) (pins : ℕ → ℕ) → WalkInTableOrder table base sci pins
 unfolding foundIn
-walk-in-table-order table base sci h =
-    let r = rules-sound table base sci h in
-    rw (found-is table base sci h)
-    (in-table-order base sci _ (few-lios table base r) (few-eios table base r) (few-msis table base r) (few-bios table base r) (few-lpcs table base r))
+walk-in-table-order table base sci pins h =
+    let r = rules-sound table base sci pins h in
+    rw (found-is table base sci pins h)
+    (in-table-order base sci pins _ (few-lios table base r) (few-eios table base r) (few-msis table base r) (few-bios table base r) (few-lpcs table base r))

@@ -6,8 +6,8 @@ use native.Mathlib.Omega.{arith}
 use mathlib.Core.Path.{_≡_, refl, sym, _∙_, ap, subst}
 use mathlib.Core.Logic.{_⊎_, inl, inr, ⊎-elim}
 use mathlib.Core.List.{List}
-use mathlib.Core.Bool.{true, false, _&&_, true≢false}
-use borrow.Author.Tests.{eqb-true, le-ltb}
+use mathlib.Core.Bool.{Bool, true, false, _&&_, true≢false}
+use borrow.Author.Tests.{eqb-true, le-ltb, le-leb}
 use lib.Dec.{eqb}
 use lib.ListN.{length, getD}
 use Rattle.words.specs.Bytes.{byteAt}
@@ -16,9 +16,9 @@ use Rattle.words.specs.Lists.{every}
 use Rattle.words.specs.Refusals.{firstRefusal}
 use Rattle.words.specs.declared.Verdict.the-variants.{Sound}
 use Rattle.words.proofs.Choices.{if-cases}
-use Rattle.clashes.proofs.Logic.{and-left, and-right}
+use Rattle.clashes.proofs.Logic.{and-left, and-right, both-true}
 use Rattle.kinds.specs.Makers.{lioOf, eioOf, msiOf, bioOf, lpcOf}
-use Rattle.kinds.specs.Ranges.{halfFits, bitInBoth, lioField, eioField, bioField, msiField, lpcField}
+use Rattle.kinds.specs.Ranges.{halfFits, bitInBoth, lioField, eioField, bioField, pinsFit, msiField, lpcField}
 use Rattle.kinds.specs.Used.{noLio, noEio, noBio, noMsi, noLpc, usedHalf, saidLio, saidLpc}
 use Rattle.kinds.specs.declared.Lio.{Lio}
 use Rattle.kinds.specs.declared.Lpc.{Lpc}
@@ -28,14 +28,14 @@ use Rattle.lines.specs.declared.Map.{Map}
 use Rattle.lines.specs.declared.Places.{Places}
 use Rattle.madt.specs.Pieces.{Whole, pieces, structures}
 use Rattle.madt.specs.Rules.{isType, sharedBit}
-use Rattle.madt.specs.Contents.{ofType, howMany, made, standing, inFour, mapOf, placesOf, foundIn}
+use Rattle.madt.specs.Contents.{ofType, howMany, made, standing, inFour, bridgeOf, mapOf, placesOf, foundIn}
 use Rattle.madt.specs.Walk.{walkRules, walked}
 use Rattle.madt.proofs.Types.{type-yes}
 use Rattle.madt.proofs.Contents.{made-many, standing-many}
 use Rattle.madt.proofs.Checks.{Kept, fits-lio, fits-eio, fits-msi, fits-bio, fits-lpc}
 use Rattle.madt.proofs.Accepted.{noWhole, rules-sound, found-is, few-eios, few-msis, few-bios, kept-at}
 use Rattle.map_promises.specs.Structures.{Structure, lio, eio, bio, msi, IsIn, placeOf, Placed}
-use Rattle.map_promises.specs.Walks.{Normal, WellKept, WalkKeepsBooks}
+use Rattle.map_promises.specs.Walks.{Normal, PinsInRange, WellKept, WalkKeepsBooks}
 use Rattle.map_promises.proofs.Shelves.{take-four, past, at-four, at-every, map-at}
 use Rattle.map_promises.proofs.InOrder.{pieces-in-order}
 use Rattle.map_promises.proofs.Rising.{Rising, structures-rise, those-rise, rises-at, one-index, those-among}
@@ -145,16 +145,16 @@ same-structure (msi m) (eio f) n i = absurd (omega arith)
 same-structure (msi m) (bio k) n i = absurd (omega arith)
 
 -- ---- what is said of the map
-module _ {until : ℕ} {all : List Whole} (g : Good until all) (sci : ℕ) where
-  said-eios : says (mapOf sci all) .eios ≡ made 20 eioOf all
+module _ {until : ℕ} {all : List Whole} (g : Good until all) (sci : ℕ) (pins : ℕ → ℕ) where
+  said-eios : says (mapOf sci pins all) .eios ≡ made 20 eioOf all
   unfolding mapOf
   said-eios = rw (sym (made-many 20 eioOf all)) (take-four noEio (made 20 eioOf all) (rw (made-many 20 eioOf all) (g .eios)))
 
-  said-bios : says (mapOf sci all) .bios ≡ made 22 bioOf all
+  said-bios : says (mapOf sci pins all) .bios ≡ made 22 (bridgeOf pins) all
   unfolding mapOf
-  said-bios = rw (sym (made-many 22 bioOf all)) (take-four noBio (made 22 bioOf all) (rw (made-many 22 bioOf all) (g .bios)))
+  said-bios = rw (sym (made-many 22 (bridgeOf pins) all)) (take-four noBio (made 22 (bridgeOf pins) all) (rw (made-many 22 (bridgeOf pins) all) (g .bios)))
 
-  said-msis : says (mapOf sci all) .msis ≡ made 21 msiOf all
+  said-msis : says (mapOf sci pins all) .msis ≡ made 21 msiOf all
   unfolding mapOf
   said-msis = rw (sym (made-many 21 msiOf all)) (take-four noMsi (made 21 msiOf all) (rw (made-many 21 msiOf all) (g .msis)))
 
@@ -167,7 +167,7 @@ pub record Standing (next : ℕ) (map : Map) (places : Places) : Type 0 where
   pub lpcbehind : map .lpc .present ≡ true → 0 < places .lpc
   pub lpcbefore : places .lpc < next
 
-module _ {until : ℕ} {all : List Whole} (g : Good until all) (base sci : ℕ) where
+module _ {until : ℕ} {all : List Whole} (g : Good until all) (base sci : ℕ) (pins : ℕ → ℕ) where
   -- where a structure that is there stands
   place-is : (s : Structure) → indexOf s < howMany (numberOf s) all → placeOf (placesOf base all) s ≡ base + wholeAt (numberOf s) all (indexOf s) .at
   unfolding placesOf
@@ -180,14 +180,14 @@ module _ {until : ℕ} {all : List Whole} (g : Good until all) (base sci : ℕ) 
   abbrev There : Structure → Type 0
   There s = (indexOf s < howMany (numberOf s) all) ⊎ ((s ≡ lio) × (placeOf (placesOf base all) s ≡ 0))
 
-  is-there : (s : Structure) → IsIn (says (mapOf sci all)) s → There s
+  is-there : (s : Structure) → IsIn (says (mapOf sci pins all)) s → There s
   unfolding placesOf
   is-there lio h =
       ⊎-elim (λ (e : 0 ≡ howMany 18 all). inr (refl, past 0 (standing 18 base all) 0 (rw (standing-many 18 base all) (omega arith)))) (λ l. inl l)
       (eq-or-lt-of-le (let z : 0 ≤ howMany 18 all = omega arith in z))
-  is-there (eio e) h = inl (omega (arith, ap length (said-eios g sci), made-many 20 eioOf all))
-  is-there (bio j) h = inl (omega (arith, ap length (said-bios g sci), made-many 22 bioOf all))
-  is-there (msi m) h = inl (omega (arith, ap length (said-msis g sci), made-many 21 msiOf all))
+  is-there (eio e) h = inl (omega (arith, ap length (said-eios g sci pins), made-many 20 eioOf all))
+  is-there (bio j) h = inl (omega (arith, ap length (said-bios g sci pins), made-many 22 (bridgeOf pins) all))
+  is-there (msi m) h = inl (omega (arith, ap length (said-msis g sci pins), made-many 21 msiOf all))
 
   behind-header : (s : Structure) → indexOf s < howMany (numberOf s) all → 0 < placeOf (placesOf base all) s
   behind-header s l = omega (arith, place-is s l, inside g (numberOf s) (indexOf s) l .0)
@@ -201,13 +201,13 @@ module _ {until : ℕ} {all : List Whole} (g : Good until all) (base sci : ℕ) 
   apart s t (inr w) (inl b) e = absurd (omega (arith, behind-header t b, w .1))
   apart s t (inr v) (inr w) e = v .0 ∙ sym (w .0)
 
-  placed : Placed (says (mapOf sci all)) (placesOf base all)
+  placed : Placed (says (mapOf sci pins all)) (placesOf base all)
   unfolding placesOf
   placed =
       record {
-        eios = omega (arith, ap length (said-eios g sci), made-many 20 eioOf all, g .eios);
-        bios = omega (arith, ap length (said-bios g sci), made-many 22 bioOf all, g .bios);
-        msis = omega (arith, ap length (said-msis g sci), made-many 21 msiOf all, g .msis);
+        eios = omega (arith, ap length (said-eios g sci pins), made-many 20 eioOf all, g .eios);
+        bios = omega (arith, ap length (said-bios g sci pins), made-many 22 (bridgeOf pins) all, g .bios);
+        msis = omega (arith, ap length (said-msis g sci pins), made-many 21 msiOf all, g .msis);
         apart = λ s t u v e. apart s t (is-there s u) (is-there t v) e;
       }
 
@@ -216,7 +216,7 @@ module _ {until : ℕ} {all : List Whole} (g : Good until all) (base sci : ℕ) 
   there number =
       ⊎-elim (λ (e : 0 ≡ howMany number all). inr (sym e)) (λ l. inl l) (eq-or-lt-of-le (let z : 0 ≤ howMany number all = omega arith in z))
 
-  pub standing-well : Standing (base + until) (mapOf sci all) (placesOf base all)
+  pub standing-well : Standing (base + until) (mapOf sci pins all) (placesOf base all)
   unfolding mapOf placesOf
   standing-well =
       record {
@@ -256,7 +256,7 @@ lio-kept x present field masks =
       normal = rw (half-again (x .low), half-again (x .high));
     })
 
-module _ {until : ℕ} {all : List Whole} (g : Good until all) (sci : ℕ) where
+module _ {until : ℕ} {all : List Whole} (g : Good until all) (sci : ℕ) (pins : ℕ → ℕ) where
   made-lio : (l : 0 < howMany 18 all) → LioKept (saidLio (lioOf (wholeAt 18 all 0 .bytes)))
   unfolding sharedBit lioOf
   made-lio l =
@@ -265,7 +265,7 @@ module _ {until : ℕ} {all : List Whole} (g : Good until all) (sci : ℕ) where
       let t = typed g 18 0 l in
       lio-kept (lioOf s) refl (fits-lio k t) (rw (type-yes 18 s t) at (k .r37))
 
-  the-lio : LioKept (mapOf sci all .lio)
+  the-lio : LioKept (mapOf sci pins all .lio)
   unfolding mapOf
   the-lio =
       ⊎-elim
@@ -277,7 +277,7 @@ module _ {until : ℕ} {all : List Whole} (g : Good until all) (sci : ℕ) where
   abbrev LpcKept : Lpc → Type 0
   LpcKept x = (eqb (lpcField x) 0 ≡ true) × (saidLpc x ≡ x)
 
-  the-lpc : LpcKept (mapOf sci all .lpc)
+  the-lpc : LpcKept (mapOf sci pins all .lpc)
   unfolding mapOf lpcField saidLpc lpcOf if
   the-lpc =
       ⊎-elim
@@ -286,33 +286,39 @@ module _ {until : ℕ} {all : List Whole} (g : Good until all) (sci : ℕ) where
       (eq-or-lt-of-le (let z : 0 ≤ howMany 23 all = omega arith in z))
 
   -- each structure of a kind that may repeat
-  fit-all : {A : Type 0} (number : ℕ) (maker : List ℕ → A) (none : A) (field : A → ℕ)
-      → ((n : ℕ) (s : List ℕ) → Kept n s → byteAt s 0 ≡ number → eqb (field (maker s)) 0 ≡ true)
-      → every (λ x. eqb (field x) 0) (made number maker all) ≡ true
-  fit-all number maker none field fits =
-      at-every none (λ x. eqb (field x) 0) (made number maker all)
+  fit-all : {A : Type 0} (number : ℕ) (maker : List ℕ → A) (none : A) (test : A → Bool)
+      → ((n : ℕ) (s : List ℕ) → Kept n s → byteAt s 0 ≡ number → test (maker s) ≡ true) → every test (made number maker all) ≡ true
+  fit-all number maker none test fits =
+      at-every none test (made number maker all)
       (λ i l.
       let here : i < howMany number all = omega (arith, made-many number maker all) in
       let k = kept g number i here in
       rw (makes g number i here maker none) (fits (k .0) (wholeAt number all i .bytes) (k .1) (typed g number i here)))
 
-  ranges : rangesKept (says (mapOf sci all)) ≡ true
+  -- a bridge: 7 has looked at its number of inputs
+  bridge-fits : PinsInRange pins → (n : ℕ) (s : List ℕ) → Kept n s → byteAt s 0 ≡ 22 → (eqb (bioField (bridgeOf pins s)) 0 && pinsFit (bridgeOf pins s .pins)) ≡ true
+  unfolding bridgeOf bioField
+  bridge-fits in-range n s k t =
+      let few = in-range (bioOf s .node) in
+      both-true _ _ (fits-bio k t) (both-true _ _ (le-leb 1 _ (few .0)) (le-leb _ 64 (few .1)))
+
+  ranges : PinsInRange pins → rangesKept (says (mapOf sci pins all)) ≡ true
   unfolding rangesKept eiosFit biosFit msisFit
-  ranges =
+  ranges in-range =
       rw (
         the-lio .normal,
         the-lio .fits,
-        said-eios g sci,
-        fit-all 20 eioOf noEio eioField (λ n s k t. fits-eio k t),
-        said-bios g sci,
-        fit-all 22 bioOf noBio bioField (λ n s k t. fits-bio k t),
-        said-msis g sci,
-        fit-all 21 msiOf noMsi msiField (λ n s k t. fits-msi k t),
+        said-eios g sci pins,
+        fit-all 20 eioOf noEio (λ e. eqb (eioField e) 0) (λ n s k t. fits-eio k t),
+        said-bios g sci pins,
+        fit-all 22 (bridgeOf pins) noBio (λ b. eqb (bioField b) 0 && pinsFit (b .pins)) (bridge-fits in-range),
+        said-msis g sci pins,
+        fit-all 21 msiOf noMsi (λ m. eqb (msiField m) 0) (λ n s k t. fits-msi k t),
         the-lpc .1,
         the-lpc .0,
       )
 
-  few : tooMany (mapOf sci all) ≡ false
+  pub few : tooMany (mapOf sci pins all) ≡ false
   unfolding mapOf
   few = rw (le-ltb 4 (howMany 20 all) (g .eios), le-ltb 4 (howMany 22 all) (g .bios), le-ltb 4 (howMany 21 all) (g .msis))
 
@@ -323,37 +329,43 @@ module _ {until : ℕ} {all : List Whole} (g : Good until all) (sci : ℕ) where
       at-four none (made number maker all) (omega (arith, made-many number maker all)) i
       ∙ past none (made number maker all) i (omega (arith, made-many number maker all))
 
-  normal : Normal (mapOf sci all)
+  normal : Normal (mapOf sci pins all)
   unfolding mapOf
   normal =
-      let l = lio-unused (mapOf sci all .lio) (mapOf sci all .lio .present) refl (the-lio .normal) in
+      let l = lio-unused (mapOf sci pins all .lio) (mapOf sci pins all .lio .present) refl (the-lio .normal) in
       record {
         foureios = refl;
         fourbios = refl;
         fourmsis = refl;
         eios = unused 20 eioOf noEio (g .eios);
-        bios = unused 22 bioOf noBio (g .bios);
+        bios = unused 22 (bridgeOf pins) noBio (g .bios);
         msis = unused 21 msiOf noMsi (g .msis);
         low = l .0;
         high = l .1;
         nolio = l .2;
-        nolpc = lpc-unused (mapOf sci all .lpc) (the-lpc .1);
+        nolpc = lpc-unused (mapOf sci pins all .lpc) (the-lpc .1);
       }
 
-  pub well-kept : (base : ℕ) → WellKept (mapOf sci all) (placesOf base all)
-  well-kept base =
-      record { placed = placed g base sci; ranges = ranges; r37 = rw (the-lio .normal) (the-lio .masks); r38 = few; normal = normal }
+  pub well-kept : PinsInRange pins → (base : ℕ) → WellKept (mapOf sci pins all) (placesOf base all)
+  well-kept in-range base =
+      record { placed = placed g base sci pins; ranges = ranges in-range; r37 = rw (the-lio .normal) (the-lio .masks); r38 = few; normal = normal }
 
 -- the walk of a MADT, from its first structure to the end
-pub walk-stands : (table : List ℕ) (base sci until : ℕ) → 44 ≤ until → length table ≤ until → walked table base sci .verdict ≡ Sound
-    → Standing (base + until) (walked table base sci .found .map) (walked table base sci .found .places)
+pub walk-stands : (table : List ℕ) (base sci : ℕ) (pins : ℕ → ℕ) (until : ℕ) → 44 ≤ until → length table ≤ until → walked table base sci pins .verdict ≡ Sound
+    → Standing (base + until) (walked table base sci pins .found .map) (walked table base sci pins .found .places)
 unfolding foundIn
-walk-stands table base sci until first all h =
-    rw (found-is table base sci h) (standing-well (good table base until (rules-sound table base sci h) first all) base sci)
+walk-stands table base sci pins until first all h =
+    rw (found-is table base sci pins h) (standing-well (good table base until (rules-sound table base sci pins h) first all) base sci pins)
+
+-- no kind has too many, whatever is told of bridges
+pub walk-few : (table : List ℕ) (base sci : ℕ) (pins : ℕ → ℕ) → walked table base sci pins .verdict ≡ Sound → tooMany (walked table base sci pins .found .map) ≡ false
+unfolding foundIn
+walk-few table base sci pins h =
+    rw (found-is table base sci pins h) (few (good table base (44 + length table) (rules-sound table base sci pins h) (omega arith) (omega arith)) sci pins)
 
 -- THE PROMISE
-pub walk-keeps-books : (table : List ℕ) (base sci : ℕ) → WalkKeepsBooks table base sci
+pub walk-keeps-books : (table : List ℕ) (base sci : ℕ) (pins : ℕ → ℕ) → WalkKeepsBooks table base sci pins
 unfolding foundIn mapOf
-walk-keeps-books table base sci h =
-    let g = good table base (44 + length table) (rules-sound table base sci h) (omega arith) (omega arith) in
-    rw (found-is table base sci h) (well-kept g sci base, refl)
+walk-keeps-books table base sci pins in-range h =
+    let g = good table base (44 + length table) (rules-sound table base sci pins h) (omega arith) (omega arith) in
+    rw (found-is table base sci pins h) (well-kept g sci pins in-range base, refl)

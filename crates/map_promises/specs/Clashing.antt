@@ -1,5 +1,5 @@
 -- What two structures may not share, and what is told of it: document 01, "Refusals in order", 41, 42 and 51 to 53, each by
--- itself, and the second place that W-202 of document 02 gives to 51 to 53. The sharing is said of sources and controllers, not of
+-- itself, with 45 of W-212 of document 02, and the second place that W-202 gives to 51 to 53. The sharing is said of sources and controllers, not of
 -- claims. Each statement at the end stands alone; proofs/Clashing.antt has a theorem for it.
 use Prim.Native.Nat.{ℕ, _<_, _≤_}
 use mathlib.Core.Bool.{true, false}
@@ -9,11 +9,14 @@ use lib.ListN.{length}
 use Rattle.words.specs.Refusals.{refusedWith}
 use Rattle.words.specs.declared.Verdict.the-variants.{Sound, Refused}
 use Rattle.kinds.specs.Ranges.{bitInBoth}
+use Rattle.kinds.specs.declared.Bio.{Bio}
 use Rattle.lines.specs.Says.{Said, says}
+use Rattle.lines.specs.Routes.{bridge}
 use Rattle.lines.specs.Claims.{claims}
-use Rattle.lines.specs.Rules.{tooMany, rangesKept, rule40, rule41, rule42, rule43, firstBroken}
+use Rattle.lines.specs.Rules.{tooMany, rangesKept, rule40, rule41, rule42, rule43, rule45, firstBroken}
 use Rattle.lines.specs.declared.Map.{Map}
 use Rattle.lines.specs.declared.Places.{Places}
+use Rattle.lines.specs.declared.Bridge.the-variants.{Is}
 use Rattle.map_promises.specs.Sources.{Source, input, pin, slot, eioAt, bioAt, IsSource, HasNumber, LandsOn}
 use Rattle.map_promises.specs.Structures.{Structure, lio, eio, bio, msi, IsIn, placeOf, Placed}
 
@@ -85,6 +88,10 @@ IsLone said j =
 abbrev pub LoneBio : Said → Type 0
 LoneBio said = (j : ℕ) × IsLone said j
 
+-- 45: the LPC has "a cascade at or past its bridge's count"
+abbrev pub NoInput : Said → Type 0
+NoInput said = (said .lpc .present ≡ true) × (b : Bio) × (bridge (said .bios) ≡ Is b) × (b .pins ≤ said .lpc .cascade)
+
 -- 51: "two sources share a global number"
 abbrev pub TwoNumber : Said → Type 0
 TwoNumber said =
@@ -139,12 +146,17 @@ pub record KeepsTo40 (map : Map) (madt : ℕ) : Type 0 where
   pub r38 : tooMany map ≡ false
   pub r40 : rule40 (says map) madt ≡ Sound
 
--- no rule below 51 is broken
+-- no rule below 45 is broken
 pub record KeepsTo43 (map : Map) (places : Places) (madt : ℕ) : Type 0 where
   pub to40 : KeepsTo40 map madt
   pub r41 : rule41 (claims (says map) places) ≡ Sound
   pub r42 : rule42 (claims (says map) places) ≡ Sound
   pub r43 : rule43 (says map) (places .lpc) ≡ Sound
+
+-- no rule below 51 is broken
+pub record KeepsTo45 (map : Map) (places : Places) (madt : ℕ) : Type 0 where
+  pub to43 : KeepsTo43 map places madt
+  pub r45 : rule45 (says map) (places .lpc) ≡ Sound
 
 -- ---- demand 3, its last sentence: the statements
 -- the map is refused with n, at p, with the second place q
@@ -171,23 +183,29 @@ LoneExactly map places madt fadt =
     Placed (says map) places → KeepsTo40 map madt
     → Exactly (RefusedWith map places madt fadt 42) ((TwoNode (says map) → ⊥) × LoneBio (says map)) (OnePlace (NamesLone (says map) places))
 
+-- 45: exactly when there is an LPC, and the input of its cascade is none that its bridge has; the LPC is named
+abbrev pub InputExactly : Map → Places → ℕ → ℕ → Type 0
+InputExactly map places madt fadt =
+    KeepsTo43 map places madt
+    → Exactly (RefusedWith map places madt fadt 45) (NoInput (says map)) (OnePlace (λ p. p ≡ places .lpc))
+
 -- 51: exactly when two sources share a global number; named are the later of their structures and the earliest that it shares with
 abbrev pub NumberExactly : Map → Places → ℕ → ℕ → Type 0
 NumberExactly map places madt fadt =
-    Placed (says map) places → KeepsTo43 map places madt
+    Placed (says map) places → KeepsTo45 map places madt
     → Exactly (RefusedWith map places madt fadt 51) (TwoNumber (says map)) (Names (says map) places (ShareNumber (says map)))
 
 -- 52: exactly when no two sources do, and two share an extended vector of one EIO
 abbrev pub VectorExactly : Map → Places → ℕ → ℕ → Type 0
 VectorExactly map places madt fadt =
-    Placed (says map) places → KeepsTo43 map places madt
+    Placed (says map) places → KeepsTo45 map places madt
     → Exactly (RefusedWith map places madt fadt 52) ((TwoNumber (says map) → ⊥) × TwoVector (says map))
     (Names (says map) places (ShareVector (says map)))
 
 -- 53: exactly when no two sources share either, and two controllers enter one core vector
 abbrev pub CoreExactly : Map → Places → ℕ → ℕ → Type 0
 CoreExactly map places madt fadt =
-    Placed (says map) places → KeepsTo43 map places madt
+    Placed (says map) places → KeepsTo45 map places madt
     → Exactly (RefusedWith map places madt fadt 53)
     ((TwoNumber (says map) → ⊥) × (TwoVector (says map) → ⊥) × TwoCore (says map))
     (Names (says map) places (ShareCore (says map)))

@@ -22,7 +22,7 @@ use Rattle.lines.specs.declared.Places.{Places}
 use Rattle.lines.specs.declared.Route.{Route}
 use Rattle.lines.specs.declared.Route.the-variants.{Arrives, NoOwner, Refused}
 use Rattle.lines.specs.declared.Trace.{Trace}
-use Rattle.lines.specs.declared.Trace.the-variants.{BioInput, MsiSlot, Refused as NoTrace}
+use Rattle.lines.specs.declared.Trace.the-variants.{Nothing, BioInput, LpcCascade, MsiSlot, Refused as NoTrace}
 
 -- ---- structures
 -- a LIO by its low and its high half, each by cascade and mask
@@ -30,12 +30,16 @@ abbrev pub lio : ℕ → ℕ → ℕ → ℕ → Lio
 lio low lowmask high highmask =
     record { present = true; low = record { cascade = low; mask = lowmask }; high = record { cascade = high; mask = highmask } }
 
--- an EIO by its cascade and its node, a bridge by its hardware ID and its base, slots by the first and their number
+-- an EIO by its cascade and its node; a bridge by its hardware ID and its base, with 64 inputs or so many; slots by the first and
+-- their number
 abbrev pub eio : ℕ → ℕ → Eio
 eio cascade node = record { cascade = cascade; node = node; nodes = 1 }
 
+abbrev pub shortBio : ℕ → ℕ → ℕ → Bio
+shortBio node base pins = record { node = node; base = base; pins = pins }
+
 abbrev pub bio : ℕ → ℕ → Bio
-bio node base = record { node = node; base = base }
+bio node base = shortBio node base 64
 
 abbrev pub msi : ℕ → ℕ → Msi
 msi start count = record { start = start; count = count }
@@ -102,6 +106,10 @@ withLpc other = holding lioA eiosA biosA msisA other 75
 
 abbrev pub withSci : ℕ → Map
 withSci = holding lioA eiosA biosA msisA (lpc 19)
+
+-- one bridge with so many inputs
+abbrev pub withPins : ℕ → ℕ × List Msi → Lpc → ℕ → Map
+withPins pins = holding lioA eiosA (bios (shortBio 0 64 pins ∷ []))
 
 -- two EIO, of nodes 0 and 5
 abbrev pub onTwo : ℕ × List Bio → ℕ × List Msi → Map
@@ -176,6 +184,11 @@ brokenAlone =
     ∷ no72 (withBios (bios (bio 0 63 ∷ [])))
     ∷ no26 (holding lioA eiosA (bios (bio 0 65473 ∷ [])) msisA (lpc 19) 26)
     ∷ no72 (withLpc (lpc 64))
+    -- a count outside 1 to 64
+    ∷ no26 (withPins 0 msisA (absentLpc 0) 26)
+    ∷ no72 (withPins 65 (msis (msi 65 191 ∷ [])) (lpc 19) 75)
+    ∷ no72 (withPins 65535 (msis []) (lpc 19) 75)
+    ∷ example (withPins 1 msisA (absentLpc 0) 64) (number 64) (routed (Arrives 3 0))
     -- 37
     ∷ no72 (withLio (lio 2 255 5 128))
     -- 38
@@ -190,12 +203,36 @@ brokenAlone =
     ∷ no72 (withEios (eios (eio 3 0 ∷ eio 4 0 ∷ [])))
     ∷ no72 (withBios (bios (bio 0 64 ∷ bio 9 128 ∷ [])))
     ∷ no26 (holding lioA eiosA (bios []) msisA (lpc 19) 26)
+    -- 45
+    ∷ no26 (withPins 19 msisA (lpc 19) 26)
+    ∷ example (withPins 20 msisA (lpc 19) 26) (number 3) (routed (Arrives 3 19))
     -- 51 to 54
     ∷ no72 (onTwo (bios (bio 0 64 ∷ bio 5 127 ∷ [])) msisA)
     ∷ no72 (withMsis (msis (msi 63 193 ∷ [])))
     ∷ no72 (withEios (eios (eio 2 0 ∷ [])))
     ∷ no72 (withSci 45)
     ∷ example (withSci 45) (arrival 3 8) (traced (NoTrace badMap))
+    ∷ []
+
+-- ---- "A new bridge has 32 inputs": its numbers, its vectors, and what others may have behind it (W-212 of document 02)
+abbrev pub with32 : Map
+with32 = withPins 32 (msis (msi 32 224 ∷ [])) (lpc 19) 75
+
+abbrev pub behind32 : Map
+behind32 = onTwo (bios (shortBio 0 64 32 ∷ bio 5 96 ∷ [])) msisA
+
+unfoldable pub fewerPins : List Example
+fewerPins =
+    example with32 (number 95) (routed (Arrives 3 31))
+    ∷ example with32 (number 96) (routed NoOwner)
+    ∷ example with32 (arrival 3 31) (traced (BioInput 95))
+    ∷ example with32 (arrival 3 32) (traced (MsiSlot 0 32))
+    ∷ example with32 (arrival 3 19) (traced (LpcCascade 83))
+    ∷ example (withPins 32 msisA (lpc 19) 75) (arrival 3 32) (traced Nothing)
+    ∷ example behind32 (number 95) (routed (Arrives 3 31))
+    ∷ example behind32 (number 96) (routed (Arrives 4 0))
+    ∷ example behind32 (number 160) (routed NoOwner)
+    ∷ example behind32 (arrival 4 0) (traced (BioInput 96))
     ∷ []
 
 -- ---- "its unused places … hold 0, and 61 doesn't look at them": nor does any answer
@@ -223,9 +260,20 @@ firstNamed =
     ∷ names (withEios (eios (eio 3 0 ∷ eio 3 0 ∷ []))) (at 207 230 243 262) 41 294 0
     ∷ names (withBios (bios (bio 9 64 ∷ []))) (at 207 230 243 262) 42 262 0
     ∷ names (withBios (bios [])) (at 207 230 243 262) 43 279 0
+    -- 45, behind 42 and before 51, by the count of the LPC's own bridge
+    ∷ names (withBios (bios (shortBio 9 64 19 ∷ []))) (at 207 230 243 262) 42 262 0
+    ∷ names (withPins 19 msisA (lpc 19) 26) (at 207 230 243 262) 45 279 0
+    ∷ names (withBios (bios (shortBio 0 64 19 ∷ shortBio 0 64 19 ∷ []))) (at 207 230 243 262) 45 279 0
+    ∷ example (onTwo (bios (bio 0 64 ∷ shortBio 5 128 10 ∷ [])) msisA) (rules (at 207 230 243 262)) (judged verdicts.Sound)
     ∷ names (withBios (bios (bio 0 64 ∷ bio 0 64 ∷ []))) (at 207 230 243 262) 51 314 262
     ∷ names (onTwo (bios (bio 0 64 ∷ bio 5 127 ∷ [])) msisA) (at 207 230 243 262) 51 314 262
     ∷ names (withBios (bios (bio 0 64 ∷ bio 0 128 ∷ []))) (at 207 230 243 262) 52 314 262
+    -- by the counts
+    ∷ names (onTwo (bios (shortBio 0 64 33 ∷ bio 5 96 ∷ [])) msisA) (at 207 230 243 262) 51 314 262
+    ∷ example behind32 (rules (at 207 230 243 262)) (judged verdicts.Sound)
+    ∷ names (withPins 33 (msis (msi 32 224 ∷ [])) (lpc 19) 75) (at 207 230 243 262) 52 262 243
+    ∷ example with32 (rules (at 207 230 243 262)) (judged verdicts.Sound)
+    ∷ names (withPins 32 msisA (lpc 19) 96) (at 207 230 243 262) 54 400 0
     -- of slots and a bridge the later is named, and never the EIO
     ∷ names (withMsis (msis (msi 63 193 ∷ []))) (at 207 230 243 262) 52 262 243
     ∷ names (withMsis (msis (msi 0 64 ∷ []))) (at 207 230 262 243) 52 262 243

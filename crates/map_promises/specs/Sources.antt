@@ -12,7 +12,7 @@ use Rattle.kinds.specs.Used.{noEio, noBio, noMsi}
 use Rattle.kinds.specs.declared.Eio.{Eio}
 use Rattle.kinds.specs.declared.Bio.{Bio}
 use Rattle.kinds.specs.declared.Msi.{Msi}
-use Rattle.parts.specs.Inputs.{wired, pins}
+use Rattle.parts.specs.Inputs.{wired}
 use Rattle.lines.specs.Says.{Said}
 use Rattle.lines.specs.Routes.{lioArrival, through}
 use Rattle.lines.specs.declared.Route.{Route}
@@ -40,7 +40,7 @@ msiAt said m = getD (said .msis) m noMsi
 -- a source of the map: wired, or an input that a bridge has, or a slot from start to start + count - 1
 abbrev pub IsSource : Said → Source → Type 0
 IsSource said (input i) = wired (said .lio) i ≡ true
-IsSource said (pin j v) = (j < length (said .bios)) × (v < pins (bioAt said j))
+IsSource said (pin j v) = (j < length (said .bios)) × (v < bioAt said j .pins)
 IsSource said (slot m s e) =
     (m < length (said .msis)) × (e < length (said .eios)) × (msiAt said m .start ≤ s) × (s < msiAt said m .start + msiAt said m .count)
 

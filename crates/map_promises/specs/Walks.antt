@@ -15,14 +15,14 @@ use Rattle.lines.specs.declared.Map.{Map}
 use Rattle.lines.specs.declared.Places.{Places}
 use Rattle.madt.specs.Pieces.{Whole, pieces, structures}
 use Rattle.madt.specs.Rules.{isType}
-use Rattle.madt.specs.Contents.{howMany}
+use Rattle.madt.specs.Contents.{howMany, bridgeOf}
 use Rattle.madt.specs.Walk.{walked}
 use Rattle.map_promises.specs.Structures.{Placed}
 
 -- ---- "The map holds the used fields of LIO, EIO, BIO, MSI and LPC, in table order"
 -- Let the structures of a MADT, which stands at `base`, be some, then x, then others. What x makes stands in the map behind what those
--- of its kind before it make, and its place beside it.
-pub record InTableOrder (base : ℕ) (all : List Whole) (map : Map) (places : Places) : Type 0 where
+-- of its kind before it make, and its place beside it. A BIO has as many inputs as `pins` tells of its hardware ID.
+pub record InTableOrder (base : ℕ) (pins : ℕ → ℕ) (all : List Whole) (map : Map) (places : Places) : Type 0 where
   pub lio : (before later : List Whole) (x : Whole) → all ≡ before ++ (x ∷ later) → isType 18 (x .bytes) ≡ true
       → (map .lio ≡ saidLio (lioOf (x .bytes))) × (places .lio ≡ base + x .at)
   pub eio : (before later : List Whole) (x : Whole) → all ≡ before ++ (x ∷ later) → isType 20 (x .bytes) ≡ true
@@ -30,7 +30,7 @@ pub record InTableOrder (base : ℕ) (all : List Whole) (map : Map) (places : Pl
   pub msi : (before later : List Whole) (x : Whole) → all ≡ before ++ (x ∷ later) → isType 21 (x .bytes) ≡ true
       → (getD (map .msis) (howMany 21 before) noMsi ≡ msiOf (x .bytes)) × (getD (places .msis) (howMany 21 before) 0 ≡ base + x .at)
   pub bio : (before later : List Whole) (x : Whole) → all ≡ before ++ (x ∷ later) → isType 22 (x .bytes) ≡ true
-      → (getD (map .bios) (howMany 22 before) noBio ≡ bioOf (x .bytes)) × (getD (places .bios) (howMany 22 before) 0 ≡ base + x .at)
+      → (getD (map .bios) (howMany 22 before) noBio ≡ bridgeOf pins (x .bytes)) × (getD (places .bios) (howMany 22 before) 0 ≡ base + x .at)
   pub lpc : (before later : List Whole) (x : Whole) → all ≡ before ++ (x ∷ later) → isType 23 (x .bytes) ≡ true
       → (map .lpc ≡ lpcOf (x .bytes)) × (places .lpc ≡ base + x .at)
   -- and nothing else does
@@ -39,10 +39,22 @@ pub record InTableOrder (base : ℕ) (all : List Whole) (map : Map) (places : Pl
   pub nolpc : howMany 23 all ≡ 0 → map .lpc ≡ noLpc
 
 -- what the walk of a MADT finds, if it refuses nothing, is that
-abbrev pub WalkInTableOrder : List ℕ → ℕ → ℕ → Type 0
-WalkInTableOrder table base sci =
-    walked table base sci .verdict ≡ Sound
-    → InTableOrder base (structures (pieces table 44)) (walked table base sci .found .map) (walked table base sci .found .places)
+abbrev pub WalkInTableOrder : List ℕ → ℕ → ℕ → (ℕ → ℕ) → Type 0
+WalkInTableOrder table base sci pins =
+    walked table base sci pins .verdict ≡ Sound
+    → InTableOrder base pins (structures (pieces table 44)) (walked table base sci pins .found .map) (walked table base sci pins .found .places)
+
+-- ---- "The map's BIO gets this count" (W-212 of document 02)
+-- two ways to tell how many inputs the bridges with a hardware ID have agree on each BIO of some structures
+abbrev pub SamePins : List Whole → (ℕ → ℕ) → (ℕ → ℕ) → Type 0
+SamePins all pins other =
+    (before later : List Whole) (x : Whole) → all ≡ before ++ (x ∷ later) → isType 22 (x .bytes) ≡ true
+    → pins (bioOf (x .bytes) .node) ≡ other (bioOf (x .bytes) .node)
+
+-- then the walk finds the same: what is told of other hardware IDs changes nothing
+abbrev pub OnlyItsBridges : List ℕ → ℕ → ℕ → (ℕ → ℕ) → (ℕ → ℕ) → Type 0
+OnlyItsBridges table base sci pins other =
+    SamePins (structures (pieces table 44)) pins other → walked table base sci pins ≡ walked table base sci other
 
 -- ---- "its unused places, an unused half's byte among them, hold 0": of the four places for EIO, BIO and MSI those past the count;
 -- the byte of a half with mask 0; all that an absent LIO or LPC would have
@@ -62,7 +74,8 @@ pub record Normal (map : Map) : Type 0 where
 abbrev pub NormalMapsEqual : Map → Map → Type 0
 NormalMapsEqual map other = Normal map → Normal other → Same map other → map ≡ other
 
--- a map with the places of its structures: every structure has a place of its own, 71 to 77, 37 and 38 are kept, unused places hold 0
+-- a map with the places of its structures: every structure has a place of its own, 71 to 77, 37 and 38 are kept, every BIO has 1 to 64
+-- inputs, unused places hold 0
 pub record WellKept (map : Map) (places : Places) : Type 0 where
   pub placed : Placed (says map) places
   pub ranges : rangesKept (says map) ≡ true
@@ -70,9 +83,13 @@ pub record WellKept (map : Map) (places : Places) : Type 0 where
   pub r38 : tooMany map ≡ false
   pub normal : Normal map
 
+-- "number of inputs 1 to 64", which 7 holds the pairs of a capture to
+abbrev pub PinsInRange : (ℕ → ℕ) → Type 0
+PinsInRange pins = (id : ℕ) → (1 ≤ pins id) × (pins id ≤ 64)
+
 -- the walk of a MADT that stands at `base`, if it refuses nothing, finds such a map, with the SCI number that it was given
-abbrev pub WalkKeepsBooks : List ℕ → ℕ → ℕ → Type 0
-WalkKeepsBooks table base sci =
-    walked table base sci .verdict ≡ Sound
-    → WellKept (walked table base sci .found .map) (walked table base sci .found .places)
-    × (walked table base sci .found .map .sci ≡ sci)
+abbrev pub WalkKeepsBooks : List ℕ → ℕ → ℕ → (ℕ → ℕ) → Type 0
+WalkKeepsBooks table base sci pins =
+    PinsInRange pins → walked table base sci pins .verdict ≡ Sound
+    → WellKept (walked table base sci pins .found .map) (walked table base sci pins .found .places)
+    × (walked table base sci pins .found .map .sci ≡ sci)
