@@ -1,5 +1,5 @@
--- The map of an accepted capture keeps the rules: the walk gave each of its structures a place of its own and kept 71 to
--- 77, 37 and 38, no rule after the walk is broken with these places, and the places do not matter. So the C entries, which have
+-- The map of an accepted capture keeps the rules: 7 held its pairs to 64 inputs, the walk gave each of its structures a place of its own
+-- and kept 71 to 77, 37 and 38, no rule after the walk is broken with these places, and the places do not matter. So the C entries, which have
 -- an accepted capture, ask the rules no second time. And its unused places hold 0.
 use Prim.Native.Nat.{ℕ}
 use mathlib.Core.Bool.{true}
@@ -7,7 +7,10 @@ use mathlib.Core.List.{List}
 use mathlib.Core.Path.{_≡_}
 use Rattle.words.proofs.Choices.{yes-if}
 use Rattle.words.specs.declared.Verdict.the-variants.{Sound}
+use Rattle.capture.specs.Pairs.{pairsOf, pinsOf}
+use Rattle.capture.proofs.Pins.{pins-in-range}
 use Rattle.tables.specs.declared.Strictness.{Strictness}
+use Rattle.tables.proofs.Inside.{tables-inside}
 use Rattle.lines.specs.Says.{says}
 use Rattle.lines.specs.Routes.{arrival}
 use Rattle.lines.specs.Traces.{traced}
@@ -21,7 +24,9 @@ use Rattle.reading.proofs.Scanned.{Scanned, scanned, rules-kept}
 
 -- the walk kept its books
 books : {strictness : Strictness} (capture : List ℕ) (s : Scanned strictness capture) → WellKept (walkOf capture (s .t) .found .map) (walkOf capture (s .t) .found .places)
-books capture s = walk-keeps-books (madtBytes capture (s .t .madt)) (s .t .madt .place) (s .t .sci) (s .walk) .0
+books {strictness} capture s =
+    let sound = tables-inside strictness capture (s .t) (s .tables) .sound in
+    walk-keeps-books (madtBytes capture (s .t .madt)) (s .t .madt .place) (s .t .sci) (pinsOf (pairsOf capture)) (pins-in-range capture sound) (s .walk) .0
 
 -- its unused places hold 0
 pub accepted-is-normal : (strictness : Strictness) (capture : List ℕ) → scan strictness capture .verdict ≡ Sound → Normal (scan strictness capture .map)

@@ -78,11 +78,11 @@ after-walk capture t = append-assoc (walkRules (madtBytes capture (t .madt)) (t 
 module _ (capture : List ℕ) (t : Tables) (answer : Scan) where
   pub walk-refused : {refusal : Refusal} → walkOf capture t .verdict ≡ Refused refusal
       → unless turnedDown (firstRefusal (madtRules capture t ++ lineRules capture t)) answer ≡ turnedDown refusal
-  walk-refused h = rw (after-walk capture t) (joined-refused turnedDown (walkRules _ _) _ _ (sym (walk-verdict _ _ _) ∙ h))
+  walk-refused h = rw (after-walk capture t) (joined-refused turnedDown (walkRules _ _) _ _ (sym (walk-verdict _ _ _ _) ∙ h))
 
   pub walk-sound : walkOf capture t .verdict ≡ Sound
       → unless turnedDown (firstRefusal (madtRules capture t ++ lineRules capture t)) answer ≡ unless turnedDown (firstRefusal (laterRules capture t)) answer
-  walk-sound h = rw (after-walk capture t) (joined-sound turnedDown (walkRules _ _) _ _ (sym (walk-verdict _ _ _) ∙ h))
+  walk-sound h = rw (after-walk capture t) (joined-sound turnedDown (walkRules _ _) _ _ (sym (walk-verdict _ _ _ _) ∙ h))
 
 -- all rules, by what stands before 31 and after
 module _ (strictness : Strictness) (capture : List ℕ) where

@@ -54,7 +54,7 @@ scanned strictness capture h =
     record {
       t = t;
       tables = unless-sound surveys.Refused _ _ (kept .0);
-      walk = walk-verdict _ _ _ ∙ after .0;
+      walk = walk-verdict _ _ _ _ ∙ after .0;
       rules = after .1;
       map = ap (λ (s : Scan). s .map) left;
       madt = ap (λ (s : Scan). s .madt) left;

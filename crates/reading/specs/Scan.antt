@@ -8,14 +8,15 @@ use Rattle.words.specs.Refusals.{refused, rule, unless, firstRefusal}
 use Rattle.words.specs.declared.Refusal.{Refusal}
 use Rattle.words.specs.declared.Verdict.{Verdict}
 use Rattle.words.specs.declared.Verdict.the-variants.{Sound, Refused}
+use Rattle.capture.specs.Pairs.{pairsOf, pinsOf}
 use Rattle.tables.specs.Survey.{tablesOf, surveyRules}
 use Rattle.tables.specs.declared.Strictness.{Strictness}
 use Rattle.tables.specs.declared.Table.{Table}
 use Rattle.tables.specs.declared.Tables.{Tables}
 use Rattle.lines.specs.Says.{says}
-use Rattle.lines.specs.Rules.{rulesTo43, rulesFrom51}
+use Rattle.lines.specs.Rules.{rulesTo45, rulesFrom51}
 use Rattle.lines.specs.declared.Map.{Map}
-use Rattle.madt.specs.Contents.{mapOf}
+use Rattle.madt.specs.Contents.{nothing}
 use Rattle.madt.specs.Walk.{walkRules, walked}
 use Rattle.madt.specs.declared.Walked.{Walked}
 use Rattle.processors.specs.Listing.{count}
@@ -30,11 +31,11 @@ madtBytes capture madt = partAt capture (madt .place) (madt .length)
 
 -- the walk of the MADT of the tables that were found
 abbrev pub walkOf : List ℕ → Tables → Walked
-walkOf capture t = walked (madtBytes capture (t .madt)) (t .madt .place) (t .sci)
+walkOf capture t = walked (madtBytes capture (t .madt)) (t .madt .place) (t .sci) (pinsOf (pairsOf capture))
 
 -- "no map": the fixed empty one
 unfoldable pub emptyMap : Map
-emptyMap = mapOf 0 []
+emptyMap = nothing 0 .map
 
 -- a refusal comes with no map and no MADT
 unfoldable pub turnedDown : Refusal → Scan
@@ -58,7 +59,7 @@ madtRules capture t =
     walkRules table (t .madt .place)
     ++ (repeatRule (t .madt .place) (firstRepeat table)
     ∷ processorRule (t .madt .place) (count table)
-    ∷ rulesTo43 (says (found .map)) (found .places) (t .madt .place))
+    ∷ rulesTo45 (says (found .map)) (found .places) (t .madt .place))
 
 -- 51 to 54 of the map
 unfoldable pub lineRules : List ℕ → Tables → List Verdict

@@ -12,6 +12,7 @@ ghost use Rattle.words.specs.declared.Verdict.the-variants.{Sound};
 ghost use Rattle.words.specs.Refusals.{unless, firstRefusal};
 ghost use Rattle.reading.specs.Scan.{madtBytes, emptyMap, turnedDown, repeatRule, processorRule, madtRules, lineRules, accepted, walkOf, scan};
 ghost use Rattle.reading.specs.Reading.{withoutMap, answered, madtFound, readingOf, listAfter};
+use capture::pairs::pairs_of;
 use lines::Map;
 use madt::Found;
 use madt::Offsets;
@@ -140,7 +141,7 @@ fn scan_tables(capture: &[u8], t: Tables, room: &mut Offsets) -> Noted
     ensures { λ r. ⌜ (r .scan .verdict ≡ Sound → Standing (madtBytes (now (capture .entry)) (t .madt)) (take (r .processors) (now (room .exit)))) ⌝ }
 {
     let madt = t.madt;
-    let walked = madt::walk::walk_madt(capture, madt, t.sci, room);
+    let walked = madt::walk::walk_madt(capture, madt, t.sci, pairs_of(capture), room);
     let found = walked.found;
     let map = found.map;
     let verdict = walked.verdict;

@@ -19,4 +19,4 @@ unfolding madtFound
 list-long-enough capture sound =
     let s = scanned Strict capture sound in
     let table = madtBytes capture (s .t .madt) in
-    rw (s .madt) (omega (arith, twice-all table, at-most-256 table (s .t .madt .place) (s .t .sci) (s .walk)))
+    rw (s .madt) (omega (arith, twice-all table, at-most-256 table (s .t .madt .place) (s .t .sci) _ (s .walk)))

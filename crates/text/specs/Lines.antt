@@ -12,7 +12,6 @@ use Rattle.kinds.specs.declared.Eio.{Eio}
 use Rattle.kinds.specs.declared.Bio.{Bio}
 use Rattle.kinds.specs.declared.Msi.{Msi}
 use Rattle.kinds.specs.declared.Lpc.{Lpc}
-use Rattle.parts.specs.Inputs.{pins}
 use Rattle.lines.specs.declared.Bridge.{Bridge}
 use Rattle.lines.specs.declared.Bridge.the-variants.{Is, None}
 use Rattle.lines.specs.declared.Route.{Route}
@@ -70,7 +69,7 @@ lastOf first count = first + count - 1
 
 -- "node, first and last number"
 unfoldable pub bioLine : Bio → List ℕ
-bioLine bio = line (letters "bio") (bio .node ∷ bio .base ∷ lastOf (bio .base) (pins bio) ∷ [])
+bioLine bio = line (letters "bio") (bio .node ∷ bio .base ∷ lastOf (bio .base) (bio .pins) ∷ [])
 
 -- "first and last slot"
 unfoldable pub msiLine : Msi → List ℕ

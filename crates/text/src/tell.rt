@@ -118,7 +118,7 @@ fn put_bio(room: &mut [u8], n: usize, bio: Bio) -> usize
     ensures { λ r. ⌜ r ≡ n + length (bioLine bio) ⌝ }
     ensures { λ r. ⌜ now (room .exit) ≡ sets (now (room .entry)) n (bioLine bio) ⌝ }
 {
-    let last = last_of(bio.base as u32, parts::pins_of(bio));
+    let last = last_of(bio.base as u32, bio.pins as u32);
     let numbers = [bio.node as u64, bio.base as u64, last];
     put_line(room, n, b"bio", &numbers)
 }

@@ -2,21 +2,35 @@
 use Prim.Native.Nat.{ℕ}
 use denote.Ref.{now}
 use mathlib.Core.List.{List}
-use mathlib.Core.Path.{refl, ap, sym, _∙_}
+use mathlib.Core.Path.{_≡_, refl, ap, sym, _∙_}
 use Rattle.words.specs.Refusals.{unless, firstRefusal}
 use Rattle.words.specs.declared.Verdict.{Verdict}
 use Rattle.words.proofs.Verdicts.{not-sound}
+use Rattle.capture.specs.Pairs.{pinsOf}
+use Rattle.capture.specs.declared.pairs.Pair.{Pair}
 use Rattle.lines.specs.Rules.{tooMany}
+use Rattle.madt.specs.Walk.{walked}
 use Rattle.madt.specs.declared.Walked.{Walked}
 use Rattle.processors.specs.Listing.{count}
 use Rattle.processors.proofs.ReadAgain.{enabled-count, noted-standing}
-use Rattle.map_promises.proofs.WalkKeepsBooks.{walk-keeps-books}
-use Rattle.reading.specs.Scan.{madtBytes, turnedDown, accepted}
+use Rattle.map_promises.proofs.WalkKeepsBooks.{walk-few}
+use Rattle.reading.specs.Scan.{madtBytes, walkOf, turnedDown, accepted}
 use Rattle.reading.specs.declared.Scan.{Scan}
 use Rattle.reading.proofs.Laws.{laterOf, walk-refused, walk-sound}
 use borrow.Author.Needs.{needs}
 use Rattle.reading.proofs.scan_tables.Statement.{statement}
 use Rattle.reading.proofs.scan_tables.Tie as tie
+
+-- what the walk found, with the pairs of the capture
+found : (c : tie.After-walk-madt) → let a = c .before .before .before .before .before .args in c .walk-madt .result ≡ walkOf (a .capture .now) (a .t)
+unfolding madtBytes
+found c =
+    let a = c .before .before .before .before .before .args in
+    c .walk-madt .ensures .0
+    ∙ ap (λ (pairs : List Pair). walked (madtBytes (a .capture .now) (a .t .madt)) (a .t .madt .place) (a .t .sci) (pinsOf pairs)) (c .before .before .pairs-of .ensures)
+
+pairs-of-requires : tie.Need-pairs-of-requires
+pairs-of-requires c κs = search needs
 
 walk-madt-requires : tie.Need-walk-madt-requires
 walk-madt-requires c κs = search needs
@@ -44,14 +58,15 @@ unfolding madtBytes
 rules-after-walk-requires c κs =
     let told = c .before .before .before in
     let walk = told .before .before .before .before in
-    let start = walk .before .before .before .before in
+    let start = walk .before .before .before .before .before in
     let a = start .args in
-    let w = walk .walk-madt .ensures in
-    let sound = ap (λ (x : Walked). x .verdict) (sym (w .0)) ∙ told .enum-told .given .1 in (
-      rw (c .madt-bytes .ensures) (noted-standing _ _ _ sound (now (a .room)) (start .pre) (ap (λ (x : Walked). x .found .enabled) (w .0)) (w .1) (c .before .noted .ensures)),
+    let w = found walk in
+    let noted = walk .walk-madt .ensures .1 in
+    let sound = ap (λ (x : Walked). x .verdict) (sym w) ∙ told .enum-told .given .1 in (
+      rw (c .madt-bytes .ensures) (noted-standing _ _ _ _ sound (now (a .room)) (start .pre) (ap (λ (x : Walked). x .found .enabled) w) noted (c .before .noted .ensures)),
       (
-        ap (λ (x : Walked). x .found .enabled) (w .0) ∙ enabled-count _ _ _ sound ∙ ap count (sym (c .madt-bytes .ensures)),
-        ap (λ (x : Walked). tooMany (x .found .map)) (w .0) ∙ walk-keeps-books _ _ _ sound .0 .r38,
+        ap (λ (x : Walked). x .found .enabled) w ∙ enabled-count _ _ _ _ sound ∙ ap count (sym (c .madt-bytes .ensures)),
+        ap (λ (x : Walked). tooMany (x .found .map)) w ∙ walk-few _ _ _ _ sound,
       ),
     )
 
@@ -61,7 +76,7 @@ judge-requires c κs = search needs
 returns : tie.Need-returns
 unfolding madtBytes turnedDown
 returns c =
-    let w = c .before .before .before .before .before .before .walk-madt .ensures .0 in (
+    let w = found (c .before .before .before .before .before .before) in (
       c .turn-down .ensures
           ∙ sym (walk-refused _ _ _ (ap (λ (x : Walked). x .verdict) (sym w) ∙ c .before .before .verdict .given .1)),
       λ h. not-sound (sym (ap (λ (s : Scan). s .verdict) (c .turn-down .ensures)) ∙ h),
@@ -72,23 +87,25 @@ unfolding madtBytes
 returns-2 c =
     let told = c .before .before .before .before .before in
     let walk = told .before .before .before .before in
-    let start = walk .before .before .before .before in
+    let start = walk .before .before .before .before .before in
     let a = start .args in
-    let w = walk .walk-madt .ensures in
+    let w = found walk in
+    let noted = walk .walk-madt .ensures .1 in
     let r = walk .walk-madt .result in
-    let sound = ap (λ (x : Walked). x .verdict) (sym (w .0)) ∙ told .enum-told .given .1 in (
+    let sound = ap (λ (x : Walked). x .verdict) (sym w) ∙ told .enum-told .given .1 in (
       c .judge .ensures
           ∙ ap (λ (v : Verdict). unless turnedDown v (accepted (a .t) (r .found .map)))
           (c .before .rules-after-walk .ensures ∙ ap (λ (x : List ℕ). firstRefusal (laterOf x (a .t) (r .found))) (c .before .before .madt-bytes .ensures))
-          ∙ ap (λ (x : Walked). unless turnedDown (firstRefusal (laterOf (madtBytes (a .capture .now) (a .t .madt)) (a .t) (x .found))) (accepted (a .t) (x .found .map))) (w .0)
+          ∙ ap (λ (x : Walked). unless turnedDown (firstRefusal (laterOf (madtBytes (a .capture .now) (a .t .madt)) (a .t) (x .found))) (accepted (a .t) (x .found .map))) w
           ∙ sym (walk-sound (a .capture .now) (a .t) _ sound),
-      λ h. noted-standing _ _ _ sound (now (a .room)) (start .pre) (ap (λ (x : Walked). x .found .enabled) (w .0)) (w .1) refl,
+      λ h. noted-standing _ _ _ _ sound (now (a .room)) (start .pre) (ap (λ (x : Walked). x .found .enabled) w) noted refl,
     )
 
 pub scan-tables-spec : {M : Type 1} → statement M
 scan-tables-spec =
     tie.close
     (tie.spec
+    pairs-of-requires
     walk-madt-requires
     enum-known-verdict
     turn-down-requires

@@ -1,7 +1,4 @@
 -- `put_bio` writes the line of a BIO.
-use mathlib.Core.Path.{ap, _∙_}
-use Prim.Native.Nat.{ℕ}
-use Rattle.text.specs.Lines.{lastOf}
 use Rattle.text.specs.Numerals.{letters}
 use Rattle.text.specs.Lines.{bioLine}
 use borrow.Author.Needs.{needs}
@@ -11,8 +8,8 @@ use Rattle.text.proofs.tell.put_bio.Tie as tie
 cast-last-of : tie.Need-cast-last-of
 cast-last-of c = search needs
 
-pins-of-requires : tie.Need-pins-of-requires
-pins-of-requires c κs = search needs
+cast-last-of-2 : tie.Need-cast-last-of-2
+cast-last-of-2 c = search needs
 
 last-of-requires : tie.Need-last-of-requires
 last-of-requires c κs = search needs
@@ -31,21 +28,21 @@ slice-aggregate-put-line-2 c = search needs
 
 put-line-requires : tie.Need-put-line-requires
 unfolding bioLine letters
-put-line-requires c κs = rw (c .before .before .before .before .before .last-of .ensures ∙ ap (λ (k : ℕ). lastOf (c .before .before .before .before .before .before .before .before .before .args .bio .base) k) (c .before .before .before .before .before .before .pins-of .ensures)) (c .before .before .before .before .before .before .before .before .before .pre)
+put-line-requires c κs = rw (c .before .before .before .before .before .last-of .ensures) (c .before .before .before .before .before .before .before .before .before .pre)
 
 same-length : tie.Need-same-length
 same-length c = search needs
 
 returns : tie.Need-returns
 unfolding bioLine letters
-returns c = rw (← c .before .before .before .before .before .before .before .before .last-of .ensures ∙ ap (λ (k : ℕ). lastOf (c .before .before .before .before .before .before .before .before .before .before .before .before .args .bio .base) k) (c .before .before .before .before .before .before .before .before .before .pins-of .ensures)) (c .before .before .put-line .ensures)
+returns c = rw (← c .before .before .before .before .before .before .before .before .last-of .ensures) (c .before .before .put-line .ensures)
 
 pub put-bio-spec : {M : Type 1} → statement M
 put-bio-spec =
     tie.close
     (tie.spec
     cast-last-of
-    pins-of-requires
+    cast-last-of-2
     last-of-requires
     cast-t9
     cast-t10

@@ -2,7 +2,7 @@
 use Prim.Native.Nat.{_-_}
 use native.Mathlib.Omega.{arith}
 use lib.ListN.{drop, take}
-use Rattle.clashes.proofs.Turns.{Turn, element, next-turn, no-turn}
+use Rattle.words.proofs.Turns.{Turn, element, next-turn, no-turn}
 use Rattle.text.specs.Lines.{each, eioLine}
 use Rattle.text.proofs.Printing.{Printing, begin, ahead, next, over, next-of, none-of}
 use borrow.Author.Needs.{needs}
