@@ -13,6 +13,7 @@ use Rattle.words.proofs.Choices.{no-if, if-cases}
 use Rattle.words.proofs.Verdicts.{unless-refused, unless-sound}
 use Rattle.words.specs.declared.Verdict.{Verdict}
 use Rattle.words.specs.declared.Verdict.the-variants as verdicts
+use Rattle.capture.specs.Pairs.{pairsOf, pinsOf}
 use Rattle.tables.specs.Survey.{survey}
 use Rattle.tables.specs.declared.Tables.{Tables}
 use Rattle.tables.specs.declared.Survey.{Survey}
@@ -73,7 +74,7 @@ module _ (capture : List ℕ) (t : Tables) (inside : TablesInside capture t) whe
 
   -- of the structures
   pub walk-of-told : Told isOfStructures capture (walkOf capture t .verdict)
-  walk-of-told = walked-told capture base (t .madt .length) (inside .madt .inside) table (t .sci) (inside .madt .long) small
+  walk-of-told = walked-told capture base (t .madt .length) (inside .madt .inside) table (t .sci) _ (inside .madt .long) small
 
 module _ (capture : List ℕ) (t : Tables) (inside : TablesInside capture t) (at : Inside capture (t .madt .place) × Inside capture (t .fadt .place)) where
   -- 39
@@ -95,7 +96,7 @@ module _ (capture : List ℕ) (t : Tables) (inside : TablesInside capture t) (at
   after-39-told sound =
       more-told isFrom40 capture _ _ processors-told
       (λ z. map-told capture
-      (walk-stands (madtBytes capture (t .madt)) (t .madt .place) (t .sci) (t .madt .length) (inside .madt .long) (small capture t inside) sound)
+      (walk-stands (madtBytes capture (t .madt)) (t .madt .place) (t .sci) _ (t .madt .length) (inside .madt .long) (small capture t inside) sound)
       (inside .madt .inside) (t .madt .place) (t .fadt .place) (at .0) (at .1))
 
   rules-told : walkOf capture t .verdict ≡ verdicts.Sound → Told isAfter38 capture (firstRefusal (laterRules capture t))
@@ -110,8 +111,8 @@ module _ (capture : List ℕ) (t : Tables) (inside : TablesInside capture t) (at
       let structures = walkRules (madtBytes capture (t .madt)) (t .madt .place) in
       joined-told isAfter30 capture structures (laterRules capture t)
       (told-left isOfStructures isAfter38 capture (firstRefusal structures)
-      (rw (sym (walk-verdict (madtBytes capture (t .madt)) (t .madt .place) (t .sci))) (walk-of-told capture t inside)))
-      (λ sound. told-right isOfStructures isAfter38 capture (firstRefusal (laterRules capture t)) (rules-told (walk-verdict _ _ _ ∙ sound)))
+      (rw (sym (walk-verdict (madtBytes capture (t .madt)) (t .madt .place) (t .sci) (pinsOf (pairsOf capture)))) (walk-of-told capture t inside)))
+      (λ sound. told-right isOfStructures isAfter38 capture (firstRefusal (laterRules capture t)) (rules-told (walk-verdict _ _ _ _ ∙ sound)))
 
 -- ---- 1 to 54
 scan-told : (strictness : Strictness) (capture : List ℕ) → Told isNot60 capture (scan strictness capture .verdict)

@@ -18,6 +18,7 @@ use Rattle.words.proofs.Choices.{yes-if}
 use Rattle.words.proofs.Searches.{search-found, search-none}
 use Rattle.words.proofs.Those.{length-map}
 use Rattle.words.proofs.Verdicts.{same-refusal, unless-refused, unless-sound, first-joined, joined-kept, both-sound}
+use Rattle.capture.specs.Pairs.{pairsOf, pinsOf}
 use Rattle.tables.specs.Survey.{tablesOf, surveyRules, survey}
 use Rattle.tables.specs.declared.Strictness.{Strictness}
 use Rattle.tables.specs.declared.Survey.{Survey}
@@ -194,10 +195,10 @@ module _ (strictness : Strictness) (capture : List ℕ) where
           ((kept-to-38 sound, named .k, named .repeats), (rw place at named, ap (λ (r : Refusal). r .second) (sym same)))
       by-repeat Nowhere h p q told =
           other isFrom40 refl (after-39 h)
-          (after-39-told capture t inside (stands (inside .madt) (omega arith), stands (inside .fadt) (omega arith)) (walk-verdict _ _ _ ∙ sound)) p q told
+          (after-39-told capture t inside (stands (inside .madt) (omega arith), stands (inside .fadt) (omega arith)) (walk-verdict _ _ _ _ ∙ sound)) p q told
 
     by-walk : (v : Verdict) → firstRefusal structures ≡ v → (p q : ℕ) → Told39 p q → Due39 p q
-    by-walk (Refused r) h = other isOfStructures refl (walk-refused h) (rw (walk-verdict (madtOf capture) (madtPlace capture) (t .sci) ∙ h) at (walk-of-told capture t inside))
+    by-walk (Refused r) h = other isOfStructures refl (walk-refused h) (rw (walk-verdict (madtOf capture) (madtPlace capture) (t .sci) (pinsOf (pairsOf capture)) ∙ h) at (walk-of-told capture t inside))
     by-walk Sound h = by-repeat h (firstRepeat (madtOf capture)) refl
 
   -- told, so due

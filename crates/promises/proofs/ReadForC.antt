@@ -50,7 +50,7 @@ count-small : (capture : List ℕ) → scan Strict capture .verdict ≡ verdicts
 unfolding madtFound
 count-small capture sound =
     let s = scanned Strict capture sound in
-    rw (s .madt) (at-most-256 (madtBytes capture (s .t .madt)) (s .t .madt .place) (s .t .sci) (s .walk))
+    rw (s .madt) (at-most-256 (madtBytes capture (s .t .madt)) (s .t .madt .place) (s .t .sci) _ (s .walk))
 
 -- ---- the three ways of the C entry
 module _ (capture list : List ℕ) (sound : scan Strict capture .verdict ≡ verdicts.Sound) where

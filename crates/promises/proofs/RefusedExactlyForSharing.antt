@@ -12,16 +12,18 @@ use Rattle.words.specs.declared.Refusal.{Refusal}
 use Rattle.words.specs.declared.Verdict.the-variants.{Sound, Refused}
 use Rattle.words.proofs.Verdicts.{rule-sound, unless-refused, unless-sound, first-joined}
 use Rattle.tables.specs.declared.Tables.{Tables}
+use Rattle.capture.proofs.Pins.{pins-in-range}
 use Rattle.tables.specs.declared.Strictness.{Strictness}
+use Rattle.tables.proofs.Inside.{tables-inside}
 use Rattle.lines.specs.Rules.{firstBroken}
 use Rattle.lines.specs.declared.Map.{Map}
 use Rattle.lines.specs.declared.Places.{Places}
 use Rattle.madt.specs.Walk.{walkRules}
 use Rattle.madt.proofs.Accepted.{walk-verdict}
 use Rattle.processors.specs.Listing.{count}
-use Rattle.map_promises.specs.Clashing.{KeepsTo40, KeepsTo43, RefusedWith, Exactly}
+use Rattle.map_promises.specs.Clashing.{KeepsTo40, KeepsTo43, KeepsTo45, RefusedWith, Exactly}
 use Rattle.map_promises.specs.Walks.{WellKept}
-use Rattle.map_promises.proofs.Clashing.{node-exactly, lone-exactly, number-exactly, vector-exactly, core-exactly}
+use Rattle.map_promises.proofs.Clashing.{node-exactly, lone-exactly, input-exactly, number-exactly, vector-exactly, core-exactly}
 use Rattle.map_promises.proofs.WalkKeepsBooks.{walk-keeps-books}
 use Rattle.reading.specs.Scan.{madtBytes, walkOf, processorRule, scan}
 use Rattle.reading.specs.Reading.{withoutMap, readingOf}
@@ -29,7 +31,7 @@ use Rattle.reading.specs.declared.Answer.the-variants.{Refused as NotRead}
 use Rattle.reading.specs.declared.Reading.{Reading}
 use Rattle.reading.proofs.Laws.{repeat-none, map-judged}
 use Rattle.reading.proofs.Scanned.{found-verdict}
-use Rattle.promises.specs.Captures.{NothingBefore41, NothingBefore51, RefusedExactlyForSharing, ReadRefusedExactlyForSharing}
+use Rattle.promises.specs.Captures.{NothingBefore41, NothingBefore45, NothingBefore51, RefusedExactlyForSharing, ReadRefusedExactlyForSharing}
 use Rattle.promises.proofs.WhyRefused.{why-refused}
 
 -- 40: some processor is enabled
@@ -47,7 +49,9 @@ module _ (strictness : Strictness) (capture : List ℕ) (t : Tables) where
   module _ (h : NothingBefore41 strictness capture t) where
     -- the walk keeps 71 to 77, 37 and 38, and gives each structure a place of its own
     kept : WellKept map places
-    kept = walk-keeps-books (madtBytes capture (t .madt)) (t .madt .place) (t .sci) (h .structures) .0
+    kept =
+        let sound = tables-inside strictness capture t (h .tables) .sound in
+        walk-keeps-books (madtBytes capture (t .madt)) (t .madt .place) (t .sci) _ (pins-in-range capture sound) (h .structures) .0
 
     to-40 : KeepsTo40 map (t .madt .place)
     to-40 = record { ranges = kept .ranges; r37 = kept .r37; r38 = kept .r38; r40 = h .r40 }
@@ -58,7 +62,7 @@ module _ (strictness : Strictness) (capture : List ℕ) (t : Tables) where
     of-map =
         found-verdict strictness capture (h .tables)
         ∙ first-joined (walkRules _ _) _
-        ∙ unless-sound _ _ _ (sym (walk-verdict _ _ _) ∙ h .structures)
+        ∙ unless-sound _ _ _ (sym (walk-verdict _ _ _ _) ∙ h .structures)
         ∙ unless-sound _ _ _ (repeat-none (t .madt .place) _ (h .r39))
         ∙ unless-sound _ _ _ (enabled (t .madt .place) (count (madtBytes capture (t .madt))) (h .r40core))
         ∙ sym (map-judged map places (t .madt .place) (t .fadt .place) (kept .r38))
@@ -68,8 +72,11 @@ module _ (strictness : Strictness) (capture : List ℕ) (t : Tables) where
         → Exactly (λ p q. scan strictness capture .verdict ≡ Refused (refusedWith n p q)) broken named
     of-map-told n e = ((λ p q r. e .0 p q (sym of-map ∙ r)), λ b. let w = e .1 b in (w .0, w .1, of-map ∙ w .2))
 
-  to-43 : NothingBefore51 strictness capture t → KeepsTo43 map places (t .madt .place)
+  to-43 : NothingBefore45 strictness capture t → KeepsTo43 map places (t .madt .place)
   to-43 h = record { to40 = to-40 (h .to40); r41 = h .r41; r42 = h .r42; r43 = h .r43 }
+
+  to-45 : NothingBefore51 strictness capture t → KeepsTo45 map places (t .madt .place)
+  to-45 h = record { to43 = to-43 (h .to43); r45 = h .r45 }
 
 -- THE PROMISES
 pub refused-exactly-for-sharing : (strictness : Strictness) (capture : List ℕ) (t : Tables) → RefusedExactlyForSharing strictness capture t
@@ -81,9 +88,10 @@ refused-exactly-for-sharing strictness capture t =
     record {
       r41 = λ h. of-map-told strictness capture t h 41 (node-exactly m p madt fadt (kept strictness capture t h .placed) (to-40 strictness capture t h));
       r42 = λ h. of-map-told strictness capture t h 42 (lone-exactly m p madt fadt (kept strictness capture t h .placed) (to-40 strictness capture t h));
-      r51 = λ h. of-map-told strictness capture t (h .to40) 51 (number-exactly m p madt fadt (kept strictness capture t (h .to40) .placed) (to-43 strictness capture t h));
-      r52 = λ h. of-map-told strictness capture t (h .to40) 52 (vector-exactly m p madt fadt (kept strictness capture t (h .to40) .placed) (to-43 strictness capture t h));
-      r53 = λ h. of-map-told strictness capture t (h .to40) 53 (core-exactly m p madt fadt (kept strictness capture t (h .to40) .placed) (to-43 strictness capture t h));
+      r45 = λ h. of-map-told strictness capture t (h .to40) 45 (input-exactly m p madt fadt (to-43 strictness capture t h));
+      r51 = λ h. of-map-told strictness capture t (h .to43 .to40) 51 (number-exactly m p madt fadt (kept strictness capture t (h .to43 .to40) .placed) (to-45 strictness capture t h));
+      r52 = λ h. of-map-told strictness capture t (h .to43 .to40) 52 (vector-exactly m p madt fadt (kept strictness capture t (h .to43 .to40) .placed) (to-45 strictness capture t h));
+      r53 = λ h. of-map-told strictness capture t (h .to43 .to40) 53 (core-exactly m p madt fadt (kept strictness capture t (h .to43 .to40) .placed) (to-45 strictness capture t h));
     }
 
 -- a refusal of the reading that is not 60 is the scan's
@@ -103,6 +111,7 @@ read-refused-exactly-for-sharing strictness capture list t =
     record {
       r41 = λ h. of-scan strictness capture list 41 (omega arith) (s .r41 h);
       r42 = λ h. of-scan strictness capture list 42 (omega arith) (s .r42 h);
+      r45 = λ h. of-scan strictness capture list 45 (omega arith) (s .r45 h);
       r51 = λ h. of-scan strictness capture list 51 (omega arith) (s .r51 h);
       r52 = λ h. of-scan strictness capture list 52 (omega arith) (s .r52 h);
       r53 = λ h. of-scan strictness capture list 53 (omega arith) (s .r53 h);

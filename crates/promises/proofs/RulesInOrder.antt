@@ -15,7 +15,7 @@ use Rattle.tables.specs.declared.Survey.the-variants as surveys
 use Rattle.tables.proofs.Inside.{survey-told, survey-is}
 use Rattle.tables.specs.declared.Strictness.{Strictness}
 use Rattle.lines.specs.Says.{says}
-use Rattle.lines.specs.Rules.{rulesTo43}
+use Rattle.lines.specs.Rules.{rulesTo45}
 use Rattle.madt.specs.Walk.{walkRules}
 use Rattle.madt.proofs.Accepted.{walk-verdict}
 use Rattle.processors.specs.Listing.{count}
@@ -45,38 +45,42 @@ module _ (strictness : Strictness) (capture : List ℕ) (t : Tables) where
       let found = walkOf capture t .found in
       repeatRule (t .madt .place) (firstRepeat table)
       ∷ processorRule (t .madt .place) (count table)
-      ∷ rulesTo43 (says (found .map)) (found .places) (t .madt .place)
+      ∷ rulesTo45 (says (found .map)) (found .places) (t .madt .place)
 
   of-madt : survey strictness capture ≡ surveys.Found t → firstRefusal (madtRules capture t) ≡ Sound → NothingBefore51 strictness capture t
-  unfolding madtRules rulesTo43
+  unfolding madtRules rulesTo45
   of-madt tables h =
       let kept = joined-kept (walkRules (madtBytes capture (t .madt)) (t .madt .place)) afterWalk h in
       let each = each-sound afterWalk (kept .1) in
       record {
-        to40 = record {
-          tables = tables;
-          structures = walk-verdict _ _ _ ∙ kept .0;
-          r39 = no-repeat _ _ (each 0);
-          r40core = some-core _ _ (each 1);
-          r40 = each 2;
+        to43 = record {
+          to40 = record {
+            tables = tables;
+            structures = walk-verdict _ _ _ _ ∙ kept .0;
+            r39 = no-repeat _ _ (each 0);
+            r40core = some-core _ _ (each 1);
+            r40 = each 2;
+          };
+          r41 = each 3;
+          r42 = each 4;
+          r43 = each 5;
         };
-        r41 = each 3;
-        r42 = each 4;
-        r43 = each 5;
+        r45 = each 6;
       }
 
   to-madt : NothingBefore51 strictness capture t → firstRefusal (madtRules capture t) ≡ Sound
-  unfolding madtRules rulesTo43 firstRefusal
+  unfolding madtRules rulesTo45 firstRefusal
   to-madt h =
       first-joined (walkRules (madtBytes capture (t .madt)) (t .madt .place)) afterWalk
-      ∙ unless-sound _ _ _ (sym (walk-verdict _ _ _) ∙ h .to40 .structures)
-      ∙ unless-sound _ _ _ (repeat-none (t .madt .place) _ (h .to40 .r39))
-      ∙ unless-sound _ _ _ (enabled (t .madt .place) _ (h .to40 .r40core))
-      ∙ unless-sound _ _ _ (h .to40 .r40)
-      ∙ unless-sound _ _ _ (h .r41)
-      ∙ unless-sound _ _ _ (h .r42)
+      ∙ unless-sound _ _ _ (sym (walk-verdict _ _ _ _) ∙ h .to43 .to40 .structures)
+      ∙ unless-sound _ _ _ (repeat-none (t .madt .place) _ (h .to43 .to40 .r39))
+      ∙ unless-sound _ _ _ (enabled (t .madt .place) _ (h .to43 .to40 .r40core))
+      ∙ unless-sound _ _ _ (h .to43 .to40 .r40)
+      ∙ unless-sound _ _ _ (h .to43 .r41)
+      ∙ unless-sound _ _ _ (h .to43 .r42)
+      ∙ unless-sound _ _ _ (h .to43 .r43)
       ∙ first-alone _
-      ∙ h .r43
+      ∙ h .r45
 
 breaks-none : (strictness : Strictness) (capture : List ℕ) → NotRefusedBefore51 strictness capture → (t : Tables) × NothingBefore51 strictness capture t
 unfolding rulesBefore51 survey
@@ -89,8 +93,8 @@ not-before : (strictness : Strictness) (capture : List ℕ) (t : Tables) → Not
 unfolding rulesBefore51
 not-before strictness capture t h =
     first-joined (surveyRules strictness capture) _
-    ∙ unless-sound _ _ _ (survey-told strictness capture (h .to40 .tables))
-    ∙ ap (λ (t : Tables). firstRefusal (madtRules capture t)) (survey-is strictness capture (h .to40 .tables))
+    ∙ unless-sound _ _ _ (survey-told strictness capture (h .to43 .to40 .tables))
+    ∙ ap (λ (t : Tables). firstRefusal (madtRules capture t)) (survey-is strictness capture (h .to43 .to40 .tables))
     ∙ to-madt strictness capture t h
 
 -- THE PROMISE

@@ -2,12 +2,13 @@
 use Prim.Native.Nat.{ℕ, _+_, _-_, _<_, _≤_}
 use native.Mathlib.Omega.{arith}
 use mathlib.Core.Path.{_≡_, refl}
-use mathlib.Core.List.{List}
+use mathlib.Core.List.{List, _++_}
 use lib.Dec.{leb}
 use lib.ListN.{length}
 use borrow.Author.Tests.{not-false}
 use Rattle.words.specs.Lists.{numbersBelow}
 use Rattle.words.specs.Refusals.{firstRefusal}
+use Rattle.words.specs.declared.Verdict.{Verdict}
 use Rattle.words.specs.declared.Verdict.the-variants as verdicts
 use Rattle.words.proofs.Choices.{if-cases}
 use Rattle.capture.specs.Fields.{rsdpAddress}
@@ -26,7 +27,7 @@ use Rattle.tables.specs.declared.Survey.{Survey}
 use Rattle.tables.specs.declared.Survey.the-variants.{Found, Refused}
 use Rattle.tables.proofs.Inside.{Lies, named-inside, both-inside, kept-inside, tables-inside, survey-told as told-by}
 use Rattle.tables.specs.declared.Strictness.{Strictness}
-use Rattle.promises.proofs.Told.{OfTheRules, Told, isBefore29, is29Or30, isTo30, told-left, told-right, Inside, tell, none-told, more-told, rule-told, joined-told, each-told, search-told}
+use Rattle.promises.proofs.Told.{OfTheRules, Told, isOfCapture, isOfTables, isBefore29, is29Or30, isTo30, told-left, told-right, Inside, tell, none-told, more-told, rule-told, joined-told, each-told, search-told}
 use Rattle.promises.proofs.CaptureRefusals.{container-told, presence-told}
 
 -- a table that lies inside the capture stands there
@@ -34,28 +35,28 @@ pub stands : {capture : List ℕ} {table : Table} {least : ℕ} → Lies capture
 stands l some = (l .behind, omega (arith, l .inside, l .long))
 
 -- ---- 11 to 14
-rsdp-rules-told : (capture : List ℕ) (place : ℕ) → Inside capture place → Told isBefore29 capture (firstRefusal (rsdpRules capture place))
+rsdp-rules-told : (capture : List ℕ) (place : ℕ) → Inside capture place → Told isOfTables capture (firstRefusal (rsdpRules capture place))
 unfolding rsdpRules
 rsdp-rules-told capture place l =
-    rule-told isBefore29 capture _ 11 place _ (tell isBefore29 capture 11 place (refl, refl, refl, refl) l)
-    (λ t. rule-told isBefore29 capture _ 12 place _ (tell isBefore29 capture 12 place (refl, refl, refl, refl) l)
-    (λ t. rule-told isBefore29 capture _ 13 place _ (tell isBefore29 capture 13 place (refl, refl, refl, refl) l)
-    (λ t. rule-told isBefore29 capture _ 14 place _ (tell isBefore29 capture 14 place (refl, refl, refl, refl) l)
-    (λ t. none-told isBefore29 capture))))
+    rule-told isOfTables capture _ 11 place _ (tell isOfTables capture 11 place (refl, refl, refl, refl) l)
+    (λ t. rule-told isOfTables capture _ 12 place _ (tell isOfTables capture 12 place (refl, refl, refl, refl) l)
+    (λ t. rule-told isOfTables capture _ 13 place _ (tell isOfTables capture 13 place (refl, refl, refl, refl) l)
+    (λ t. rule-told isOfTables capture _ 14 place _ (tell isOfTables capture 14 place (refl, refl, refl, refl) l)
+    (λ t. none-told isOfTables capture))))
 
 -- ---- 20 to 22
-table-told : (capture : List ℕ) (field : ℕ) → Sound capture → Inside capture field → Told isBefore29 capture (firstRefusal (tableRules capture field))
+table-told : (capture : List ℕ) (field : ℕ) → Sound capture → Inside capture field → Told isOfTables capture (firstRefusal (tableRules capture field))
 unfolding tableRules headerAt
 table-told capture field sound l =
     let place = placeOf (headerAt capture field) in
-    rule-told isBefore29 capture _ 20 field _ (tell isBefore29 capture 20 field (refl, refl, refl, refl) l)
+    rule-told isOfTables capture _ 20 field _ (tell isOfTables capture 20 field (refl, refl, refl, refl) l)
     (λ t.
     let there = present-at (headerAt capture field) (not-false _ t) in
     let ends = within capture (addressAt capture field) headerSize place sound there in
     let at : Inside capture place = (omega (arith, behind capture (addressAt capture field) headerSize place there), omega arith) in
-    rule-told isBefore29 capture _ 21 place _ (tell isBefore29 capture 21 place (refl, refl, refl, refl) at)
-    (λ t. rule-told isBefore29 capture _ 22 place _ (tell isBefore29 capture 22 place (refl, refl, refl, refl) at)
-    (λ t. none-told isBefore29 capture)))
+    rule-told isOfTables capture _ 21 place _ (tell isOfTables capture 21 place (refl, refl, refl, refl) at)
+    (λ t. rule-told isOfTables capture _ 22 place _ (tell isOfTables capture 22 place (refl, refl, refl, refl) at)
+    (λ t. none-told isOfTables capture)))
 
 -- ---- the XSDT and its entries
 module _ (capture : List ℕ) (sound : Sound capture) (xsdt : Table) (lies : Lies capture xsdt 36) where
@@ -65,20 +66,20 @@ module _ (capture : List ℕ) (sound : Sound capture) (xsdt : Table) (lies : Lie
   field-at entry h = (omega arith, omega (arith, lies .inside, lies .long))
 
   -- 23 to 25
-  xsdt-rules-told : Told isBefore29 capture (firstRefusal (xsdtRules capture xsdt))
+  xsdt-rules-told : Told isOfTables capture (firstRefusal (xsdtRules capture xsdt))
   unfolding xsdtRules
   xsdt-rules-told =
       let at = stands lies (omega arith) in
-      rule-told isBefore29 capture _ 23 _ _ (tell isBefore29 capture 23 (xsdt .place) (refl, refl, refl, refl) at)
-      (λ t. rule-told isBefore29 capture _ 24 _ _ (tell isBefore29 capture 24 (xsdt .place) (refl, refl, refl, refl) at)
-      (λ t. rule-told isBefore29 capture _ 25 _ _ (tell isBefore29 capture 25 (xsdt .place) (refl, refl, refl, refl) at)
-      (λ t. none-told isBefore29 capture)))
+      rule-told isOfTables capture _ 23 _ _ (tell isOfTables capture 23 (xsdt .place) (refl, refl, refl, refl) at)
+      (λ t. rule-told isOfTables capture _ 24 _ _ (tell isOfTables capture 24 (xsdt .place) (refl, refl, refl, refl) at)
+      (λ t. rule-told isOfTables capture _ 25 _ _ (tell isOfTables capture 25 (xsdt .place) (refl, refl, refl, refl) at)
+      (λ t. none-told isOfTables capture)))
 
   -- 20 to 22 of each entry
-  entries-told : Told isBefore29 capture (firstRefusal (entryRules capture xsdt))
+  entries-told : Told isOfTables capture (firstRefusal (entryRules capture xsdt))
   unfolding entryRules entries numbersBelow
   entries-told =
-      each-told isBefore29 capture (λ (k : ℕ). tableRules capture (entryField xsdt k)) 0 (entryCount xsdt)
+      each-told isOfTables capture (λ (k : ℕ). tableRules capture (entryField xsdt k)) 0 (entryCount xsdt)
       (λ k l h. table-told capture (entryField xsdt k) sound (field-at k (omega arith)))
 
   -- what the finder finds is one of the entries
@@ -106,29 +107,29 @@ module _ (capture : List ℕ) (sound : Sound capture) (xsdt : Table) (lies : Lie
   earlier-counted (At entry) (At other) p q = if-cases Counted (leb entry other) _ _ (λ t. p) (λ t. q)
 
   -- 27
-  second-told : (e : Entry) → Counted e → Told isBefore29 capture (secondRule xsdt e)
+  second-told : (e : Entry) → Counted e → Told isOfTables capture (secondRule xsdt e)
   unfolding secondRule
   second-told Nowhere p = omega arith
-  second-told (At entry) p = tell isBefore29 capture 27 (entryField xsdt entry) (refl, refl, refl, refl) (field-at entry p)
+  second-told (At entry) p = tell isOfTables capture 27 (entryField xsdt entry) (refl, refl, refl, refl) (field-at entry p)
 
   -- 26 and 27
-  names-told : Told isBefore29 capture (firstRefusal (nameRules capture xsdt))
+  names-told : Told isOfTables capture (firstRefusal (nameRules capture xsdt))
   unfolding nameRules
   names-told =
-      rule-told isBefore29 capture _ 26 _ _ (tell isBefore29 capture 26 (xsdt .place) (refl, refl, refl, refl) (stands lies (omega arith)))
-      (λ t. more-told isBefore29 capture _ _
+      rule-told isOfTables capture _ 26 _ _ (tell isOfTables capture 26 (xsdt .place) (refl, refl, refl, refl) (stands lies (omega arith)))
+      (λ t. more-told isOfTables capture _ _
       (second-told _
       (earlier-counted (secondNamed capture xsdt apic) (secondNamed capture xsdt facp) (second-counted apic) (second-counted facp)))
-      (λ t. none-told isBefore29 capture))
+      (λ t. none-told isOfTables capture))
 
 -- 28
 lengths-told : (capture : List ℕ) (madt fadt : Table) → Inside capture (madt .place) → Inside capture (fadt .place)
-    → Told isBefore29 capture (firstRefusal (lengthRules madt fadt))
+    → Told isOfTables capture (firstRefusal (lengthRules madt fadt))
 unfolding lengthRules
 lengths-told capture madt fadt m f =
-    rule-told isBefore29 capture _ 28 _ _ (tell isBefore29 capture 28 (madt .place) (refl, refl, refl, refl) m)
-    (λ t. rule-told isBefore29 capture _ 28 _ _ (tell isBefore29 capture 28 (fadt .place) (refl, refl, refl, refl) f)
-    (λ t. none-told isBefore29 capture))
+    rule-told isOfTables capture _ 28 _ _ (tell isOfTables capture 28 (madt .place) (refl, refl, refl, refl) m)
+    (λ t. rule-told isOfTables capture _ 28 _ _ (tell isOfTables capture 28 (fadt .place) (refl, refl, refl, refl) f)
+    (λ t. none-told isOfTables capture))
 
 -- 29 and 30
 fields-told : (strictness : Strictness) (capture : List ℕ) (madt : Table) → Inside capture (madt .place)
@@ -146,27 +147,45 @@ rsdp-inside capture sound h =
     let there = rsdp-there capture h in
     (omega (arith, behind capture (rsdpAddress capture) rsdpSize (rsdpPlace capture) there), within capture (rsdpAddress capture) rsdpSize (rsdpPlace capture) sound there)
 
--- 1 to 28
-pub before-29-told : (capture : List ℕ) → Told isBefore29 capture (firstRefusal (rulesBefore29 capture))
-unfolding rulesBefore29 verdict xsdtOf xsdtField
-before-29-told capture =
+-- the rules that come after those of the capture, up to 28
+abbrev pub rulesFrom10 : List ℕ → List Verdict
+rulesFrom10 capture =
     let rsdp = rsdpPlace capture in
     let xsdt = xsdtOf capture in
-    joined-told isBefore29 capture (containerRules capture) _ (container-told capture)
-    (λ sound. joined-told isBefore29 capture (presenceRules capture) _ (presence-told capture sound)
+    presenceRules capture
+    ++ (rsdpRules capture rsdp
+    ++ (tableRules capture (xsdtField rsdp)
+    ++ (xsdtRules capture xsdt
+    ++ (entryRules capture xsdt ++ (nameRules capture xsdt ++ lengthRules (madtOf capture xsdt) (fadtOf capture xsdt))))))
+
+-- 10 to 28
+pub from-10-told : (capture : List ℕ) → Sound capture → Told isOfTables capture (firstRefusal (rulesFrom10 capture))
+unfolding xsdtOf xsdtField
+from-10-told capture sound =
+    let rsdp = rsdpPlace capture in
+    let xsdt = xsdtOf capture in
+    joined-told isOfTables capture (presenceRules capture) _ (presence-told capture sound)
     (λ present.
     let at = rsdp-inside capture sound present in
-    joined-told isBefore29 capture (rsdpRules capture rsdp) _ (rsdp-rules-told capture rsdp (at .0, omega (arith, at .1)))
-    (λ h. joined-told isBefore29 capture (tableRules capture (xsdtField rsdp)) _
+    joined-told isOfTables capture (rsdpRules capture rsdp) _ (rsdp-rules-told capture rsdp (at .0, omega (arith, at .1)))
+    (λ h. joined-told isOfTables capture (tableRules capture (xsdtField rsdp)) _
     (table-told capture (xsdtField rsdp) sound (omega arith, omega (arith, at .1)))
     (λ whole.
     let lies = named-inside capture (xsdtField rsdp) sound whole in
-    joined-told isBefore29 capture (xsdtRules capture xsdt) _ (xsdt-rules-told capture sound xsdt lies)
-    (λ h. joined-told isBefore29 capture (entryRules capture xsdt) _ (entries-told capture sound xsdt lies)
-    (λ through. joined-told isBefore29 capture (nameRules capture xsdt) _ (names-told capture sound xsdt lies)
+    joined-told isOfTables capture (xsdtRules capture xsdt) _ (xsdt-rules-told capture sound xsdt lies)
+    (λ h. joined-told isOfTables capture (entryRules capture xsdt) _ (entries-told capture sound xsdt lies)
+    (λ through. joined-told isOfTables capture (nameRules capture xsdt) _ (names-told capture sound xsdt lies)
     (λ names.
     let both = both-inside capture xsdt sound through names in
-    lengths-told capture (madtOf capture xsdt) (fadtOf capture xsdt) (stands (both .0) (omega arith)) (stands (both .1) (omega arith)))))))))
+    lengths-told capture (madtOf capture xsdt) (fadtOf capture xsdt) (stands (both .0) (omega arith)) (stands (both .1) (omega arith))))))))
+
+-- 1 to 28
+pub before-29-told : (capture : List ℕ) → Told isBefore29 capture (firstRefusal (rulesBefore29 capture))
+unfolding rulesBefore29 verdict
+before-29-told capture =
+    joined-told isBefore29 capture (containerRules capture) (rulesFrom10 capture)
+    (told-left isOfCapture isOfTables capture (firstRefusal (containerRules capture)) (container-told capture))
+    (λ sound. told-right isOfCapture isOfTables capture (firstRefusal (rulesFrom10 capture)) (from-10-told capture sound))
 
 -- 1 to 30
 rules-told : (strictness : Strictness) (capture : List ℕ) → Told isTo30 capture (firstRefusal (surveyRules strictness capture))

@@ -29,9 +29,12 @@ abbrev pub Told : (ℕ → Bool) → List ℕ → Verdict → Type 0
 Told own capture Sound = 0 < 1
 Told own capture (Refused r) = OfTheRules own capture r
 
--- ---- whose numbers they are: of the rules before 29, 29 and 30, those of a structure, 39, and those after it
-abbrev pub isBefore29 : ℕ → Bool
-isBefore29 = among 1 28
+-- ---- whose numbers they are: of the capture, of the tables before 29, 29 and 30, those of a structure, 39, and those after it
+abbrev pub isOfCapture : ℕ → Bool
+isOfCapture = among 1 7
+
+abbrev pub isOfTables : ℕ → Bool
+isOfTables = among 10 28
 
 abbrev pub is29Or30 : ℕ → Bool
 is29Or30 = among 29 30
@@ -45,7 +48,10 @@ is39 = eqb 39
 abbrev pub isFrom40 : ℕ → Bool
 isFrom40 = among 40 54
 
--- joined: all before 31, all after 38, all after 30
+-- joined: all before 29, all before 31, all after 38, all after 30
+abbrev pub isBefore29 : ℕ → Bool
+isBefore29 n = isOfCapture n || isOfTables n
+
 abbrev pub isTo30 : ℕ → Bool
 isTo30 n = isBefore29 n || is29Or30 n
 

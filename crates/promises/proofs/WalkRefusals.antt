@@ -52,7 +52,7 @@ module _ (capture : List ℕ) (base until : ℕ) (ends : base + until ≤ length
       (λ sound. in-turn-told (before ++ (record { at = at; bytes = s } ∷ [])) ps (suc at) (omega arith) (o .2))
 
   -- the walk of a MADT that ends inside the capture
-  pub walked-told : (table : List ℕ) (sci : ℕ) → 44 ≤ until → length table ≤ until → Told isOfStructures capture (walked table base sci .verdict)
+  pub walked-told : (table : List ℕ) (sci : ℕ) (pins : ℕ → ℕ) → 44 ≤ until → length table ≤ until → Told isOfStructures capture (walked table base sci pins .verdict)
   unfolding walkRules
-  walked-told table sci first all =
-      rw (walk-verdict table base sci) (in-turn-told [] (pieces table 44) 44 (omega arith) (pieces-in-order table until all 44 first))
+  walked-told table sci pins first all =
+      rw (walk-verdict table base sci pins) (in-turn-told [] (pieces table 44) 44 (omega arith) (pieces-in-order table until all 44 first))

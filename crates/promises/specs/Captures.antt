@@ -6,13 +6,14 @@ use mathlib.Core.Path.{_≡_}
 use Rattle.words.specs.Refusals.{refusedWith, firstRefusal}
 use Rattle.words.specs.declared.Refusal.{Refusal}
 use Rattle.words.specs.declared.Verdict.the-variants.{Sound, Refused}
+use Rattle.capture.specs.Pairs.{pairsOf, pinsOf}
 use Rattle.tables.specs.Survey.{survey}
 use Rattle.tables.specs.declared.Tables.{Tables}
 use Rattle.tables.specs.declared.Survey.the-variants.{Found}
 use Rattle.tables.specs.declared.Strictness.{Strictness}
 use Rattle.lines.specs.Says.{Said, says}
 use Rattle.lines.specs.Claims.{claims}
-use Rattle.lines.specs.Rules.{rule40, rule41, rule42, rule43, keepsRules}
+use Rattle.lines.specs.Rules.{rule40, rule41, rule42, rule43, rule45, keepsRules}
 use Rattle.lines.specs.Answers.{routeOf, traceOf}
 use Rattle.lines.specs.declared.Map.{Map}
 use Rattle.lines.specs.declared.Places.{Places}
@@ -22,7 +23,7 @@ use Rattle.madt.specs.Pieces.{pieces, structures}
 use Rattle.processors.specs.Listing.{count}
 use Rattle.processors.specs.Repeats.{firstRepeat}
 use Rattle.processors.specs.declared.Repeat.the-variants.{Nowhere}
-use Rattle.map_promises.specs.Clashing.{ShareNode, ShareNumber, ShareVector, ShareCore, TwoNode, LoneBio, TwoNumber, TwoVector, TwoCore, Names, NamesLater, NamesLone, OnePlace, Exactly}
+use Rattle.map_promises.specs.Clashing.{ShareNode, ShareNumber, ShareVector, ShareCore, TwoNode, LoneBio, NoInput, TwoNumber, TwoVector, TwoCore, Names, NamesLater, NamesLone, OnePlace, Exactly}
 use Rattle.map_promises.specs.Routing.{RouteIsSources, UnwiredExactly, NoOwnerExactly}
 use Rattle.map_promises.specs.Statements.{NoTwoAlike, TracingNames, NothingExactly, LpcLinesShare, ThereAndBack}
 use Rattle.map_promises.specs.Walks.{Normal, InTableOrder}
@@ -69,12 +70,13 @@ ReadIsTrustworthy strictness capture list =
     (count : ℕ) → readingOf strictness capture list .answer ≡ Read count → Trustworthy (readingOf strictness capture list .map)
 
 -- ---- "The map holds the used fields of LIO, EIO, BIO, MSI and LPC, in table order, and the SCI number"
--- the map of an accepted capture is that of its MADT's structures, and its SCI number is the FADT's
+-- the map of an accepted capture is that of its MADT's structures, its bridges have as many inputs as its pairs tell, and its SCI number
+-- is the FADT's
 pub record MapOfMadt (strictness : Strictness) (capture : List ℕ) : Type 0 where
   pub t : Tables
   pub tables : survey strictness capture ≡ Found t
   pub order :
-      InTableOrder (t .madt .place) (structures (pieces (madtBytes capture (t .madt)) 44)) (scan strictness capture .map) (walkOf capture t .found .places)
+      InTableOrder (t .madt .place) (pinsOf (pairsOf capture)) (structures (pieces (madtBytes capture (t .madt)) 44)) (scan strictness capture .map) (walkOf capture t .found .places)
   pub sci : scan strictness capture .map .sci ≡ t .sci
 
 abbrev pub AcceptedIsOfMadt : Strictness → List ℕ → Type 0
@@ -94,12 +96,17 @@ pub record NothingBefore41 (strictness : Strictness) (capture : List ℕ) (t : T
   pub r40 : rule40 (says (walkOf capture t .found .map)) (t .madt .place) ≡ Sound
 
 -- none up to 43
-pub record NothingBefore51 (strictness : Strictness) (capture : List ℕ) (t : Tables) : Type 0 where
+pub record NothingBefore45 (strictness : Strictness) (capture : List ℕ) (t : Tables) : Type 0 where
   pub to40 : NothingBefore41 strictness capture t
   -- 41 to 43, of the map that the walk found
   pub r41 : rule41 (claims (says (walkOf capture t .found .map)) (walkOf capture t .found .places)) ≡ Sound
   pub r42 : rule42 (claims (says (walkOf capture t .found .map)) (walkOf capture t .found .places)) ≡ Sound
   pub r43 : rule43 (says (walkOf capture t .found .map)) (walkOf capture t .found .places .lpc) ≡ Sound
+
+-- none up to 45
+pub record NothingBefore51 (strictness : Strictness) (capture : List ℕ) (t : Tables) : Type 0 where
+  pub to43 : NothingBefore45 strictness capture t
+  pub r45 : rule45 (says (walkOf capture t .found .map)) (walkOf capture t .found .places .lpc) ≡ Sound
 
 -- the same by the one list of all rules: none of those that stand before 51 refuses
 abbrev pub NotRefusedBefore51 : Strictness → List ℕ → Type 0
@@ -119,6 +126,8 @@ pub record EachExactly (told : ℕ → ℕ → ℕ → Type 0) (strictness : Str
   pub r41 : NothingBefore41 strictness capture t → Exactly (told 41) (TwoNode said) (OnePlace (NamesLater said places (ShareNode said)))
   -- "BIO without an EIO of its node"
   pub r42 : NothingBefore41 strictness capture t → Exactly (told 42) ((TwoNode said → ⊥) × LoneBio said) (OnePlace (NamesLone said places))
+  -- "a cascade at or past its bridge's count", at the LPC
+  pub r45 : NothingBefore45 strictness capture t → Exactly (told 45) (NoInput said) (OnePlace (λ p. p ≡ places .lpc))
   -- "two sources share a global number"
   pub r51 : NothingBefore51 strictness capture t → Exactly (told 51) (TwoNumber said) (Names said places (ShareNumber said))
   -- "or an extended vector of one EIO"

@@ -94,7 +94,7 @@ mapOfA =
       eiocount = 1;
       eios = record { cascade = 3; node = 0; nodes = 1 } ∷ noEio ∷ noEio ∷ noEio ∷ [];
       biocount = 1;
-      bios = record { node = 0; base = 64 } ∷ noBio ∷ noBio ∷ noBio ∷ [];
+      bios = record { node = 0; base = 64; pins = 64 } ∷ noBio ∷ noBio ∷ noBio ∷ [];
       msicount = 1;
       msis = record { start = 64; count = 192 } ∷ noMsi ∷ noMsi ∷ noMsi ∷ [];
       lpc = record { present = true; cascade = 19 };
