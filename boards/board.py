@@ -28,18 +28,23 @@ def descriptor(address, length):
     return le(address, 8) + le(length, 4)
 
 
-def capture(segments, rsdp=None, mark=b"TBC", version=1, count=None, total=None, lengths=None):
-    """A capture of segments (address, bytes). What a case wants wrong, it names."""
+PAIRS = 4  # of a version 2 capture: a hardware ID and a number of inputs each; those that are not given are empty
+
+
+def capture(segments, rsdp=None, mark=b"TBC", version=None, pairs=None, count=None, total=None, lengths=None):
+    """A capture of segments (address, bytes), of version 2 if pairs are given. What a case wants wrong, it names."""
+    version = (1 if pairs is None else 2) if version is None else version
+    told = b"" if pairs is None else b"".join(le(number, 1) for pair in pairs for number in pair).ljust(2 * PAIRS, b"\0")
     lengths = [len(data) for _, data in segments] if lengths is None else lengths
     body = b"".join(descriptor(address, length) for (address, _), length in zip(segments, lengths))
     body += b"".join(data for _, data in segments)
     head = mark + le(version, 2) + le(len(segments) if count is None else count, 1)
-    total = 18 + len(body) if total is None else total
-    return head + le(total, 4) + le(segments[0][0] if rsdp is None else rsdp, 8) + body
+    total = 18 + len(told) + len(body) if total is None else total
+    return head + le(total, 4) + le(segments[0][0] if rsdp is None else rsdp, 8) + told + body
 
 
 def segments_of(data):
-    """The segments (address, bytes) of a sound capture."""
+    """The segments (address, bytes) of a sound capture of version 1."""
     count, segments = data[5], []
     at = 18 + 12 * count
     for place in range(18, at, 12):
@@ -138,8 +143,8 @@ def image(structures=None, sci=75, base=BASE):
     return lay([madt(STRUCTURES_OF_A if structures is None else structures), fadt(sci)], base=base)
 
 
-def board(structures=None, sci=75, base=BASE):
-    return capture([(base, image(structures, sci, base))])
+def board(structures=None, sci=75, base=BASE, pairs=None):
+    return capture([(base, image(structures, sci, base))], pairs=pairs)
 
 
 A = board()

@@ -59,9 +59,9 @@ def changed(data, at, new):
     return data[:at] + new + data[at + len(new):]
 
 
-def zeros(*segments):
+def zeros(*segments, pairs=None):
     """A capture whose segments (address, length) hold zeros."""
-    return capture([(address, bytes(length)) for address, length in segments])
+    return capture([(address, bytes(length)) for address, length in segments], pairs=pairs)
 
 
 def refused(number, place, second=0):
@@ -81,11 +81,11 @@ check("1: 65,536 bytes, all right", zeros((BASE, 65506)), "sound")
 check("2: first letter", changed(A, 0, b"t"), refused(2, 0))
 check("2: second letter", changed(A, 1, b"C"), refused(2, 0))
 check("2: third letter", changed(A, 2, b"B"), refused(2, 0))
-check("2: mark and version wrong", changed(A, 0, b"XBC\2\0"), refused(2, 0))
+check("2: mark and version wrong", changed(A, 0, b"XBC\3\0"), refused(2, 0))
 check("3: version 0", changed(A, 3, le(0, 2)), refused(3, 0))
-check("3: version 2", changed(A, 3, le(2, 2)), refused(3, 0))
+check("3: version 3", changed(A, 3, le(3, 2)), refused(3, 0))
 check("3: version 257, its low byte 1", changed(A, 3, le(257, 2)), refused(3, 0))
-check("3: version and count wrong", changed(A, 3, b"\2\0\0"), refused(3, 0))
+check("3: version and count wrong", changed(A, 3, b"\3\0\0"), refused(3, 0))
 check("4: no segment", changed(A, 5, b"\0"), refused(4, 0))
 check("4: 17 segments", zeros(*[(BASE + 8 * k, 8) for k in range(17)]), refused(4, 0))
 check("4: 16 segments are fine", zeros(*[(BASE + 8 * k, 8) for k in range(16)]), "sound")
@@ -121,6 +121,46 @@ check("6: a gap is fine", zeros((BASE, 508), (BASE + 509, 8)), "sound")
 check("6: third overlaps the first only", zeros((BASE, 8), (BASE + 4096, 8), (BASE + 4, 8)), refused(6, 42))
 check("6: broken in the 16th", zeros(*[(BASE + 8 * k, 8) for k in range(15)], (BASE, 8)), refused(6, 198))
 check("6: first segment at address 0", zeros((0, 8)), "sound")
+
+# Version 2: four pairs (hardware ID, number of inputs) at 18, and descriptors from 26. The version alone says which header it is.
+A2 = board(pairs=())
+check("version 2 without pairs", A2, "sound")
+check("1: version 2, 25 bytes", A2[:25], refused(1, 0))
+check("1: version 2, 26 bytes go on to the descriptors", A2[:26], refused(5, 0))
+check("1: 20 bytes of version 2 with a wrong mark", b"XBC\2\0" + bytes(15), refused(1, 0))
+check("2: 20 bytes of version 1 with a wrong mark", b"XBC\1\0" + bytes(15), refused(2, 0))
+check("3: 20 bytes of version 3", b"TBC\3\0" + bytes(15), refused(3, 0))
+check("3: 20 bytes of version 258, its low byte 2", b"TBC\2\1" + bytes(15), refused(3, 0))
+check("3: version 512, its high byte 2", changed(A2, 3, le(512, 2)), refused(3, 0))
+check("4: version 2, no segment", changed(A2, 5, b"\0"), refused(4, 0))
+check("5: version 2, total by 18", changed(A2, 6, le(538, 4)), refused(5, 0))
+check("5: board A with version 2 in its header", changed(A, 3, le(2, 2)), refused(5, 0))
+check("5: version 1 with the pairs still there", changed(A2, 3, le(1, 2)), refused(5, 0))
+check("5: version 2, its descriptor past the end", changed(A2[:37], 6, le(37, 4)), refused(5, 0))
+check("6: version 2, first segment empty", zeros((BASE, 0), pairs=()), refused(6, 26))
+check("6: version 2, second segment empty", zeros((BASE, 508), (BASE + 508, 0), pairs=()), refused(6, 38))
+check("6: version 2, broken in the 16th", zeros(*[(BASE + 8 * k, 8) for k in range(15)], (BASE, 8), pairs=()), refused(6, 206))
+
+# Refusal 7: the pairs in turn, after all segments.
+for label, pairs, answer in (
+    ("1 input", [(0, 1)], "sound"), ("64 inputs", [(0, 64)], "sound"), ("65 inputs", [(0, 65)], refused(7, 18)),
+    ("255 inputs", [(0, 255)], refused(7, 18)), ("65 inputs in the last pair", [(0, 1), (1, 1), (2, 1), (3, 65)], refused(7, 24)),
+    ("an ID twice", [(0, 32), (0, 32)], refused(7, 20)), ("an ID twice, two pairs between", [(0, 32), (1, 1), (2, 2), (0, 5)], refused(7, 24)),
+    ("an ID twice, and 70 inputs", [(0, 32), (0, 70)], refused(7, 20)), ("70 inputs, then the ID again", [(0, 70), (0, 5)], refused(7, 18)),
+    ("80 inputs before an ID twice", [(0, 32), (1, 80), (0, 5)], refused(7, 20)),
+    ("an ID again in an empty pair", [(0, 32), (0, 0)], "sound"), ("an ID after an empty pair with it", [(0, 0), (0, 32)], "sound"),
+    ("an ID twice around an empty pair", [(0, 32), (0, 0), (0, 5)], refused(7, 22)),
+    ("empty pairs with one ID", [(9, 0), (9, 0), (9, 0), (9, 0)], "sound"), ("an ID that no BIO can have", [(200, 64)], "sound"),
+    ("ID 255 twice", [(255, 1), (255, 1)], refused(7, 20)), ("equal numbers", [(0, 32), (1, 32), (2, 32), (3, 32)], "sound"),
+):
+    check("7: " + label, board(pairs=pairs), answer)
+check("5 before 7", changed(board(pairs=[(0, 65)]), 6, le(545, 4)), refused(5, 0))
+check("6 before 7", zeros((BASE, 8), (BASE, 8), pairs=[(0, 65)]), refused(6, 38))
+find_rsdp("7 before 10", capture([(BASE, image())], rsdp=0, pairs=[(0, 65)]), refused(7, 18))
+find_rsdp("10: version 2", capture([(BASE, image())], rsdp=0, pairs=[(0, 64)]), refused(10, 10))
+find_rsdp("version 2: RSDP", A2, "RSDP at 38")
+reach("version 2: first byte", A2, BASE, "at 38, room 508")
+reach("version 2: last byte of the second segment", zeros((BASE, 8), (BASE + 8, 4), pairs=()), BASE + 11, "at 61, room 1")
 
 # A stretch is present if it lies wholly inside one segment, or runs across several that touch: if there is room for it from its first
 # byte on, as far as segments touch.
@@ -573,6 +613,68 @@ read("60: a list of 4", A, TWO, 4)
 read("60: no list", A, refused(60, 0), 0)
 read("60: a list of 5", A, TWO, 5)
 read("60 after 54", board(sci=45), refused(54, 294), 0)
+
+# W-212: bridges with fewer pins. In version 2 all places are 8 further on: board A's LIO is at 215, EIO 238, MSI 251, BIO 270, LPC 287,
+# what is added to it at 302, and so its FADT without that.
+
+
+def paired(*pairs, structures=(), sci=75, **put):
+    """Board A with pairs, structures behind its last one, and others in place of its own."""
+    kinds = {"msi": MSI, "bio": BIO, "lpc": LPC}
+    own = list(STRUCTURES_OF_A)
+    for kind, new in put.items():
+        own[kinds[kind]] = new
+    return board(own + list(structures), sci, pairs=pairs)
+
+
+SECOND = [eio(4, 5), bio(5, 96)]
+read("version 2 without pairs", A2, TWO)
+survey("version 2 without pairs", A2, found(126, 176, 302, 244, 75))
+both(read, "version 2, MADT revision 5", board(pairs=()).replace(madt(STRUCTURES_OF_A), madt(STRUCTURES_OF_A, revision=5)),
+     ordinary=TWO, strict=refused(29, 126))
+read("32 pins: slots from 32 on", paired((0, 32), msi=msi(32, 224)), TWO)
+read("32 pins: slots from 31 on", paired((0, 32), msi=msi(31, 225)), refused(52, 270, 251))
+read("slots from 32 on without a pair", paired(msi=msi(32, 224)), refused(52, 270, 251))
+read("slots from 32 on, the pair empty", paired((0, 0), msi=msi(32, 224)), refused(52, 270, 251))
+read("slots from 32 on, the pair of another ID", paired((1, 32), msi=msi(32, 224)), refused(52, 270, 251))
+read("slots from 32 on, the pair behind an empty one", paired((0, 0), (9, 9), (0, 32), msi=msi(32, 224)), TWO)
+read("slots from 32 on, the last pair", paired((1, 1), (2, 2), (3, 3), (0, 32), msi=msi(32, 224)), TWO)
+read("32 pins: a bridge behind them", paired((0, 32), structures=SECOND), TWO)
+read("33 pins: a bridge in them", paired((0, 33), structures=SECOND), refused(51, 315, 270))
+read("64 pins: a bridge in them", paired((5, 32), structures=SECOND), refused(51, 315, 270))
+read("one hardware ID, one count", paired((0, 32), structures=[bio(0, 96)]), refused(52, 302, 270))
+read("a pair for 200", paired((200, 7)), TWO)
+read("a base past its range, with 32 pins", paired((0, 32), bio=bio(0, 65473)), refused(76, 270))
+read("45: 19 pins, cascade 19", paired((0, 19)), refused(45, 287))
+read("45: 20 pins, cascade 19", paired((0, 20)), TWO)
+read("45: 63 pins, cascade 63", paired((0, 63), lpc=lpc(63)), refused(45, 287))
+read("45: 64 pins, cascade 63", paired((0, 64), lpc=lpc(63)), TWO)
+read("45: 1 pin, cascade 0", paired((0, 1), lpc=lpc(0), sci=64), TWO)
+read("45: another bridge is short", paired((5, 10), structures=[eio(4, 5), bio(5, 128)]), TWO)
+read("45: another, earlier bridge is short", paired((5, 10), bio=bio(5, 128), structures=[eio(4, 5), bio(0, 64)]), TWO)
+read("45: its own, later bridge is short", paired((0, 10), bio=bio(5, 128), structures=[eio(4, 5), bio(0, 64)]), refused(45, 287))
+read("77 before 45", paired((0, 10), lpc=lpc(64)), refused(77, 287))
+read("42 before 45", paired((9, 5), bio=bio(9, 64)), refused(42, 270))
+read("43, and no 45, without a bridge", board(STRUCTURES_OF_A[:BIO] + [lpc(19)], 26, pairs=[(0, 5)]), refused(43, 270))
+read("45 before 51", paired((0, 10), structures=[bio(0, 64)]), refused(45, 287))
+read("45 before 52", paired((0, 10), msi=msi(5, 8)), refused(45, 287))
+read("45 before 54", paired((0, 10), sci=45), refused(45, 287))
+read("54: the SCI on the last pin", paired((0, 32), sci=95), TWO)
+read("54: the SCI on a pin that is gone", paired((0, 32), sci=96), refused(54, 302))
+SHORT, BEHIND = paired((0, 32)), paired((0, 32), structures=SECOND)
+for number, answer in ((95, "kind 0 3 31"), (96, "kind 2 0 0"), (127, "kind 2 0 0"), (83, "kind 0 3 19"), (3, "kind 0 3 19")):
+    route(f"32 pins: {number}", SHORT, number, answer)
+for vector, number, answer in ((3, 31, "kind 2 0 95"), (3, 32, "kind 0 0 0"), (3, 63, "kind 0 0 0"), (3, 64, "kind 4 0 64"),
+                               (3, 19, "kind 3 0 83")):
+    trace(f"32 pins: {vector} {number}", SHORT, vector, number, answer)
+trace("32 pins: slot 32", paired((0, 32), msi=msi(32, 224)), 3, 32, "kind 4 0 32")
+for number, answer in ((95, "kind 0 3 31"), (96, "kind 0 4 0"), (159, "kind 0 4 63"), (160, "kind 2 0 0")):
+    route(f"a bridge behind 32 pins: {number}", BEHIND, number, answer)
+trace("a bridge behind 32 pins: its input 0", BEHIND, 4, 0, "kind 2 0 96")
+route("1 pin: 64", paired((0, 1), lpc=lpc(0), sci=64), 64, "kind 0 3 0")
+route("1 pin: 65", paired((0, 1), lpc=lpc(0), sci=64), 65, "kind 2 0 0")
+route("as the reading: 45", paired((0, 19)), 72, refused(45, 287))
+read_bytes("32 pins, for C", SHORT, "read 2 0 0 0 0 0 0 0 0 1 0 0 0 1 0 0 0", 2048)
 
 # Newer MADT revisions: the ordinary reading takes any of 1 or more, and then asks the same rules; the strict one takes 1 alone.
 

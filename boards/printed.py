@@ -42,6 +42,25 @@ sci 75 3 11
 
 PRINTED = {
     "A": (A, LINES_OF_A),
+    # the same as version 2, without pairs
+    "A-version-2": (board(pairs=()), LINES_OF_A.replace("map 1", "map 2")),
+    # bridges with 32 inputs, behind each other, and slots from 32 on; a pair that names no bridge, and an empty one
+    "fewer-pins": (board(STRUCTURES_OF_A[:5] + [msi(32, 224), BIO, LPC, eio(4, 5), bio(5, 96)],
+                         pairs=[(200, 7), (0, 32), (9, 0), (5, 32)]), """\
+map 2
+core 0 0
+core 1 1
+lio 2 16777215
+eio 0 3 1
+eio 5 4 1
+bio 0 64 95
+bio 5 96 127
+msi 32 255
+lpc 0 19
+sci 75 3 11
+"""),
+    "refused-7-at-20": (board(pairs=[(0, 32), (0, 70)]), "refused 7 at 20\n"),
+    "refused-45-at-287": (board(pairs=[(0, 19)]), "refused 45 at 287\n"),
     # its memory in as many segments as there can be, each touching the one before it
     "sixteen-segments": (cut(image(), *range(32, 512, 32)), LINES_OF_A),
     # a line for each used half, low first; the SCI is input 16 of the LIO, in the high half
