@@ -1,9 +1,9 @@
 /*
- * The reference: document 01 and requests W-202, W-203, W-206 and W-207 of document 02 written down in plain C, from the
- * documents alone, without a look at the proved reader, so that an error would have to be made twice to go unseen.
+ * The reference: document 01 and requests W-202, W-203, W-206, W-207 and W-212 of document 02 written down in plain C, from
+ * the documents alone, without a look at the proved reader, so that an error would have to be made twice to go unseen.
  *
  * Titles in quotation marks are sections of document 01; the numbers given to refuse() are those of its table
- * "Refusals in order", where W-202 puts 71 to 77 in the place of 36: after 35 and before 37.
+ * "Refusals in order", where W-202 puts 71 to 77 in the place of 36: after 35 and before 37. W-212 adds 7 and 45.
  */
 #include "reference.h"
 
@@ -54,10 +54,19 @@ static uint8_t sum(const uint8_t *bytes, size_t length)
 
 enum {
     CAPTURE_MAX = 65536,
-    HEADER_LENGTH = 18,
+    VERSION = 3, /* where it stands */
+    RSDP_ADDRESS = 10,
+    HEADER_LENGTH = 18, /* the descriptors follow, in version 2 behind the pairs */
     DESCRIPTOR_LENGTH = 12,
     SEGMENTS_MAX = 16,
-    RSDP_ADDRESS = 10,
+};
+
+/* W-212: version 2 has pairs of bytes behind the header, each a hardware ID and a number of inputs; with number 0 it is empty. */
+enum {
+    WITH_PAIRS = 2, /* the version */
+    PAIRS = 4,
+    PAIR_LENGTH = 2,
+    PINS_MAX = 64, /* inputs of a BIO; so many it has without a pair */
 };
 
 struct segment {
@@ -68,9 +77,17 @@ struct segment {
 
 struct capture {
     const uint8_t *bytes;
+    const uint8_t *pairs; /* NULL: the version has none */
+    size_t descriptors;   /* the place of the first */
     size_t segments;
     struct segment segment[SEGMENTS_MAX]; /* in an open capture those that touch are joined */
 };
+
+/* Where the descriptors begin. The version alone decides it, also one that is refused. */
+static size_t descriptors_of(uint16_t version)
+{
+    return version == WITH_PAIRS ? HEADER_LENGTH + PAIRS * PAIR_LENGTH : HEADER_LENGTH;
+}
 
 /* Rule 6, segments in turn. An end may be 2^64, so the comparisons use the last byte of a segment. */
 static uint64_t check_segments(const struct capture *capture)
@@ -79,13 +96,37 @@ static uint64_t check_segments(const struct capture *capture)
 
     for (size_t i = 0; i < capture->segments; i++) {
         const struct segment *segment = &capture->segment[i];
-        uint64_t descriptor = HEADER_LENGTH + DESCRIPTOR_LENGTH * i;
+        uint64_t descriptor = capture->descriptors + DESCRIPTOR_LENGTH * i;
 
         if (segment->length == 0 || segment->address > UINT64_MAX - (segment->length - 1))
             return refuse(6, descriptor);
         if (i > 0 && segment->address <= last_of_previous)
             return refuse(6, descriptor);
         last_of_previous = segment->address + (segment->length - 1);
+    }
+    return 0;
+}
+
+/* The number of inputs that the first pairs give to a hardware ID; 0 if none of them does. An empty pair's ID is free. */
+static uint8_t inputs_given(const uint8_t *pairs, size_t count, uint16_t hardware_id)
+{
+    for (size_t i = 0; i < count; i++) {
+        const uint8_t *pair = pairs + PAIR_LENGTH * i;
+
+        if (pair[1] != 0 && pair[0] == hardware_id)
+            return pair[1];
+    }
+    return 0;
+}
+
+/* Rule 7, pairs in turn. */
+static uint64_t check_pairs(const uint8_t *pairs)
+{
+    for (size_t i = 0; i < PAIRS; i++) {
+        const uint8_t *pair = pairs + PAIR_LENGTH * i;
+
+        if (pair[1] > PINS_MAX || (pair[1] != 0 && inputs_given(pairs, i, pair[0]) != 0))
+            return refuse(7, HEADER_LENGTH + PAIR_LENGTH * i);
     }
     return 0;
 }
@@ -111,27 +152,39 @@ static void join_touching(struct capture *capture)
     capture->segments = joined + 1;
 }
 
-/* Rules 1 to 6. */
-static uint64_t open_capture(struct capture *capture, const uint8_t *bytes, size_t length)
+/* Rules 1 to 4. */
+static uint64_t check_header(struct capture *capture, const uint8_t *bytes, size_t length)
 {
     if (length < HEADER_LENGTH || length > CAPTURE_MAX)
         return refuse(1, 0);
-    if (memcmp(bytes, "TBC", 3) != 0)
-        return refuse(2, 0);
-    if (u16(bytes + 3) != 1)
-        return refuse(3, 0);
+
+    uint16_t version = u16(bytes + VERSION);
 
     capture->bytes = bytes;
+    capture->pairs = version == WITH_PAIRS ? bytes + HEADER_LENGTH : NULL;
+    capture->descriptors = descriptors_of(version);
     capture->segments = bytes[5];
+    if (length < capture->descriptors)
+        return refuse(1, 0);
+    if (memcmp(bytes, "TBC", 3) != 0)
+        return refuse(2, 0);
+    if (version != 1 && version != WITH_PAIRS)
+        return refuse(3, 0);
     if (capture->segments < 1 || capture->segments > SEGMENTS_MAX)
         return refuse(4, 0);
+    return 0;
+}
 
-    uint64_t place = HEADER_LENGTH + DESCRIPTOR_LENGTH * capture->segments;
+/* Rule 5. It notes the segments. */
+static uint64_t find_segments(struct capture *capture, size_t length)
+{
+    const uint8_t *bytes = capture->bytes;
+    uint64_t place = capture->descriptors + DESCRIPTOR_LENGTH * capture->segments;
 
     if (place > length || u32(bytes + 6) != length)
         return refuse(5, 0);
     for (size_t i = 0; i < capture->segments; i++) {
-        const uint8_t *descriptor = bytes + HEADER_LENGTH + DESCRIPTOR_LENGTH * i;
+        const uint8_t *descriptor = bytes + capture->descriptors + DESCRIPTOR_LENGTH * i;
         struct segment *segment = &capture->segment[i];
 
         segment->address = u64(descriptor);
@@ -139,14 +192,24 @@ static uint64_t open_capture(struct capture *capture, const uint8_t *bytes, size
         segment->place = place;
         place += segment->length;
     }
-    if (place != length)
-        return refuse(5, 0);
+    return place == length ? 0 : refuse(5, 0);
+}
 
-    uint64_t refusal = check_segments(capture);
+/* Rules 1 to 7. */
+static uint64_t open_capture(struct capture *capture, const uint8_t *bytes, size_t length)
+{
+    uint64_t refusal;
 
-    if (refusal == 0)
-        join_touching(capture);
-    return refusal;
+    if ((refusal = check_header(capture, bytes, length)) != 0)
+        return refusal;
+    if ((refusal = find_segments(capture, length)) != 0)
+        return refusal;
+    if ((refusal = check_segments(capture)) != 0)
+        return refusal;
+    if (capture->pairs != NULL && (refusal = check_pairs(capture->pairs)) != 0)
+        return refusal;
+    join_touching(capture);
+    return 0;
 }
 
 /* Finds the place of a stretch of memory: it is present if it lies wholly inside one segment, or across some that touch. */
@@ -322,7 +385,6 @@ enum {
     CASCADE_MIN = 2,
     CASCADE_MAX = 9,
     NODES = 64,
-    PINS = 64,         /* inputs of a BIO */
     EXTENDED_VECTORS = 256,
     BASE_MIN = 64,
     BASE_MAX = 65472,
@@ -357,6 +419,7 @@ struct bio {
     uint64_t place;
     uint16_t node; /* its hardware ID */
     uint16_t base;
+    uint8_t pins; /* how many inputs it has, from 0 on */
 };
 
 struct lpc {
@@ -369,8 +432,9 @@ struct clash {
     uint64_t named, partner;
 };
 
-/* What the MADT and the FADT say. LIO and LPC occur at most once; their counts are 0 or 1. */
+/* What the MADT, the FADT and the pairs say. LIO and LPC occur at most once; their counts are 0 or 1. */
 struct board {
+    const uint8_t *pairs; /* NULL: none */
     uint64_t madt, fadt; /* places */
     uint16_t sci;
     size_t cores, enabled, lios, eios, msis, bios, lpcs; /* `cores` counts all CORE, enabled or not */
@@ -450,9 +514,17 @@ static uint64_t take_msi(struct board *board, const uint8_t *bytes, uint64_t pla
     return 0;
 }
 
+/* W-212: a BIO without a pair has 64 inputs, and so has every BIO of a version 1 capture. */
+static uint8_t pins_of(const struct board *board, uint16_t hardware_id)
+{
+    uint8_t given = board->pairs == NULL ? 0 : inputs_given(board->pairs, PAIRS, hardware_id);
+
+    return given == 0 ? PINS_MAX : given;
+}
+
 static uint64_t take_bio(struct board *board, const uint8_t *bytes, uint64_t place)
 {
-    struct bio bio = {place, u16(bytes + 13), u16(bytes + 15)};
+    struct bio bio = {place, u16(bytes + 13), u16(bytes + 15), 0};
 
     if (bio.node >= NODES)
         return refuse(72, place);
@@ -460,15 +532,17 @@ static uint64_t take_bio(struct board *board, const uint8_t *bytes, uint64_t pla
         return refuse(76, place);
     if (board->bios == BIOS_MAX)
         return refuse(38, place);
+    bio.pins = pins_of(board, bio.node);
     board->bio[board->bios++] = bio;
     return 0;
 }
 
+/* Its range is that of all pins that a bridge can have: 77. Whether its own has so many is asked later: 45. */
 static uint64_t take_lpc(struct board *board, const uint8_t *bytes, uint64_t place)
 {
     struct lpc lpc = {place, u16(bytes + 13)};
 
-    if (lpc.cascade >= PINS)
+    if (lpc.cascade >= PINS_MAX)
         return refuse(77, place);
     if (board->lpcs == 1)
         return refuse(38, place);
@@ -608,7 +682,7 @@ static uint64_t route(const struct board *board, uint32_t number)
     for (size_t i = 0; i < board->bios; i++) {
         const struct bio *bio = &board->bio[i];
 
-        if (number >= bio->base && number - bio->base < PINS)
+        if (number >= bio->base && number - bio->base < bio->pins)
             return route_pin(board, bio, number - bio->base);
     }
     return NO_OWNER;
@@ -620,7 +694,7 @@ static uint64_t trace_eio(const struct board *board, const struct eio *eio, uint
     for (size_t i = 0; i < board->bios; i++) {
         const struct bio *bio = &board->bio[i];
 
-        if (bio->node != eio->node || number >= PINS)
+        if (bio->node != eio->node || number >= bio->pins)
             continue;
         if (board->lpcs == 1 && bio == bridge_of_lpc(board) && number == board->lpc.cascade)
             return traced(LPC_CASCADE, 0, bio->base + number);
@@ -680,7 +754,7 @@ static uint64_t check_ids(const struct board *board)
     return 0;
 }
 
-/* Rules 40 to 43. */
+/* Rules 40 to 45; 44 is about HT boards, which are refused with 34. */
 static uint64_t check_parts(const struct board *board)
 {
     if (board->enabled == 0 || board->lios == 0 || board->eios == 0)
@@ -694,19 +768,23 @@ static uint64_t check_parts(const struct board *board)
             return refuse(42, board->bio[i].place);
     if (board->lpcs == 1 && board->bios == 0)
         return refuse(43, board->lpc.place);
+    if (board->lpcs == 1 && board->lpc.cascade >= bridge_of_lpc(board)->pins)
+        return refuse(45, board->lpc.place);
     return 0;
+}
+
+static bool numbers_meet(const struct bio *a, const struct bio *b)
+{
+    return a->base < b->base + b->pins && b->base < a->base + a->pins;
 }
 
 /* Global numbers of different sources can meet between BIOs only: LIO has 16 to 47, bases are 64 and up. */
 static uint64_t check_global_numbers(struct board *board)
 {
     for (size_t i = 0; i < board->bios; i++)
-        for (size_t j = 0; j < i; j++) {
-            int distance = board->bio[i].base - board->bio[j].base;
-
-            if (distance > -PINS && distance < PINS)
+        for (size_t j = 0; j < i; j++)
+            if (numbers_meet(&board->bio[i], &board->bio[j]))
                 name_later(&board->clash, board->bio[i].place, board->bio[j].place);
-        }
     return refuse_clash(51, &board->clash);
 }
 
@@ -715,7 +793,10 @@ static bool slots_meet(const struct msi *a, const struct msi *b)
     return a->start < b->start + b->count && b->start < a->start + a->count;
 }
 
-/* A BIO's pins are the vectors 0 to 63 of its EIO; a slot is on every EIO, so it meets every BIO with a pin of its number. */
+/*
+ * A BIO's pins are the vectors of its EIO from 0 on, and it has at least one; a slot is on every EIO, so it meets every BIO
+ * with a pin of its number.
+ */
 static uint64_t check_extended_vectors(struct board *board)
 {
     for (size_t i = 0; i < board->bios; i++) {
@@ -723,7 +804,7 @@ static uint64_t check_extended_vectors(struct board *board)
             if (board->bio[i].node == board->bio[j].node)
                 name_later(&board->clash, board->bio[i].place, board->bio[j].place);
         for (size_t j = 0; j < board->msis; j++)
-            if (board->msi[j].start < PINS)
+            if (board->msi[j].start < board->bio[i].pins)
                 name_later(&board->clash, board->bio[i].place, board->msi[j].place);
     }
     for (size_t i = 0; i < board->msis; i++)
@@ -780,6 +861,7 @@ static uint64_t read_board(const uint8_t *bytes, size_t length, struct board *bo
     if ((refusal = find_tables(&capture, &tables, reading)) != 0)
         return refusal;
 
+    board->pairs = capture.pairs;
     board->madt = tables.madt.place;
     board->fadt = tables.fadt.place;
     board->sci = u16(bytes + tables.fadt.place + 46);
