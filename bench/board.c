@@ -161,6 +161,8 @@ void add_entry(struct board *board, size_t at, size_t table)
 void start_board(struct random *random, struct board *board)
 {
     board->filling = any(random);
+    board->version = 1;
+    memset(board->pair, 0, sizeof board->pair);
     board->tables = board->entries = board->structures = 0;
     board->xsdt_tail = board->madt_cut = board->tail = board->cuts = 0;
     board->madt_flags = 0;
@@ -216,6 +218,22 @@ void remove_kind(struct board *board, enum kind kind)
     board->structures = kept;
 }
 
+uint8_t pins_of(const struct board *board, uint16_t hardware_id)
+{
+    for (size_t i = 0; i < PAIRS && board->version == WITH_PAIRS; i++) {
+        const struct pair *pair = &board->pair[i];
+
+        if (pair->number >= 1 && pair->number <= PINS && pair->hardware_id == hardware_id)
+            return pair->number;
+    }
+    return PINS;
+}
+
+uint8_t pins_of_bio(const struct board *board, const uint8_t *bio)
+{
+    return pins_of(board, get_u16(bio + BIO_HARDWARE_ID));
+}
+
 void settle_lengths(struct board *board)
 {
     size_t madt = MADT_HEADER;
@@ -262,11 +280,16 @@ size_t count_segments(const struct board *board)
     return count;
 }
 
+size_t place_of_descriptors(uint16_t version)
+{
+    return version == WITH_PAIRS ? HEADER_LENGTH + PAIRS_LENGTH : HEADER_LENGTH;
+}
+
 size_t capture_length(struct board *board)
 {
     settle_lengths(board);
 
-    size_t length = HEADER_LENGTH + DESCRIPTOR_LENGTH * count_segments(board) + board->tail;
+    size_t length = place_of_descriptors(board->version) + DESCRIPTOR_LENGTH * count_segments(board) + board->tail;
 
     for (size_t i = 0; i < board->tables; i++)
         length += board->table[i].gap + board->table[i].length;
@@ -381,29 +404,29 @@ static void write_madt(const struct board *board, uint8_t *madt)
     }
 }
 
-static size_t descriptor(size_t number)
+static size_t descriptor(const struct capture *capture, size_t number)
 {
-    return HEADER_LENGTH + DESCRIPTOR_LENGTH * number;
+    return capture->descriptors + DESCRIPTOR_LENGTH * number;
 }
 
 uint64_t segment_address(const struct capture *capture, size_t number)
 {
-    return get_u64(capture->bytes + descriptor(number));
+    return get_u64(capture->bytes + descriptor(capture, number));
 }
 
 uint32_t segment_length(const struct capture *capture, size_t number)
 {
-    return get_u32(capture->bytes + descriptor(number) + 8);
+    return get_u32(capture->bytes + descriptor(capture, number) + 8);
 }
 
 void set_segment_address(struct capture *capture, size_t number, uint64_t address)
 {
-    put_u64(capture->bytes + descriptor(number), address);
+    put_u64(capture->bytes + descriptor(capture, number), address);
 }
 
 void set_segment_length(struct capture *capture, size_t number, uint32_t length)
 {
-    put_u32(capture->bytes + descriptor(number) + 8, length);
+    put_u32(capture->bytes + descriptor(capture, number) + 8, length);
 }
 
 void set_total(struct capture *capture, size_t total)
@@ -411,12 +434,23 @@ void set_total(struct capture *capture, size_t total)
     put_u32(capture->bytes + 6, (uint32_t)total);
 }
 
-static void write_capture_header(struct capture *capture, const struct segment *segment, size_t segments, uint64_t rsdp)
+static void write_pairs(uint8_t *bytes, const struct pair pair[PAIRS])
+{
+    for (size_t i = 0; i < PAIRS; i++) {
+        bytes[PAIR_LENGTH * i] = pair[i].hardware_id;
+        bytes[PAIR_LENGTH * i + 1] = pair[i].number;
+    }
+}
+
+static void write_capture_header(const struct board *board, struct capture *capture, const struct segment *segment,
+                                 size_t segments, uint64_t rsdp)
 {
     uint8_t *bytes = capture->bytes;
 
     memcpy(bytes, "TBC", 3);
-    put_u16(bytes + 3, 1);
+    put_u16(bytes + CAPTURE_VERSION, board->version);
+    if (board->version == WITH_PAIRS)
+        write_pairs(bytes + HEADER_LENGTH, board->pair);
     bytes[5] = (uint8_t)segments;
     set_total(capture, capture->length);
     put_u64(bytes + 10, rsdp);
@@ -435,7 +469,10 @@ void lay_out(struct board *board, struct capture *capture)
     assert(capture->length <= CAPTURE_ROOM);
 
     size_t segments = divide(board, offset_of, segment);
-    size_t memory = HEADER_LENGTH + DESCRIPTOR_LENGTH * segments;
+
+    capture->descriptors = place_of_descriptors(board->version);
+
+    size_t memory = descriptor(capture, segments);
 
     give_addresses(board, segment, segments);
     fill(board->filling, capture->bytes + memory, capture->length - memory);
@@ -448,7 +485,7 @@ void lay_out(struct board *board, struct capture *capture)
         if (i != RSDP)
             write_header(capture->bytes + capture->place[i], &board->table[i]);
     }
-    write_capture_header(capture, segment, segments, address_of(segment, segments, offset_of[RSDP]));
+    write_capture_header(board, capture, segment, segments, address_of(segment, segments, offset_of[RSDP]));
     write_rsdp(capture->bytes + capture->place[RSDP], address_of(segment, segments, offset_of[XSDT]));
     for (size_t i = 0; i < board->entries; i++)
         put_u64(capture->bytes + capture->place[XSDT] + TABLE_HEADER + 8 * i,

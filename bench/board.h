@@ -1,6 +1,7 @@
 /*
  * A board as it is thought up, and the capture that is made of it. Document 01's sections "The capture", "Tables" and
- * "MADT structures" say how a capture is laid out; here this is written, where reference.c reads it.
+ * "MADT structures" say how a capture is laid out, and request W-212 of document 02 its version 2; here this is written,
+ * where reference.c reads it.
  *
  * A board may be wrong in any way: what breaks a rule is set in the board, or in the capture's bytes afterwards.
  */
@@ -16,7 +17,8 @@
 enum {
     CAPTURE_MAX = 65536,
     CAPTURE_ROOM = CAPTURE_MAX + 256, /* for captures that are too long */
-    HEADER_LENGTH = 18,
+    CAPTURE_VERSION = 3, /* where the header has it */
+    HEADER_LENGTH = 18,  /* the descriptors follow, in version 2 behind the pairs */
     DESCRIPTOR_LENGTH = 12,
     SEGMENTS_MAX = 16,
     ENTRIES_MAX = 32,
@@ -32,6 +34,23 @@ enum {
     FADT_SCI = 46, /* where the FADT has the SCI number */
 };
 
+/* ---- Pairs of version 2 (W-212) ---- */
+
+enum {
+    WITH_PAIRS = 2, /* the version */
+    PAIRS = 4,
+    PAIR_LENGTH = 2,
+    PAIRS_LENGTH = PAIRS * PAIR_LENGTH,
+};
+
+/* Where the descriptors begin: the version alone decides it. */
+size_t place_of_descriptors(uint16_t version);
+
+/* How many inputs the bridges of a hardware ID have. With number 0 the pair is empty, and its ID is free. */
+struct pair {
+    uint8_t hardware_id, number;
+};
+
 /* ---- Structures of the MADT ---- */
 
 enum kind { CORE = 17, LIO = 18, HT = 19, EIO = 20, MSI = 21, BIO = 22, LPC = 23 };
@@ -44,7 +63,7 @@ enum {
     CASCADE_MIN = 2,
     CASCADE_MAX = 9,
     NODES = 64,
-    PINS = 64,
+    PINS = 64, /* of a bridge without a pair, and the most that there can be */
     SLOTS = 256,
     BASE_MIN = 64,
     BASE_MAX = 65472,
@@ -113,6 +132,8 @@ struct cut {
 
 struct board {
     uint64_t filling; /* the seed of all bytes that mean nothing */
+    uint16_t version;
+    struct pair pair[PAIRS]; /* version 1 has no place for them */
     size_t tables;
     struct table table[TABLES_ROOM];
     size_t order[TABLES_ROOM]; /* the tables' numbers as they stand in memory */
@@ -145,6 +166,10 @@ size_t count_kind(const struct board *board, enum kind kind);
 uint8_t *nth_of_kind(struct board *board, enum kind kind, size_t number);
 void remove_kind(struct board *board, enum kind kind);
 
+/* How many pins the bridges of a hardware ID have. A pair that is over 64 says nothing. */
+uint8_t pins_of(const struct board *board, uint16_t hardware_id);
+uint8_t pins_of_bio(const struct board *board, const uint8_t *bio);
+
 /* Cuts the memory inside a table. A cut that is there already gets the new distance. */
 void cut_table(struct board *board, size_t table, size_t at, uint64_t distance);
 void remove_cut(struct board *board, size_t number);
@@ -165,6 +190,7 @@ struct capture {
     size_t length;
     uint8_t bytes[CAPTURE_ROOM];
     /* Where the layout put things. */
+    size_t descriptors; /* the first one's place */
     size_t segments;
     size_t tables;
     size_t place[TABLES_ROOM];

@@ -26,6 +26,7 @@ void load_board_a(const char *boards, uint8_t revision, struct capture *a)
         fprintf(stderr, "%s is not board A: it has %zu bytes\n", path, a->length);
         exit(2);
     }
+    a->descriptors = A_DESCRIPTOR;
     a->segments = 1;
     a->tables = OTHERS;
     memcpy(a->place, place, sizeof place);

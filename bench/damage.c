@@ -5,19 +5,19 @@
 
 #include <string.h>
 
+#include "readers.h"
 #include "ways.h"
 
 /* ---- Chosen ways ---- */
 
-/* Request W-202 of document 02 puts refusals 71 to 77 in the place of 36, so a number does not say where its rule stands. */
-enum { SPLIT = 36, SPLIT_FIRST = 71, SPLIT_LAST = 77 };
-
-/* Where a refusal's rule stands in the order: neighbours there are neighbours here. */
-static unsigned standing(unsigned refusal)
+/* Where a refusal's rule stands in the order, which is not that of the numbers (W-202), and these have gaps. */
+static size_t standing(unsigned refusal)
 {
-    if (refusal >= SPLIT_FIRST)
-        return SPLIT + (refusal - SPLIT_FIRST);
-    return refusal > SPLIT ? refusal + (SPLIT_LAST - SPLIT_FIRST) : refusal;
+    size_t number = 0;
+
+    while (refusals[number] != refusal)
+        number++;
+    return number;
 }
 
 const struct way *way_at(size_t number)
@@ -43,8 +43,8 @@ const struct way *pick_way(struct random *random)
     size_t count = 0;
 
     do
-        refusal = (unsigned)between(random, 1, SPLIT_LAST);
-    while (way_to(refusal, 0) == NULL); /* some numbers are free */
+        refusal = refusals[below(random, REFUSALS)];
+    while (way_to(refusal, 0) == NULL); /* 60 is no capture's fault */
     while (way_to(refusal, count) != NULL)
         count++;
     return way_to(refusal, below(random, count));
@@ -85,7 +85,7 @@ void change_some_bytes(struct random *random, struct capture *capture)
 
     switch (below(random, 3)) {
     case 0: /* the capture's header and descriptors */
-        length = HEADER_LENGTH + DESCRIPTOR_LENGTH * capture->segments;
+        length = capture->descriptors + DESCRIPTOR_LENGTH * capture->segments;
         break;
     case 1: {
         size_t table = below(random, OTHERS);
@@ -123,16 +123,20 @@ void truncate_capture(struct random *random, struct capture *capture)
 void make_random_bytes(struct random *random, struct capture *capture)
 {
     size_t right = below(random, 6); /* how much of the header is right */
-    size_t memory = HEADER_LENGTH + DESCRIPTOR_LENGTH;
+    bool with_pairs = one_in(random, 3);
+    size_t memory = place_of_descriptors(with_pairs ? WITH_PAIRS : 1) + DESCRIPTOR_LENGTH;
 
     capture->length = one_in(random, 16) ? below(random, CAPTURE_ROOM) : below(random, 200);
     for (size_t i = 0; i < capture->length; i++)
         capture->bytes[i] = (uint8_t)any(random);
     if (right == 0 || capture->length < memory + RSDP_LENGTH)
         return;
-    memcpy(capture->bytes, "TBC\1\0\1", right < 3 ? 2 * right + 1 : 6);
+    memcpy(capture->bytes, with_pairs ? "TBC\2\0\1" : "TBC\1\0\1", right < 3 ? 2 * right + 1 : 6);
     if (right < 4)
         return;
+    if (with_pairs && one_in(random, 2)) /* they are empty */
+        memset(capture->bytes + HEADER_LENGTH, 0, PAIRS_LENGTH);
+    capture->descriptors = memory - DESCRIPTOR_LENGTH;
     capture->segments = 1;
     set_total(capture, capture->length);
     put_u64(capture->bytes + 10, segment_address(capture, 0) >> 1);

@@ -825,7 +825,7 @@ static uint64_t address_in_example(const struct cut_example *example, size_t pla
 
 static void exchange_two_segments(struct capture *capture)
 {
-    uint8_t *memory = capture->bytes + HEADER_LENGTH + 2 * DESCRIPTOR_LENGTH;
+    uint8_t *memory = capture->bytes + capture->descriptors + 2 * DESCRIPTOR_LENGTH;
     uint64_t address = segment_address(capture, 0);
     uint32_t length = segment_length(capture, 0);
     uint8_t bytes[A_LENGTH];

@@ -1,7 +1,7 @@
 /*
  * Random boards that keep every rule of document 01: see valid.h. They are varied on purpose in what the rules do not
- * fix: the order of structures and tables, the order of UIDs and of physical IDs, the IDs of disabled CORE, what is passed
- * over, the segments, what runs across segments that touch, the free bytes.
+ * fix: the order of structures and tables, the order of UIDs and of physical IDs, the IDs of disabled CORE, the pairs of
+ * version 2, what is passed over, the segments, what runs across segments that touch, the free bytes.
  */
 #include "valid.h"
 
@@ -238,41 +238,212 @@ static void add_lio(struct random *random, struct board *board, struct lines *li
     append_structure(board, make_lio(random, cascades, masks));
 }
 
-bool base_is_taken(const struct board *board, uint16_t base)
+/* ---- Bridges, their pins and the pairs of version 2 ---- */
+
+uint8_t random_pins(struct random *random)
+{
+    static const uint8_t edges[] = {1, 2, PINS / 2 - 1, PINS / 2, PINS / 2 + 1, PINS - 1, PINS};
+
+    return one_in(random, 2) ? edges[below(random, sizeof edges)] : (uint8_t)between(random, 1, PINS);
+}
+
+/* The last pin is where readers are told apart. */
+static uint16_t random_pin(struct random *random, uint8_t pins)
+{
+    return (uint16_t)(one_in(random, 4) ? pins - 1u : below(random, pins));
+}
+
+static struct pair *pair_of(struct board *board, uint8_t hardware_id)
+{
+    for (size_t i = 0; i < PAIRS; i++)
+        if (board->pair[i].number != 0 && board->pair[i].hardware_id == hardware_id)
+            return &board->pair[i];
+    return NULL;
+}
+
+static uint16_t hardware_id_of(const uint8_t *bio)
+{
+    return get_u16(bio + BIO_HARDWARE_ID);
+}
+
+static bool has_bio(const struct board *board, uint16_t hardware_id)
+{
+    for (size_t i = 0; i < board->structures; i++)
+        if (board->structure[i].bytes[0] == BIO && hardware_id_of(board->structure[i].bytes) == hardware_id)
+            return true;
+    return false;
+}
+
+/* Some pair that no bridge has, or any if there is none. */
+static struct pair *spare_pair(struct random *random, struct board *board)
+{
+    size_t first = below(random, PAIRS);
+
+    for (size_t i = 0; i < PAIRS; i++) {
+        struct pair *pair = &board->pair[(first + i) % PAIRS];
+
+        if (pair->number == 0 || !has_bio(board, pair->hardware_id))
+            return pair;
+    }
+    return &board->pair[first];
+}
+
+void give_pair(struct random *random, struct board *board, uint8_t hardware_id, uint8_t number)
+{
+    struct pair *pair = pair_of(board, hardware_id);
+
+    if (pair == NULL)
+        pair = spare_pair(random, board);
+    *pair = (struct pair){hardware_id, number};
+}
+
+const uint8_t *some_bio(struct random *random, const struct board *board)
+{
+    const uint8_t *bio = NULL;
+
+    for (size_t i = 0; i < board->structures; i++)
+        if (board->structure[i].bytes[0] == BIO && (bio == NULL || one_in(random, 2)))
+            bio = board->structure[i].bytes;
+    return bio;
+}
+
+const uint8_t *bridge_of_lpc(const struct board *board)
+{
+    const uint8_t *bridge = NULL;
+
+    for (size_t i = 0; i < board->structures; i++) {
+        const uint8_t *bytes = board->structure[i].bytes;
+
+        if (bytes[0] == BIO && (bridge == NULL || hardware_id_of(bytes) < hardware_id_of(bridge)))
+            bridge = bytes;
+    }
+    return bridge;
+}
+
+uint8_t most_pins(const struct board *board)
+{
+    uint8_t most = 0;
+
+    for (size_t i = 0; i < board->structures; i++) {
+        const uint8_t *bytes = board->structure[i].bytes;
+
+        if (bytes[0] == BIO && pins_of_bio(board, bytes) > most)
+            most = pins_of_bio(board, bytes);
+    }
+    return most;
+}
+
+/* An ID of no bridge and no pair, for a pair that changes nothing: it may be a node's, and need not be one (W-212). */
+static uint8_t unused_hardware_id(struct random *random, struct board *board)
+{
+    uint8_t id;
+
+    do
+        id = (uint8_t)below(random, one_in(random, 2) ? NODES : UINT8_MAX + 1);
+    while (has_bio(board, id) || pair_of(board, id) != NULL);
+    return id;
+}
+
+/* The ID of an empty pair is free: any, or one that a bridge or another pair has. */
+static uint8_t free_hardware_id(struct random *random, const struct board *board)
+{
+    const uint8_t *bio = some_bio(random, board);
+
+    switch (below(random, 3)) {
+    case 0:
+        return (uint8_t)any(random);
+    case 1:
+        return board->pair[below(random, PAIRS)].hardware_id;
+    default:
+        return bio == NULL ? 0 : (uint8_t)hardware_id_of(bio);
+    }
+}
+
+/* The pairs that no bridge has got: some name none, the others are empty. */
+static void fill_other_pairs(struct random *random, struct board *board)
+{
+    for (size_t i = 0; i < PAIRS; i++) {
+        if (board->pair[i].number != 0)
+            continue;
+        if (one_in(random, 3)) {
+            board->pair[i].hardware_id = unused_hardware_id(random, board);
+            board->pair[i].number = random_pins(random);
+        } else {
+            board->pair[i].hardware_id = free_hardware_id(random, board);
+        }
+    }
+}
+
+void make_version_2(struct random *random, struct board *board)
+{
+    if (board->version == WITH_PAIRS)
+        return;
+    board->version = WITH_PAIRS;
+    fill_other_pairs(random, board);
+}
+
+bool base_is_taken(const struct board *board, uint16_t base, uint8_t pins)
 {
     for (size_t i = 0; i < board->structures; i++) {
         const uint8_t *bytes = board->structure[i].bytes;
-        int distance = get_u16(bytes + BIO_BASE) - base;
+        int distance = base - get_u16(bytes + BIO_BASE);
 
-        if (bytes[0] == BIO && distance > -PINS && distance < PINS)
+        if (bytes[0] == BIO && distance < pins_of_bio(board, bytes) && -distance < pins)
             return true;
     }
     return false;
 }
 
-uint16_t free_base(struct random *random, const struct board *board)
+/* Just behind the last pin of a bridge, or so far before it that there is room for the pins. */
+static uint16_t base_beside(struct random *random, const struct board *board, uint8_t pins)
+{
+    const uint8_t *bio = some_bio(random, board);
+
+    if (bio == NULL)
+        return BASE_MIN;
+
+    int base = get_u16(bio + BIO_BASE);
+
+    return (uint16_t)(one_in(random, 2) ? base + pins_of_bio(board, bio) : base - pins);
+}
+
+uint16_t free_base(struct random *random, const struct board *board, uint8_t pins)
 {
     uint16_t base;
 
     do {
-        switch (below(random, 4)) {
+        switch (below(random, 6)) {
         case 0: /* close together */
             base = (uint16_t)(BASE_MIN + PINS * below(random, 8));
             break;
         case 1:
             base = BASE_MAX;
             break;
+        case 2: case 3:
+            base = base_beside(random, board, pins);
+            break;
         default:
             base = (uint16_t)between(random, BASE_MIN, BASE_MAX);
             break;
         }
-    } while (base_is_taken(board, base));
+    } while (base < BASE_MIN || base > BASE_MAX || base_is_taken(board, base, pins));
     return base;
 }
 
 uint64_t node_map(struct random *random)
 {
     return one_in(random, 2) ? any(random) | 1 : UINT64_C(1) << below(random, 64);
+}
+
+/* A bridge with a base of its own. In version 2 most bridges have a pair. */
+static void add_bio(struct random *random, struct board *board, uint8_t hardware_id)
+{
+    if (board->version == WITH_PAIRS && !one_in(random, 4))
+        give_pair(random, board, hardware_id, random_pins(random));
+
+    uint16_t base = free_base(random, board, pins_of(board, hardware_id));
+
+    append_structure(board, make_bio(random, hardware_id, base));
 }
 
 /* EIOs of different nodes, and a BIO on some of them; gives the number of BIOs. */
@@ -286,7 +457,7 @@ static size_t add_hubs(struct random *random, struct board *board, struct lines 
     for (size_t i = 0; i < eios; i++) {
         append_structure(board, make_eio(random, lines->line[lines->taken++], node, node_map(random)));
         if (i >= first_bio && (i == first_bio || !one_in(random, 4))) {
-            append_structure(board, make_bio(random, node, free_base(random, board)));
+            add_bio(random, board, node);
             bios++;
         }
         node = (uint8_t)((node + step) % NODES);
@@ -294,10 +465,11 @@ static size_t add_hubs(struct random *random, struct board *board, struct lines 
     return bios;
 }
 
-/* MSIs with slots of their own: behind the pins if there is a BIO, from 0 if not. */
-static void add_msis(struct random *random, struct board *board, uint32_t first)
+/* MSIs with slots of their own: behind the pins of all BIOs, from 0 if there is none. */
+static void add_msis(struct random *random, struct board *board)
 {
     size_t count = below(random, MSIS_MAX + 1);
+    uint32_t first = most_pins(board);
 
     for (size_t i = 0; i < count; i++) {
         uint32_t share = (uint32_t)((SLOTS - first) / count);
@@ -351,15 +523,12 @@ static void shuffle_structures(struct random *random, struct board *board)
 static uint16_t arriving_number(struct random *random, const struct board *board, const uint32_t masks[2])
 {
     uint32_t wired = masks[0] | masks[1];
-    const struct structure *bio = NULL;
+    const uint8_t *bio = some_bio(random, board);
 
-    for (size_t i = 0; i < board->structures; i++)
-        if (board->structure[i].bytes[0] == BIO && (bio == NULL || one_in(random, 2)))
-            bio = &board->structure[i];
     if (count_kind(board, LPC) == 1 && one_in(random, 3))
         return (uint16_t)below(random, 16);
     if (bio != NULL && (wired == 0 || one_in(random, 2)))
-        return (uint16_t)(get_u16(bio->bytes + BIO_BASE) + below(random, PINS));
+        return (uint16_t)(get_u16(bio + BIO_BASE) + random_pin(random, pins_of_bio(board, bio)));
 
     uint32_t input = (uint32_t)below(random, LIO_INPUTS);
 
@@ -381,9 +550,14 @@ static void add_structures(struct random *random, struct board *board)
     if (bios == 0 && (masks[0] | masks[1]) == 0) /* the SCI has to arrive somewhere */
         masks[any(random) & 1] = 1;
     add_lio(random, board, &lines, masks);
-    add_msis(random, board, bios == 0 ? 0 : PINS);
-    if (bios != 0 && !one_in(random, 3))
-        append_structure(board, make_lpc(random, (uint16_t)below(random, PINS)));
+    add_msis(random, board);
+    if (bios != 0 && !one_in(random, 3)) {
+        uint16_t cascade = random_pin(random, pins_of_bio(board, bridge_of_lpc(board)));
+
+        append_structure(board, make_lpc(random, cascade));
+    }
+    if (board->version == WITH_PAIRS)
+        fill_other_pairs(random, board);
     if (!one_in(random, 3))
         shuffle_structures(random, board);
     add_passed_over(random, board);
@@ -532,6 +706,7 @@ static void cut_tables(struct random *random, struct board *board)
 void make_valid_board(struct random *random, struct board *board)
 {
     start_board(random, board);
+    board->version = one_in(random, 3) ? WITH_PAIRS : 1;
     board->table[FADT].length = one_in(random, 4) ? FADT_MIN : between(random, FADT_MIN, 280);
     add_structures(random, board);
     add_other_tables(random, board);

@@ -1,6 +1,7 @@
 /*
  * Random boards that keep every rule of document 01, with the meaning that W-206 gives to a stretch that is present. W-203
- * leaves the IDs of disabled CORE free, and theirs often repeat others. Their MADT has revision 1, which both readings of
+ * leaves the IDs of disabled CORE free, and theirs often repeat others. A third of them have capture version 2, and many of
+ * these keep the rules only because their bridges have fewer pins (W-212). Their MADT has revision 1, which both readings of
  * W-207 take.
  */
 #ifndef VALID_H
@@ -20,11 +21,29 @@ void give_ids(struct random *random, struct board *board);
 /* A node map: not 0, with many nodes or one. */
 uint64_t node_map(struct random *random);
 
-/* Whether a BIO with this base would own a global number that a BIO of the board owns already. */
-bool base_is_taken(const struct board *board, uint16_t base);
+/* How many pins a bridge may have: often 1, 32, 64, or one next to these. */
+uint8_t random_pins(struct random *random);
 
-/* A base that is free on a board with few bridges. */
-uint16_t free_base(struct random *random, const struct board *board);
+/* Gives a board of version 1 the next one, with pairs that name none of its bridges or are empty. */
+void make_version_2(struct random *random, struct board *board);
+
+/* Gives a number of inputs to the bridges of a hardware ID. Other bridges keep their pairs, unless they have all four. */
+void give_pair(struct random *random, struct board *board, uint8_t hardware_id, uint8_t number);
+
+/* Some BIO; NULL if there is none. */
+const uint8_t *some_bio(struct random *random, const struct board *board);
+
+/* The LPC's bridge, the BIO with the smallest hardware ID; NULL if there is none. */
+const uint8_t *bridge_of_lpc(const struct board *board);
+
+/* How many pins the bridge with the most has; 0 if there is none. */
+uint8_t most_pins(const struct board *board);
+
+/* Whether a BIO with this base and so many pins would own a global number that a BIO of the board owns already. */
+bool base_is_taken(const struct board *board, uint16_t base, uint8_t pins);
+
+/* A base that is free on a board with few bridges, for one more with so many pins; often just behind or before another. */
+uint16_t free_base(struct random *random, const struct board *board, uint8_t pins);
 
 /* A structure of a type that is passed over, of any length that fits, often the shortest. */
 struct structure passed_over_structure(struct random *random);

@@ -9,11 +9,29 @@
 
 #include "valid.h"
 
-/* ---- 1 to 6: the capture ---- */
+/* ---- 1 to 7: the capture ---- */
 
 static void too_short(struct random *random, struct capture *capture)
 {
-    capture->length = below(random, HEADER_LENGTH);
+    capture->length = below(random, capture->descriptors);
+}
+
+/* A length that is enough for a header without pairs only. */
+static size_t length_without_pairs(struct random *random)
+{
+    return between(random, HEADER_LENGTH, HEADER_LENGTH + PAIRS_LENGTH - 1);
+}
+
+/* A version that is refused; often one byte of it is right. */
+static uint16_t refused_version(struct random *random)
+{
+    static const uint16_t known[] = {0, 3, 256, 257, 258, 512, 513, UINT16_MAX};
+    uint16_t version;
+
+    do
+        version = one_in(random, 2) ? known[below(random, sizeof known / sizeof known[0])] : (uint16_t)any(random);
+    while (version == 1 || version == WITH_PAIRS);
+    return version;
 }
 
 /* All else stays right: the last segment grows. */
@@ -37,7 +55,7 @@ static void wrong_mark(struct random *random, struct capture *capture)
 
 static void wrong_version(struct random *random, struct capture *capture)
 {
-    spoil(random, capture->bytes + between(random, 3, 4));
+    put_u16(capture->bytes + CAPTURE_VERSION, refused_version(random));
 }
 
 static void wrong_segment_count(struct random *random, struct capture *capture)
@@ -45,9 +63,34 @@ static void wrong_segment_count(struct random *random, struct capture *capture)
     capture->bytes[5] = (uint8_t)(one_in(random, 3) ? 0 : between(random, SEGMENTS_MAX + 1, 255));
 }
 
+/* The version alone makes it too short (W-212): mark and segment count may be wrong as well. */
+static void too_short_for_pairs(struct random *random, struct capture *capture)
+{
+    put_u16(capture->bytes + CAPTURE_VERSION, WITH_PAIRS);
+    capture->length = length_without_pairs(random);
+    if (one_in(random, 2))
+        wrong_mark(random, capture);
+    if (one_in(random, 2))
+        wrong_segment_count(random, capture);
+}
+
+/* No other version makes it too short, also none that is refused. */
+static void wrong_mark_without_room_for_pairs(struct random *random, struct capture *capture)
+{
+    put_u16(capture->bytes + CAPTURE_VERSION, one_in(random, 2) ? 1 : refused_version(random));
+    capture->length = length_without_pairs(random);
+    wrong_mark(random, capture);
+}
+
+static void wrong_version_without_room_for_pairs(struct random *random, struct capture *capture)
+{
+    wrong_version(random, capture);
+    capture->length = length_without_pairs(random);
+}
+
 static void descriptors_past_end(struct random *random, struct capture *capture)
 {
-    capture->length = HEADER_LENGTH + below(random, DESCRIPTOR_LENGTH * capture->segments);
+    capture->length = capture->descriptors + below(random, DESCRIPTOR_LENGTH * capture->segments);
     if (one_in(random, 2))
         set_total(capture, capture->length);
 }
@@ -75,7 +118,7 @@ static void bytes_behind_the_end(struct random *random, struct capture *capture)
 
 static void bytes_missing(struct random *random, struct capture *capture)
 {
-    size_t descriptors_end = HEADER_LENGTH + DESCRIPTOR_LENGTH * capture->segments;
+    size_t descriptors_end = capture->descriptors + DESCRIPTOR_LENGTH * capture->segments;
 
     if (capture->length > descriptors_end)
         capture->length -= between(random, 1, capture->length - descriptors_end);
@@ -88,6 +131,16 @@ static void wrong_segment_length(struct random *random, struct capture *capture)
     size_t number = below(random, capture->segments);
 
     set_segment_length(capture, number, segment_length(capture, number) ^ (uint32_t)between(random, 1, UINT32_MAX));
+}
+
+/* The lengths would sum right if the pairs were left out of the total, or counted where there are none. */
+static void total_of_the_other_version(struct random *random, struct capture *capture)
+{
+    size_t number = below(random, capture->segments);
+    uint32_t length = segment_length(capture, number);
+    bool with_pairs = capture->descriptors > HEADER_LENGTH;
+
+    set_segment_length(capture, number, with_pairs ? length + PAIRS_LENGTH : length - PAIRS_LENGTH);
 }
 
 /* With two segments or more the lengths sum right, but only modulo 2^32. */
@@ -155,6 +208,52 @@ static void segments_out_of_order(struct random *random, struct capture *capture
 
     set_segment_address(capture, number, segment_address(capture, other));
     set_segment_address(capture, other, address);
+}
+
+/* 7 is about version 2. The pairs that are not broken stay as they are. */
+
+static uint8_t number_over_64(struct random *random)
+{
+    switch (below(random, 4)) {
+    case 0: case 1:
+        return PINS + 1;
+    case 2:
+        return UINT8_MAX;
+    default:
+        return (uint8_t)between(random, PINS + 1, UINT8_MAX);
+    }
+}
+
+static void too_many_inputs(struct random *random, struct board *board)
+{
+    make_version_2(random, board);
+    board->pair[below(random, PAIRS)].number = number_over_64(random);
+}
+
+/* Two pairs, neither of them empty, give one ID. Their numbers may be equal: it is given twice all the same. */
+static void hardware_id_given_twice(struct random *random, struct board *board)
+{
+    size_t first = below(random, PAIRS), second = (first + between(random, 1, PAIRS - 1)) % PAIRS;
+
+    make_version_2(random, board);
+    if (board->pair[first].number == 0)
+        board->pair[first].number = random_pins(random);
+    board->pair[second].hardware_id = board->pair[first].hardware_id;
+    board->pair[second].number = one_in(random, 3) ? board->pair[first].number : random_pins(random);
+}
+
+/* Of pairs that are empty, too great or alike, the first one that is wrong is named. */
+static void crowded_pairs(struct random *random, struct board *board)
+{
+    static const uint8_t numbers[] = {0, 1, PINS / 2, PINS, PINS + 1};
+    uint8_t id = (uint8_t)any(random);
+
+    board->version = WITH_PAIRS;
+    for (size_t i = 0; i < PAIRS; i++) {
+        board->pair[i].hardware_id = (uint8_t)(id + below(random, 2));
+        board->pair[i].number = numbers[below(random, sizeof numbers)];
+    }
+    board->pair[between(random, 1, PAIRS - 1)].number = number_over_64(random);
 }
 
 /* ---- 10 to 14: the RSDP ---- */
@@ -329,7 +428,7 @@ static void table_under_36(struct random *random, const struct board *board, str
 static uint64_t present_from(const struct capture *capture, size_t table)
 {
     size_t number = 0;
-    uint64_t end = HEADER_LENGTH + DESCRIPTOR_LENGTH * capture->segments + segment_length(capture, 0);
+    uint64_t end = capture->descriptors + DESCRIPTOR_LENGTH * capture->segments + segment_length(capture, 0);
 
     while (end <= capture->place[table])
         end += segment_length(capture, ++number);
@@ -478,21 +577,28 @@ static void madt_flags(struct random *random, struct board *board)
 /* ---- All of them ---- */
 
 const struct way capture_ways[] = {
-    {1, "under 18 bytes", .in_capture = too_short},
+    {1, "under 18 bytes, or 26 in version 2", .in_capture = too_short},
+    {1, "under 26 bytes in version 2", .in_capture = too_short_for_pairs},
     {1, "over 65,536 bytes", .in_capture = too_long},
     {2, "mark", .in_capture = wrong_mark},
+    {2, "mark, under 26 bytes", .in_capture = wrong_mark_without_room_for_pairs},
     {3, "version", .in_capture = wrong_version},
+    {3, "version, under 26 bytes", .in_capture = wrong_version_without_room_for_pairs},
     {4, "segment count", .in_capture = wrong_segment_count},
     {5, "descriptors past the end", .in_capture = descriptors_past_end},
     {5, "total", .in_capture = wrong_total},
     {5, "bytes behind the end", .in_capture = bytes_behind_the_end},
     {5, "bytes missing", .in_capture = bytes_missing},
     {5, "a segment's length", .in_capture = wrong_segment_length},
+    {5, "lengths that sum right in the other version", .in_capture = total_of_the_other_version},
     {5, "lengths that sum right modulo 2^32", .in_capture = lengths_right_modulo_2_32},
     {6, "empty segment", .in_capture = empty_segment},
     {6, "segment past 2^64", .in_capture = segment_past_2_64},
     {6, "overlapping segments", .in_capture = segments_overlap},
     {6, "segments out of order", .in_capture = segments_out_of_order},
+    {7, "over 64 inputs", .in_board = too_many_inputs},
+    {7, "hardware ID given twice", .in_board = hardware_id_given_twice},
+    {7, "crowded pairs", .in_board = crowded_pairs},
     {10, "RSDP absent", .in_tables = rsdp_absent},
     {10, "gap inside the RSDP", .in_board = gap_in_rsdp},
     {11, "RSDP signature", .in_tables = rsdp_signature},

@@ -94,7 +94,7 @@ static struct structure fresh_bio(struct random *random, const struct board *boa
     for (size_t i = 0; i < board->structures; i++)
         if (board->structure[i].bytes[0] == EIO)
             node = board->structure[i].bytes[EIO_NODE] % NODES;
-    return make_bio(random, node, free_base(random, board));
+    return make_bio(random, node, free_base(random, board, pins_of(board, node)));
 }
 
 static struct structure fresh(struct random *random, const struct board *board, enum kind kind)
@@ -135,12 +135,12 @@ static uint8_t *some(struct random *random, struct board *board, enum kind kind)
     return nth_of_kind(board, kind, below(random, count_kind(board, kind)));
 }
 
-struct pair {
+struct two {
     uint8_t *first, *second;
 };
 
 /* Two structures of a kind, in any order; made if there are not enough, and sometimes even so. */
-static struct pair some_two(struct random *random, struct board *board, enum kind kind, size_t limit)
+static struct two some_two(struct random *random, struct board *board, enum kind kind, size_t limit)
 {
     while (count_kind(board, kind) < 2 || (count_kind(board, kind) < limit && one_in(random, 3)))
         insert_fresh(random, board, kind);
@@ -149,7 +149,7 @@ static struct pair some_two(struct random *random, struct board *board, enum kin
     size_t first = below(random, count);
     size_t second = (first + between(random, 1, count - 1)) % count;
 
-    return (struct pair){nth_of_kind(board, kind, first), nth_of_kind(board, kind, second)};
+    return (struct two){nth_of_kind(board, kind, first), nth_of_kind(board, kind, second)};
 }
 
 static enum kind known_kind(struct random *random)
@@ -556,6 +556,33 @@ static void two_lpcs(struct random *random, struct board *board)
     have(random, board, LPC, 2);
 }
 
+/* ---- Bridges, whose pins depend on their hardware ID (W-212) ---- */
+
+/* New bridges, or new hardware IDs, may put the LPC on a bridge without its pin: then it gets one that is there. */
+static void put_lpc_on_a_pin(struct random *random, struct board *board)
+{
+    const uint8_t *bridge = bridge_of_lpc(board);
+    uint8_t pins = bridge == NULL ? PINS : pins_of_bio(board, bridge);
+
+    for (size_t i = 0; i < board->structures; i++) {
+        uint8_t *bytes = board->structure[i].bytes;
+
+        if (bytes[0] == LPC && get_u16(bytes + LPC_CASCADE) >= pins)
+            put_u16(bytes + LPC_CASCADE, (uint16_t)below(random, pins));
+    }
+}
+
+/* Bridges with new hardware IDs may have more pins than before: all get bases at which they own no number in common. */
+static void part_bridges(struct random *random, struct board *board)
+{
+    for (size_t i = 0; i < board->structures; i++) {
+        uint8_t *bytes = board->structure[i].bytes;
+
+        if (bytes[0] == BIO)
+            put_u16(bytes + BIO_BASE, free_base(random, board, pins_of_bio(board, bytes)));
+    }
+}
+
 /* ---- 39 to 54: the board as a whole ---- */
 
 /*
@@ -674,7 +701,7 @@ static void repeated_ids_inside_repeated_ids(struct random *random, struct board
 
 static void all_alike_two_enabled(struct random *random, struct board *board)
 {
-    struct pair cores = some_two(random, board, CORE, CORES_MAX);
+    struct two cores = some_two(random, board, CORE, CORES_MAX);
 
     make_all_spare(random, board);
     enable(cores.first);
@@ -706,7 +733,7 @@ static void no_eio(struct random *random, struct board *board)
 
 static void repeated_node(struct random *random, struct board *board)
 {
-    struct pair eios = some_two(random, board, EIO, EIOS_MAX);
+    struct two eios = some_two(random, board, EIO, EIOS_MAX);
 
     eios.second[EIO_NODE] = eios.first[EIO_NODE];
 }
@@ -724,12 +751,42 @@ static void lpc_without_bio(struct random *random, struct board *board)
     (void)some(random, board, LPC);
 }
 
+/* Sets the pins of a bridge to fewer than 64, if it has so many; gives how many it has. Others keep theirs. */
+static uint8_t shorten(struct random *random, struct board *board, const uint8_t *bio)
+{
+    make_version_2(random, board);
+    if (pins_of_bio(board, bio) == PINS)
+        give_pair(random, board, (uint8_t)get_u16(bio + BIO_HARDWARE_ID), (uint8_t)between(random, 1, PINS - 1));
+    return pins_of_bio(board, bio);
+}
+
+/* A pin that a bridge with fewer than 64 has not; often the first such. */
+static uint16_t missing_pin(struct random *random, uint8_t pins)
+{
+    return (uint16_t)between(random, pins, one_in(random, 2) ? pins : PINS - 1);
+}
+
+/* Other bridges may have the pin. */
+static void lpc_past_its_bridge(struct random *random, struct board *board)
+{
+    have(random, board, BIO, 1);
+    have(random, board, LPC, 1);
+
+    uint8_t pins = shorten(random, board, bridge_of_lpc(board));
+
+    put_u16(some(random, board, LPC) + LPC_CASCADE, missing_pin(random, pins));
+}
+
+/* One of two bridges begins among the numbers of the other, often at its last. */
 static void bases_too_close(struct random *random, struct board *board)
 {
-    struct pair bios = some_two(random, board, BIO, BIOS_MAX);
-    int distance = one_in(random, 2) ? PINS - 1 : (int)below(random, PINS);
-    int base = get_u16(bios.first + BIO_BASE) + (one_in(random, 2) ? distance : -distance);
+    struct two bios = some_two(random, board, BIO, BIOS_MAX);
+    bool behind = one_in(random, 2);
+    uint8_t pins = pins_of_bio(board, behind ? bios.first : bios.second);
+    int distance = one_in(random, 2) ? pins - 1 : (int)below(random, pins);
+    int base = get_u16(bios.first + BIO_BASE) + (behind ? distance : -distance);
 
+    put_lpc_on_a_pin(random, board);
     if (base < BASE_MIN)
         base = BASE_MIN;
     if (base > BASE_MAX)
@@ -737,24 +794,36 @@ static void bases_too_close(struct random *random, struct board *board)
     put_u16(bios.second + BIO_BASE, (uint16_t)base);
 }
 
-/* The first two bridges are free of each other, and the third meets both. */
+/* The first two bridges are free of each other, and the third meets both. One with a single pin could not. */
 static void base_between_two(struct random *random, struct board *board)
 {
-    uint32_t gap = (uint32_t)below(random, PINS - 1);
-    uint32_t low = (uint32_t)between(random, BASE_MIN, BASE_MAX - 2 * PINS), high = low + PINS + gap;
     bool low_first = one_in(random, 2);
 
     have(random, board, BIO, 3);
-    put_u16(nth_of_kind(board, BIO, 0) + BIO_BASE, (uint16_t)(low_first ? low : high));
-    put_u16(nth_of_kind(board, BIO, 1) + BIO_BASE, (uint16_t)(low_first ? high : low));
-    put_u16(nth_of_kind(board, BIO, 2) + BIO_BASE, (uint16_t)between(random, low + gap + 1, low + PINS - 1));
+
+    uint8_t *low = nth_of_kind(board, BIO, low_first ? 0 : 1), *high = nth_of_kind(board, BIO, low_first ? 1 : 0);
+    uint8_t *third = nth_of_kind(board, BIO, 2);
+
+    if (pins_of_bio(board, third) == 1)
+        give_pair(random, board, (uint8_t)get_u16(third + BIO_HARDWARE_ID), (uint8_t)between(random, 2, PINS));
+    put_lpc_on_a_pin(random, board);
+
+    uint32_t pins = pins_of_bio(board, third), gap = (uint32_t)below(random, pins - 1);
+    uint32_t low_base = (uint32_t)between(random, BASE_MIN + PINS, BASE_MAX - 2 * PINS);
+    uint32_t low_end = low_base + pins_of_bio(board, low), high_base = low_end + gap;
+
+    put_u16(low + BIO_BASE, (uint16_t)low_base);
+    put_u16(high + BIO_BASE, (uint16_t)high_base);
+    put_u16(third + BIO_BASE, (uint16_t)between(random, high_base + 1 - pins, low_end - 1));
 }
 
 static void two_bios_of_a_node(struct random *random, struct board *board)
 {
-    struct pair bios = some_two(random, board, BIO, BIOS_MAX);
+    struct two bios = some_two(random, board, BIO, BIOS_MAX);
 
     memcpy(bios.second + BIO_HARDWARE_ID, bios.first + BIO_HARDWARE_ID, 2);
+    part_bridges(random, board);
+    put_lpc_on_a_pin(random, board);
 }
 
 static void set_slots(struct random *random, uint8_t *msi, uint32_t start)
@@ -765,7 +834,7 @@ static void set_slots(struct random *random, uint8_t *msi, uint32_t start)
 
 static void slots_on_slots(struct random *random, struct board *board)
 {
-    struct pair msis = some_two(random, board, MSI, MSIS_MAX);
+    struct two msis = some_two(random, board, MSI, MSIS_MAX);
     uint32_t count = get_u32(msis.first + MSI_COUNT);
     uint32_t into = count == 0 ? 0 : one_in(random, 2) ? count - 1 : (uint32_t)below(random, count);
 
@@ -778,8 +847,9 @@ static void slots_on_pins(struct random *random, struct board *board)
         insert_fresh(random, board, BIO);
 
     uint8_t *msi = some(random, board, MSI);
+    uint32_t pins = most_pins(board);
 
-    set_slots(random, msi, one_in(random, 2) ? PINS - 1 : (uint32_t)below(random, PINS));
+    set_slots(random, msi, one_in(random, 2) ? pins - 1 : (uint32_t)below(random, pins));
 }
 
 /* A bridge meets other structures by 52 than by 51. */
@@ -789,14 +859,16 @@ static void bases_too_close_and_slots_on_pins(struct random *random, struct boar
     slots_on_pins(random, board);
 }
 
-/* Each MSI has slots of its own, and all of them are pins of the bridge, which stands behind them. */
+/* Each MSI has slots of its own, and all that there are pins for are on pins of the bridge, which stands behind them. */
 static void bio_behind_several_msis(struct random *random, struct board *board)
 {
-    uint32_t share = PINS / MSIS_MAX, first = 0;
-
     have(random, board, MSI, between(random, 2, MSIS_MAX));
     remove_kind(board, BIO);
     append_structure(board, fresh_bio(random, board));
+    put_lpc_on_a_pin(random, board);
+
+    uint32_t pins = most_pins(board), share = pins < MSIS_MAX ? 1 : pins / MSIS_MAX, first = 0;
+
     for (size_t i = 0; i < board->structures; i++)
         if (board->structure[i].bytes[0] == MSI) {
             put_u32(board->structure[i].bytes + MSI_START, first);
@@ -821,6 +893,8 @@ static void crowded_vectors(struct random *random, struct board *board)
             put_u32(bytes + MSI_COUNT, (uint32_t)between(random, 1, PINS));
         }
     }
+    part_bridges(random, board);
+    put_lpc_on_a_pin(random, board);
     slots_on_slots(random, board);
 }
 
@@ -844,7 +918,7 @@ static void eio_on_the_lio(struct random *random, struct board *board)
 
 static void eio_on_an_eio(struct random *random, struct board *board)
 {
-    struct pair eios = some_two(random, board, EIO, EIOS_MAX);
+    struct two eios = some_two(random, board, EIO, EIOS_MAX);
 
     eios.second[EIO_CASCADE] = eios.first[EIO_CASCADE];
 }
@@ -871,7 +945,7 @@ static void crowded_lines(struct random *random, struct board *board)
 static void lio_behind_two_eios(struct random *random, struct board *board)
 {
     static const uint32_t masks[2] = {UINT32_C(0x0000FFFF), UINT32_C(0xFFFF0000)};
-    struct pair eios = some_two(random, board, EIO, EIOS_MAX);
+    struct two eios = some_two(random, board, EIO, EIOS_MAX);
     uint8_t cascades[2] = {eios.first[EIO_CASCADE], eios.second[EIO_CASCADE]};
 
     remove_kind(board, LIO);
@@ -890,8 +964,25 @@ static void sci_behind_the_bridges(struct random *random, struct board *board)
 
     do
         number = one_in(random, 4) ? UINT16_MAX : (uint16_t)between(random, BASE_MIN, UINT16_MAX);
-    while (base_is_taken(board, number));
+    while (base_is_taken(board, number, 1));
     board->sci = number;
+}
+
+/* On a pin that its bridge would have if it had 64, and that no other bridge has. */
+static void sci_on_a_missing_pin(struct random *random, struct board *board)
+{
+    if (count_kind(board, BIO) == 0) {
+        sci_behind_the_bridges(random, board);
+        return;
+    }
+
+    const uint8_t *bio = some(random, board, BIO);
+    uint8_t pins = shorten(random, board, bio);
+
+    put_lpc_on_a_pin(random, board);
+    board->sci = (uint16_t)(get_u16(bio + BIO_BASE) + missing_pin(random, pins));
+    if (base_is_taken(board, board->sci, 1))
+        sci_behind_the_bridges(random, board);
 }
 
 /* The LIO loses the input that the SCI is put on. */
@@ -972,6 +1063,7 @@ const struct way madt_ways[] = {
     {41, "repeated node", .in_board = repeated_node},
     {42, "BIO without its EIO", .in_board = bio_without_eio},
     {43, "LPC without a BIO", .in_board = lpc_without_bio},
+    {45, "LPC past the pins of its bridge", .in_board = lpc_past_its_bridge},
     {51, "bases too close", .in_board = bases_too_close},
     {51, "base between two", .in_board = base_between_two},
     {51, "bases too close, and slots on pins", .in_board = bases_too_close_and_slots_on_pins},
@@ -986,6 +1078,7 @@ const struct way madt_ways[] = {
     {53, "LIO behind two EIO", .in_board = lio_behind_two_eios},
     {54, "SCI between LIO and BIO", .in_board = sci_between},
     {54, "SCI behind the bridges", .in_board = sci_behind_the_bridges},
+    {54, "SCI on a pin that is not there", .in_board = sci_on_a_missing_pin},
     {54, "SCI unwired", .in_board = sci_unwired},
     {54, "SCI without LPC", .in_board = sci_without_lpc},
 };
