@@ -4,7 +4,8 @@
  *     compare BOARDS DIFFERENCES PRINTED ASKED [SEED [COUNT]]
  *
  * First the cases of documents 01 and 02 and the captures of the folder BOARDS. Then COUNT generated captures: boards that
- * keep all rules, boards broken on purpose in one or two ways, and noise; the MADTs of some have a revision other than 1.
+ * keep all rules, boards broken on purpose in one or two ways, and noise; a third of them have version 2, and the MADTs of
+ * some a revision other than 1.
  * Of each, the result of `read`, every byte of the list lent to it, and the answers of `route` and `trace` to a sample of
  * questions are compared. A capture that the two sides tell differently is written to the folder DIFFERENCES.
  *
@@ -40,7 +41,7 @@
 enum {
     DEFAULT_SEED = 1,
     DEFAULT_COUNT = 24000,
-    LEAST_HITS = 20,        /* of every refusal */
+    LEAST_HITS = 20,        /* of every refusal, and in version 2 of every one that it can have */
     PRINTED_CLASHES = 60,   /* captures of each of 51, 52 and 53 for ./map to print ... */
     PRINTED_REVISIONS = 20, /* ... of 29, which tells the strict reading from the ordinary one ... */
     PRINTED_OTHERS = 3,     /* ... and of every other refusal */
@@ -367,10 +368,16 @@ static uint32_t near_edge(struct random *random, uint32_t first, uint32_t count)
     return edge - 1 + (uint32_t)below(random, 3);
 }
 
+/* A global number near the first or the last of a bridge, or near what would be its last with 64 pins. */
+static uint32_t number_near_bridge(struct random *random, const struct board *board, const uint8_t *bio)
+{
+    return near_edge(random, get_u16(bio + BIO_BASE), one_in(random, 3) ? PINS : pins_of_bio(board, bio));
+}
+
 /* A global number that tells readers apart. */
 static uint32_t interesting_number(struct random *random, const struct board *board)
 {
-    const uint8_t *bytes = board->structure[below(random, board->structures)].bytes;
+    const uint8_t *bio = some_bio(random, board);
     uint32_t low = (uint32_t)below(random, 64); /* LPC, LIO and what lies between LIO and BIO */
 
     switch (below(random, 8)) {
@@ -381,10 +388,7 @@ static uint32_t interesting_number(struct random *random, const struct board *bo
     case 2: /* equal to an owned number in its low 8 or 16 bits */
         return low + (one_in(random, 2) ? 256 : 65536);
     case 3: case 4: case 5:
-        for (size_t i = 0; i < board->structures; i++)
-            if (board->structure[i].bytes[0] == BIO && (bytes[0] != BIO || one_in(random, 2)))
-                bytes = board->structure[i].bytes;
-        return bytes[0] == BIO ? near_edge(random, get_u16(bytes + BIO_BASE), PINS) : low;
+        return bio == NULL ? low : number_near_bridge(random, board, bio);
     default:
         return low;
     }
@@ -401,17 +405,32 @@ static struct arrival arrival_of(uint64_t answer)
     return (struct arrival){(uint32_t)(answer >> 32), (uint32_t)answer};
 }
 
+/* One near the last pin of a bridge, at the vector of its EIO if there is one. */
+static struct arrival arrival_near_pins(struct random *random, const struct board *board, const uint8_t *bio)
+{
+    struct arrival arrival = {CASCADE_MIN, near_edge(random, 0, pins_of_bio(board, bio))};
+
+    for (size_t i = 0; i < board->structures; i++) {
+        const uint8_t *bytes = board->structure[i].bytes;
+
+        if (bytes[0] == EIO && bytes[EIO_NODE] == get_u16(bio + BIO_HARDWARE_ID))
+            arrival.vector = bytes[EIO_CASCADE];
+    }
+    return arrival;
+}
+
 /* One that tells readers apart. */
 static struct arrival interesting_arrival(struct random *random, const struct board *board)
 {
     static const uint32_t edges[] = {0, 31, 32, 63, 64, 255, 256};
+    const uint8_t *bio = some_bio(random, board);
     uint32_t vector = (uint32_t)between(random, CASCADE_MIN - 1, CASCADE_MAX + 1);
     uint32_t number = (uint32_t)below(random, SLOTS);
 
     for (size_t i = 0; i < board->structures; i++)
         if (board->structure[i].bytes[0] == EIO && one_in(random, 2))
             vector = board->structure[i].bytes[EIO_CASCADE];
-    switch (below(random, 6)) {
+    switch (below(random, 8)) {
     case 0:
         number = edges[below(random, sizeof edges / sizeof edges[0])];
         break;
@@ -424,6 +443,10 @@ static struct arrival interesting_arrival(struct random *random, const struct bo
     case 3:
         vector = one_in(random, 2) ? vector : (uint32_t)any(random);
         number = one_in(random, 2) ? UINT32_MAX : (uint32_t)any(random);
+        break;
+    case 4: case 5:
+        if (bio != NULL)
+            return arrival_near_pins(random, board, bio);
         break;
     default:
         break;
@@ -497,6 +520,26 @@ static void compare_with_intent(const struct test *test, uint64_t result, enum r
     else
         snprintf(intent, sizeof intent, "for refusal %d", expected);
     tell_two(test, "what it was made for", "made", intent, reference_in(reading)->name, tell_read(result).words);
+}
+
+/* ---- How often each refusal was given ---- */
+
+/* By a reading, by refusal number. */
+struct hits {
+    unsigned all[NUMBERS];
+    unsigned of_version_2[NUMBERS];
+};
+
+static bool is_version_2(const struct capture *capture)
+{
+    return capture->length >= HEADER_LENGTH && get_u16(capture->bytes + CAPTURE_VERSION) == WITH_PAIRS;
+}
+
+static void count_hit(struct hits *hits, const struct test *test, uint64_t result)
+{
+    hits->all[refusal_number(result)]++;
+    if (is_version_2(&test->capture))
+        hits->of_version_2[refusal_number(result)]++;
 }
 
 /* ---- The ordinary reading ---- */
@@ -631,7 +674,7 @@ static void keep_for_vectors(struct random *random, const struct test *test, con
 
 /* Looks at a capture in the ordinary reading; what the strict one says is known. */
 static void look_at_ordinary(struct random *random, const struct test *test, const uint8_t *capture,
-                             struct reference_refusal strict, unsigned *hits)
+                             struct reference_refusal strict, struct hits *hits)
 {
     uint64_t result = read_ordinarily(random, test, capture, 8 * CORES_MAX);
     bool accepted = refusal_number(result) == 0;
@@ -640,13 +683,13 @@ static void look_at_ordinary(struct random *random, const struct test *test, con
     check_readings(test, judged, strict);
     compare_with_intent(test, result, ORDINARY);
     result = read_ordinarily(random, test, capture, random_list_length(random, accepted ? 8 * (size_t)result : 16));
-    hits[refusal_number(result)]++;
+    count_hit(hits, test, result);
     keep_for_vectors(random, test, capture, (unsigned)judged.number);
 }
 
 /* ---- One case ---- */
 
-static void compare_case(struct random *random, const struct test *test, unsigned hits[READINGS][NUMBERS])
+static void compare_case(struct random *random, const struct test *test, struct hits hits[READINGS])
 {
     uint8_t *capture = capture_end - test->capture.length;
 
@@ -660,39 +703,55 @@ static void compare_case(struct random *random, const struct test *test, unsigne
         keep_for_map(test, judged);
     compare_with_intent(test, result, STRICT);
     result = compare_read(random, test, capture, random_list_length(random, accepted ? 8 * (size_t)result : 16));
-    hits[STRICT][refusal_number(result)]++;
+    count_hit(&hits[STRICT], test, result);
     for (int i = 0; i < (accepted ? SAMPLE : 1); i++) {
         compare_way_and_back(test, capture, interesting_number(random, &test->board));
         compare_random_trace(random, test, capture);
     }
     if (accepted && one_in(random, THOROUGH))
         compare_thoroughly(test, capture);
-    look_at_ordinary(random, test, capture, judged, hits[ORDINARY]);
+    look_at_ordinary(random, test, capture, judged, &hits[ORDINARY]);
     if (memcmp(capture, test->capture.bytes, test->capture.length) != 0)
         tell_difference(test, "all questions", "the capture was changed, by this side ...", "... or by this one");
 }
 
 /* ---- All of it ---- */
 
-/* Prints how often a reading gave each refusal; gives whether each was given often enough, and no other. */
-static bool hits_suffice(enum reading reading, const unsigned *hits)
+/* Prints how often a reading gave each refusal. */
+static void print_hits(enum reading reading, const struct hits *hits)
+{
+    printf("%s reading: accepted %u, %u of them in version 2\nrefused", name_of_reading(reading), hits->all[ACCEPTED],
+           hits->of_version_2[ACCEPTED]);
+    for (size_t i = 0; i < REFUSALS; i++)
+        printf("%s%4u: %4u", i > 0 && i % 10 == 0 ? "\n       " : "", refusals[i], hits->all[refusals[i]]);
+    printf("\n");
+}
+
+/* 3 is about other versions. Every other refusal must be met in version 2 too. */
+static bool hit_often_enough(unsigned refusal, const struct hits *hits)
+{
+    return hits->all[refusal] >= LEAST_HITS && (refusal == 3 || hits->of_version_2[refusal] >= LEAST_HITS);
+}
+
+/* Whether a reading gave each refusal often enough, and no other; says which not. */
+static bool hits_suffice(enum reading reading, const struct hits *hits)
 {
     bool suffice = true;
-    unsigned known = hits[ACCEPTED], all = 0;
+    unsigned known = hits->all[ACCEPTED], all = 0;
 
-    printf("%s reading: accepted %u\nrefused", name_of_reading(reading), hits[ACCEPTED]);
+    print_hits(reading, hits);
     for (size_t i = 0; i < REFUSALS; i++) {
-        known += hits[refusals[i]];
-        printf("%s%4u: %4u", i > 0 && i % 10 == 0 ? "\n       " : "", refusals[i], hits[refusals[i]]);
+        unsigned refusal = refusals[i];
+
+        known += hits->all[refusal];
+        if (hit_often_enough(refusal, hits))
+            continue;
+        printf("compare: refusal %u was given %u times, %u of them in version 2, and not %u\n", refusal, hits->all[refusal],
+               hits->of_version_2[refusal], LEAST_HITS);
+        suffice = false;
     }
-    printf("\n");
-    for (size_t i = 0; i < REFUSALS; i++)
-        if (hits[refusals[i]] < LEAST_HITS) {
-            printf("compare: refusal %u was given %u times only, and not %u\n", refusals[i], hits[refusals[i]], LEAST_HITS);
-            suffice = false;
-        }
     for (size_t i = 0; i < NUMBERS; i++)
-        all += hits[i];
+        all += hits->all[i];
     if (all != known) {
         printf("compare: a refusal number that the documents do not know was given\n");
         suffice = false;
@@ -713,7 +772,7 @@ static void check_examples(const struct reader *reader, const char *boards)
 int main(int argc, char **argv)
 {
     static struct test test;
-    static unsigned hits[READINGS][NUMBERS];
+    static struct hits hits[READINGS];
 
     if (argc < 5) {
         fprintf(stderr, "usage: compare BOARDS DIFFERENCES PRINTED ASKED [SEED [COUNT]]\n");
@@ -750,7 +809,8 @@ int main(int argc, char **argv)
 
     close_questions();
 
-    bool strict_suffices = hits_suffice(STRICT, hits[STRICT]), ordinary_suffices = hits_suffice(ORDINARY, hits[ORDINARY]);
+    bool strict_suffices = hits_suffice(STRICT, &hits[STRICT]);
+    bool ordinary_suffices = hits_suffice(ORDINARY, &hits[ORDINARY]);
 
     if (differences != 0)
         printf("compare: %u differences\n", differences);
