@@ -434,7 +434,7 @@ void set_total(struct capture *capture, size_t total)
     put_u32(capture->bytes + 6, (uint32_t)total);
 }
 
-static void write_pairs(uint8_t *bytes, const struct pair pair[PAIRS])
+void write_pairs(uint8_t *bytes, const struct pair pair[PAIRS])
 {
     for (size_t i = 0; i < PAIRS; i++) {
         bytes[PAIR_LENGTH * i] = pair[i].hardware_id;

@@ -206,6 +206,7 @@ void lay_out(struct board *board, struct capture *capture);
 void make_sums_good(struct capture *capture); /* ... or wrong by sum_error */
 
 /* Its header. */
+void write_pairs(uint8_t *bytes, const struct pair pair[PAIRS]);
 uint64_t segment_address(const struct capture *capture, size_t number);
 uint32_t segment_length(const struct capture *capture, size_t number);
 void set_segment_address(struct capture *capture, size_t number, uint64_t address);

@@ -126,6 +126,18 @@ void replace_equal_cores(struct capture *a, const struct equal_cores cores[EQUAL
     replace_cores(a, written, count);
 }
 
+void become_version_2(struct capture *a, const struct pair pair[PAIRS])
+{
+    memmove(a->bytes + HEADER_LENGTH + PAIRS_LENGTH, a->bytes + HEADER_LENGTH, a->length - HEADER_LENGTH);
+    write_pairs(a->bytes + HEADER_LENGTH, pair);
+    put_u16(a->bytes + CAPTURE_VERSION, WITH_PAIRS);
+    a->length += PAIRS_LENGTH;
+    set_total(a, a->length);
+    a->descriptors += PAIRS_LENGTH;
+    for (size_t table = 0; table < a->tables; table++)
+        a->place[table] += PAIRS_LENGTH;
+}
+
 void second_bridge_at_128(struct capture *a)
 {
     replace_structures(a, A_FADT, (struct written[WRITTEN_MAX]){{EIO, {4, 5, 1}}, {BIO, {5, 128}}});

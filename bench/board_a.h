@@ -1,6 +1,6 @@
 /*
- * Board A of document 01, to make cases of: its places, its capture with any MADT revision, and other structures in the place
- * of its own.
+ * Board A of document 01, to make cases of: its places, its capture with any MADT revision or as version 2, and other
+ * structures in the place of its own.
  */
 #ifndef BOARD_A_H
 #define BOARD_A_H
@@ -10,7 +10,7 @@
 
 #include "board.h"
 
-/* The places of "Board A and its neighbours". */
+/* The places of "Board A and its neighbours". In version 2 all of them are 8 bytes further on. */
 enum {
     A_LENGTH = 538,
     A_MEMORY = 508,
@@ -43,7 +43,7 @@ struct written {
     uint32_t field[4];
 };
 
-enum { WRITTEN_MAX = 6 };
+enum { WRITTEN_MAX = 10 };
 
 /* Puts structures in the place of those that board A has from a place on, and mends what this moves. Sums are not made good. */
 void replace_structures(struct capture *a, size_t place, const struct written written[WRITTEN_MAX]);
@@ -66,6 +66,9 @@ enum { EQUAL_CORES_MAX = 8 };
 
 /* As replace_cores(). */
 void replace_equal_cores(struct capture *a, const struct equal_cores cores[EQUAL_CORES_MAX]);
+
+/* Makes a version 2 capture of it (W-212), with these pairs: all that stands behind the header moves. It must be the last edit. */
+void become_version_2(struct capture *a, const struct pair pair[PAIRS]);
 
 /* Adds an EIO (node 5, cascade 4) with a BIO whose base is 128. */
 void second_bridge_at_128(struct capture *a);

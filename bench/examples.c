@@ -1,7 +1,7 @@
 /*
  * Board A and its neighbours, the five errors that look right, the refusals of request W-202, board A with spare CORE and
- * repeated IDs for requests W-203 and W-205, and cut into segments for request W-206, all of it with the MADT revisions of
- * request W-207, and the captures of boards/: see examples.h.
+ * repeated IDs for requests W-203 and W-205, cut into segments for request W-206, and as version 2 for request W-212, all of
+ * it with the MADT revisions of request W-207, and the captures of boards/: see examples.h.
  */
 #define _DEFAULT_SOURCE /* opendir */
 
@@ -19,6 +19,7 @@
 #include "board.h"
 #include "board_a.h"
 #include "files.h"
+#include "pins.h"
 #include "questions.h"
 #include "readings.h"
 
@@ -252,6 +253,36 @@ static void expect_lio(const struct talk *talk, const struct printed *map)
             expect_route(talk, LIO_FIRST + input, unwired());
 }
 
+/* Where a number from 64 on arrives. */
+static uint64_t printed_route(const struct printed *map, uint32_t number)
+{
+    for (size_t i = 0; i < map->bios; i++)
+        if (number >= map->bio[i].first && number <= map->bio[i].last)
+            return arrives(cascade_of(map, map->bio[i].node), number - map->bio[i].first);
+    return no_owner();
+}
+
+/* What arrives through an EIO with a number that no bridge of its has. */
+static uint64_t printed_slot(const struct printed *map, uint32_t node, uint32_t number)
+{
+    for (size_t i = 0; i < map->msis; i++)
+        if (number >= map->msi[i].first && number <= map->msi[i].last)
+            return msi_slot(number, node);
+    return nothing();
+}
+
+/* Behind the last pin of a bridge its numbers end (W-212): up to where they would with one pin more than there can be. */
+static void expect_missing_pins(const struct talk *talk, const struct printed *map)
+{
+    for (size_t i = 0; i < map->bios; i++)
+        for (uint32_t pin = map->bio[i].last - map->bio[i].first + 1; pin <= PINS; pin++) {
+            uint32_t node = map->bio[i].node;
+
+            expect_route(talk, map->bio[i].first + pin, printed_route(map, map->bio[i].first + pin));
+            expect_trace(talk, cascade_of(map, node), pin, printed_slot(map, node, pin));
+        }
+}
+
 static void expect_bios(const struct talk *talk, const struct printed *map)
 {
     for (size_t i = 0; i < map->bios; i++)
@@ -278,6 +309,7 @@ static void expect_map(const struct talk *talk, const struct printed *map)
     expect_cores(talk, map);
     expect_lio(talk, map);
     expect_bios(talk, map);
+    expect_missing_pins(talk, map);
     expect_msis(talk, map);
     for (uint32_t line = 0; line < LIO_FIRST; line++)
         expect_route(talk, line, map->lpcs == 1 ? arrives(cascade_of(map, map->lpc.node), map->lpc.input) : no_owner());
@@ -876,11 +908,30 @@ static struct revised cut_example(const char *boards, size_t number, uint8_t rev
     return (struct revised){example->what, example->printed, revision, &capture};
 }
 
-/* All of these are asked about with each of the revisions. */
-enum { REVISED_EXAMPLES = REFUSED_EXAMPLES + CORE_EXAMPLES + FULL_EXAMPLES + CUT_EXAMPLES };
+/* ---- Board A as version 2 ---- */
+
+/* As refused_example(). */
+static struct revised pin_example(const char *boards, size_t number, uint8_t revision)
+{
+    static struct capture capture;
+    struct pin_example example = make_pin_example(boards, number, revision, &capture);
+
+    return (struct revised){example.what, example.printed, revision, &capture};
+}
+
+/* ---- All of these, with each of the revisions ---- */
+
+enum { VERSION_1_EXAMPLES = REFUSED_EXAMPLES + CORE_EXAMPLES + FULL_EXAMPLES + CUT_EXAMPLES };
+
+static size_t count_revised_examples(void)
+{
+    return VERSION_1_EXAMPLES + count_pin_examples();
+}
 
 static struct revised revised_example(const char *boards, size_t number, uint8_t revision)
 {
+    if (number >= VERSION_1_EXAMPLES)
+        return pin_example(boards, number - VERSION_1_EXAMPLES, revision);
     if (number < REFUSED_EXAMPLES)
         return refused_example(boards, number, revision);
     number -= REFUSED_EXAMPLES;
@@ -893,7 +944,7 @@ static struct revised revised_example(const char *boards, size_t number, uint8_t
 
 static void ask_revised_examples(struct tally *tally, const struct reader *reader, const char *boards)
 {
-    for (size_t i = 0; i < REVISED_EXAMPLES; i++)
+    for (size_t i = 0; i < count_revised_examples(); i++)
         for (size_t j = 0; j < REVISIONS; j++) {
             struct revised revised = revised_example(boards, i, revisions[j]);
 
@@ -903,7 +954,7 @@ static void ask_revised_examples(struct tally *tally, const struct reader *reade
 
 static void ask_vectors_revised_examples(const char *boards)
 {
-    for (size_t i = 0; i < REVISED_EXAMPLES; i++)
+    for (size_t i = 0; i < count_revised_examples(); i++)
         for (size_t j = 0; j < REVISIONS; j++) {
             struct revised revised = revised_example(boards, i, revisions[j]);
 
@@ -1005,10 +1056,10 @@ void save_examples_for_map(const char *boards, const char *folder)
 {
     char name[64];
 
-    for (size_t i = 0; i < REVISED_EXAMPLES; i++) {
+    for (size_t i = 0; i < count_revised_examples(); i++) {
         struct revised revised = revised_example(boards, i, 1);
 
-        if (is_map(revised.printed))
+        if (is_map(revised.printed) && i < VERSION_1_EXAMPLES)
             continue;
         snprintf(name, sizeof name, "example-%zu", i + 1);
         save_for_map(folder, name, revised.capture->bytes, revised.capture->length, revised.printed);
@@ -1019,6 +1070,7 @@ void save_examples_for_map(const char *boards, const char *folder)
 void ask_vectors_examples(const char *boards)
 {
     ask_vectors_revised_examples(boards);
+    ask_vectors_pin_answers(boards);
     ask_vectors_reading_examples(boards);
     ask_vectors_real_captures(boards);
 }
@@ -1030,6 +1082,7 @@ struct tally ask_examples(const struct reader *reader, const char *boards)
     ask_board_a(&tally, reader, boards);
     ask_neighbours(&tally, reader, boards);
     ask_revised_examples(&tally, reader, boards);
+    ask_pin_answers(&tally, reader, boards);
     ask_reading_examples(&tally, reader, boards);
     ask_real_captures(&tally, reader, boards);
     return tally;

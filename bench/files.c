@@ -3,6 +3,8 @@
  */
 #include "files.h"
 
+#include <assert.h>
+#include <stdbool.h>
 #include <stdio.h>
 #include <stdlib.h>
 #include <string.h>
@@ -36,13 +38,16 @@ void save_file(const char *path, const void *bytes, size_t length)
     }
 }
 
-void save_for_map(const char *folder, const char *name, const uint8_t *capture, size_t length, const char *line)
+void save_for_map(const char *folder, const char *name, const uint8_t *capture, size_t length, const char *printed)
 {
-    char path[4096], text[256];
+    char path[4096], text[512];
+    size_t printed_length = strlen(printed);
+    bool has_end = printed_length > 0 && printed[printed_length - 1] == '\n';
+    int text_length = snprintf(text, sizeof text, "%s%s", printed, has_end ? "" : "\n");
 
+    assert(text_length < (int)sizeof text);
     snprintf(path, sizeof path, "%s/%s.cap", folder, name);
     save_file(path, capture, length);
     snprintf(path, sizeof path, "%s/%s.txt", folder, name);
-    snprintf(text, sizeof text, "%s\n", line);
-    save_file(path, text, strlen(text));
+    save_file(path, text, (size_t)text_length);
 }

@@ -13,7 +13,10 @@ size_t load_file(const char *path, uint8_t *bytes, size_t room);
 /* Writes a file. One that cannot be written ends the program. */
 void save_file(const char *path, const void *bytes, size_t length);
 
-/* Writes a capture for ./map to read, NAME.cap, and the line that it must print, NAME.txt: named as in the folder boards/. */
-void save_for_map(const char *folder, const char *name, const uint8_t *capture, size_t length, const char *line);
+/*
+ * Writes a capture for ./map to read, NAME.cap, and what it must print, NAME.txt: named as in the folder boards/. The newline
+ * at the text's end may be left out.
+ */
+void save_for_map(const char *folder, const char *name, const uint8_t *capture, size_t length, const char *printed);
 
 #endif
