@@ -88,9 +88,12 @@ static void wrong_version_without_room_for_pairs(struct random *random, struct c
     capture->length = length_without_pairs(random);
 }
 
+/* Often all of them are missing: it ends with the header, or with the pairs. */
 static void descriptors_past_end(struct random *random, struct capture *capture)
 {
-    capture->length = capture->descriptors + below(random, DESCRIPTOR_LENGTH * capture->segments);
+    size_t left = one_in(random, 4) ? 0 : below(random, DESCRIPTOR_LENGTH * capture->segments);
+
+    capture->length = capture->descriptors + left;
     if (one_in(random, 2))
         set_total(capture, capture->length);
 }

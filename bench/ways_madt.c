@@ -86,14 +86,16 @@ static struct structure fresh_eio(struct random *random, const struct board *boa
     return make_eio(random, cascade, node, node_map(random));
 }
 
-/* On the node of an EIO, if there is one. */
+/* On the node of some EIO, if there is one. */
 static struct structure fresh_bio(struct random *random, const struct board *board)
 {
-    uint8_t node = (uint8_t)below(random, NODES);
+    uint8_t node = NODES;
 
     for (size_t i = 0; i < board->structures; i++)
-        if (board->structure[i].bytes[0] == EIO)
+        if (board->structure[i].bytes[0] == EIO && (node == NODES || one_in(random, 2)))
             node = board->structure[i].bytes[EIO_NODE] % NODES;
+    if (node == NODES)
+        node = (uint8_t)below(random, NODES);
     return make_bio(random, node, free_base(random, board, pins_of(board, node)));
 }
 
@@ -194,6 +196,51 @@ static void insert_spares(struct random *random, struct board *board, size_t fie
         put_u32(spare.bytes + field, id);
         insert(random, board, spare);
     }
+}
+
+/* ---- Bridges, whose pins depend on their hardware ID (W-212) ---- */
+
+/* New bridges, or new hardware IDs, may put the LPC on a bridge without its pin: then it gets one that is there. */
+static void put_lpc_on_a_pin(struct random *random, struct board *board)
+{
+    const uint8_t *bridge = bridge_of_lpc(board);
+    uint8_t pins = bridge == NULL ? PINS : pins_of_bio(board, bridge);
+
+    for (size_t i = 0; i < board->structures; i++) {
+        uint8_t *bytes = board->structure[i].bytes;
+
+        if (bytes[0] == LPC && get_u16(bytes + LPC_CASCADE) >= pins)
+            put_u16(bytes + LPC_CASCADE, (uint16_t)below(random, pins));
+    }
+}
+
+/* Bridges with new hardware IDs may have more pins than before: all get bases at which they own no number in common. */
+static void part_bridges(struct random *random, struct board *board)
+{
+    for (size_t i = 0; i < board->structures; i++) {
+        uint8_t *bytes = board->structure[i].bytes;
+
+        if (bytes[0] == BIO)
+            put_u16(bytes + BIO_BASE, free_base(random, board, pins_of_bio(board, bytes)));
+    }
+}
+
+/*
+ * Sets the pins of a bridge to fewer than 64, if it has so many; gives how many it has. Others keep theirs. A bridge whose
+ * hardware ID another way has broken may have no pair, and so keeps 64.
+ */
+static uint8_t shorten(struct random *random, struct board *board, const uint8_t *bio)
+{
+    make_version_2(random, board);
+    if (pins_of_bio(board, bio) == PINS)
+        give_pair(random, board, (uint8_t)get_u16(bio + BIO_HARDWARE_ID), (uint8_t)between(random, 1, PINS - 1));
+    return pins_of_bio(board, bio);
+}
+
+/* A pin that a bridge with fewer than 64 has not; often the first such. */
+static uint16_t missing_pin(struct random *random, uint8_t pins)
+{
+    return pins == PINS || one_in(random, 2) ? pins : (uint16_t)between(random, pins, PINS - 1);
 }
 
 /* ---- 31 to 38 and 71 to 77: structures in turn ---- */
@@ -411,6 +458,15 @@ static void bio_base(struct random *random, struct board *board)
     put_u16(bio + BIO_BASE, base_out_of_range(random));
 }
 
+/* The range is that of 64 pins (W-212), also where fewer would end at 65,535 or before. */
+static void base_of_short_bridge(struct random *random, struct board *board)
+{
+    uint8_t *bio = some(random, board, BIO);
+    uint8_t pins = shorten(random, board, bio);
+
+    put_u16(bio + BIO_BASE, (uint16_t)(BASE_MAX + 1 + (pins == PINS ? 0 : below(random, PINS - pins))));
+}
+
 static void lpc_cascade(struct random *random, struct board *board)
 {
     put_past(random, some(random, board, LPC) + LPC_CASCADE, PINS);
@@ -554,33 +610,6 @@ static void too_many_bios(struct random *random, struct board *board)
 static void two_lpcs(struct random *random, struct board *board)
 {
     have(random, board, LPC, 2);
-}
-
-/* ---- Bridges, whose pins depend on their hardware ID (W-212) ---- */
-
-/* New bridges, or new hardware IDs, may put the LPC on a bridge without its pin: then it gets one that is there. */
-static void put_lpc_on_a_pin(struct random *random, struct board *board)
-{
-    const uint8_t *bridge = bridge_of_lpc(board);
-    uint8_t pins = bridge == NULL ? PINS : pins_of_bio(board, bridge);
-
-    for (size_t i = 0; i < board->structures; i++) {
-        uint8_t *bytes = board->structure[i].bytes;
-
-        if (bytes[0] == LPC && get_u16(bytes + LPC_CASCADE) >= pins)
-            put_u16(bytes + LPC_CASCADE, (uint16_t)below(random, pins));
-    }
-}
-
-/* Bridges with new hardware IDs may have more pins than before: all get bases at which they own no number in common. */
-static void part_bridges(struct random *random, struct board *board)
-{
-    for (size_t i = 0; i < board->structures; i++) {
-        uint8_t *bytes = board->structure[i].bytes;
-
-        if (bytes[0] == BIO)
-            put_u16(bytes + BIO_BASE, free_base(random, board, pins_of_bio(board, bytes)));
-    }
 }
 
 /* ---- 39 to 54: the board as a whole ---- */
@@ -751,21 +780,6 @@ static void lpc_without_bio(struct random *random, struct board *board)
     (void)some(random, board, LPC);
 }
 
-/* Sets the pins of a bridge to fewer than 64, if it has so many; gives how many it has. Others keep theirs. */
-static uint8_t shorten(struct random *random, struct board *board, const uint8_t *bio)
-{
-    make_version_2(random, board);
-    if (pins_of_bio(board, bio) == PINS)
-        give_pair(random, board, (uint8_t)get_u16(bio + BIO_HARDWARE_ID), (uint8_t)between(random, 1, PINS - 1));
-    return pins_of_bio(board, bio);
-}
-
-/* A pin that a bridge with fewer than 64 has not; often the first such. */
-static uint16_t missing_pin(struct random *random, uint8_t pins)
-{
-    return (uint16_t)between(random, pins, one_in(random, 2) ? pins : PINS - 1);
-}
-
 /* Other bridges may have the pin. */
 static void lpc_past_its_bridge(struct random *random, struct board *board)
 {
@@ -773,8 +787,16 @@ static void lpc_past_its_bridge(struct random *random, struct board *board)
     have(random, board, LPC, 1);
 
     uint8_t pins = shorten(random, board, bridge_of_lpc(board));
+    uint8_t *lpc = some(random, board, LPC);
 
-    put_u16(some(random, board, LPC) + LPC_CASCADE, missing_pin(random, pins));
+    put_u16(lpc + LPC_CASCADE, missing_pin(random, pins));
+}
+
+/* 42 comes before 45. */
+static void bio_without_eio_and_lpc_past_its_bridge(struct random *random, struct board *board)
+{
+    bio_without_eio(random, board);
+    lpc_past_its_bridge(random, board);
 }
 
 /* One of two bridges begins among the numbers of the other, often at its last. */
@@ -857,6 +879,25 @@ static void bases_too_close_and_slots_on_pins(struct random *random, struct boar
 {
     bases_too_close(random, board);
     slots_on_pins(random, board);
+}
+
+/* 45 comes before 51 and 52. */
+static void lpc_past_its_bridge_and_clashes(struct random *random, struct board *board)
+{
+    bases_too_close_and_slots_on_pins(random, board);
+    lpc_past_its_bridge(random, board);
+}
+
+/* Behind the pins of a short bridge, and on those of one that has more. */
+static void slots_between_counts(struct random *random, struct board *board)
+{
+    have(random, board, BIO, 2);
+
+    uint8_t pins = shorten(random, board, some(random, board, BIO)), most = most_pins(board);
+    uint8_t *msi = some(random, board, MSI);
+
+    put_lpc_on_a_pin(random, board);
+    set_slots(random, msi, pins < most ? (uint32_t)between(random, pins, most - 1) : pins - 1u);
 }
 
 /* Each MSI has slots of its own, and all that there are pins for are on pins of the bridge, which stands behind them. */
@@ -1035,6 +1076,7 @@ const struct way madt_ways[] = {
     {75, "MSI end with wrap", .in_board = msi_wraps},
     {75, "end of the fifth MSI", .in_board = surplus_end},
     {76, "BIO base", .in_board = bio_base},
+    {76, "BIO base past the range, with few pins", .in_board = base_of_short_bridge},
     {76, "base of the fifth BIO", .in_board = surplus_base},
     {77, "LPC cascade", .in_board = lpc_cascade},
     {77, "LPC cascade, high byte", .in_board = lpc_cascade_high_byte},
@@ -1062,14 +1104,17 @@ const struct way madt_ways[] = {
     {40, "no EIO", .in_board = no_eio},
     {41, "repeated node", .in_board = repeated_node},
     {42, "BIO without its EIO", .in_board = bio_without_eio},
+    {42, "BIO without its EIO, LPC past its bridge", .in_board = bio_without_eio_and_lpc_past_its_bridge},
     {43, "LPC without a BIO", .in_board = lpc_without_bio},
-    {45, "LPC past the pins of its bridge", .in_board = lpc_past_its_bridge},
+    {45, "LPC past its bridge", .in_board = lpc_past_its_bridge},
+    {45, "LPC past its bridge, bases too close, slots on pins", .in_board = lpc_past_its_bridge_and_clashes},
     {51, "bases too close", .in_board = bases_too_close},
     {51, "base between two", .in_board = base_between_two},
     {51, "bases too close, and slots on pins", .in_board = bases_too_close_and_slots_on_pins},
     {52, "two BIO of a node", .in_board = two_bios_of_a_node},
     {52, "slots on slots", .in_board = slots_on_slots},
     {52, "slots on pins", .in_board = slots_on_pins},
+    {52, "slots behind one bridge's pins, on another's", .in_board = slots_between_counts},
     {52, "BIO behind several MSI", .in_board = bio_behind_several_msis},
     {52, "crowded vectors", .in_board = crowded_vectors},
     {53, "EIO on the LIO's vector", .in_board = eio_on_the_lio},
