@@ -102,6 +102,7 @@ static const struct row rows[] = {
     {READ, SPARE_CORES, NO_MORE},
     {READ, TABLE_NAMED_OFTEN, NO_MORE},
     {READ, TOUCHING_SEGMENTS, NO_MORE},
+    {READ, SHORT_BRIDGE, NO_MORE},
     {ROUTE, BOARD_A, NO_MORE},
     {TRACE, BOARD_A, NO_MORE},
 };

@@ -83,6 +83,19 @@ static void make_touching_segments(struct random *random, struct capture *captur
     lay_out(&board, capture);
 }
 
+/* ---- Version 2 ---- */
+
+/* The new bridge of W-212: 32 inputs. Its pair is the last that is looked at. */
+static void make_short_bridge(struct random *random, struct capture *capture)
+{
+    static const struct pair pairs[PAIRS] = {{1, 64}, {5, 16}, {200, 1}, {0, 32}};
+
+    start_like_board_a(random, 2, false);
+    board.version = WITH_PAIRS;
+    memcpy(board.pair, pairs, sizeof pairs);
+    lay_out(&board, capture);
+}
+
 /* ---- CORE ---- */
 
 static void make_rising(struct random *random, struct capture *capture)
@@ -190,6 +203,7 @@ void make_hard_captures(const char *boards, struct hard_capture captures[HARD_CA
         [SPARE_CORES] = {"256 CORE, 4 of them enabled, the others alike", make_spare_cores},
         [TABLE_NAMED_OFTEN] = {"32 XSDT entries, 30 of them naming one large table", make_table_named_often},
         [TOUCHING_SEGMENTS] = {"a board like A, each table across 4 of 16 segments", make_touching_segments},
+        [SHORT_BRIDGE] = {"a board like A, version 2, its bridge with 32 pins", make_short_bridge},
     };
     struct random random = random_for_case(1, 0);
 

@@ -20,6 +20,7 @@ enum hard {
     SPARE_CORES,
     TABLE_NAMED_OFTEN,
     TOUCHING_SEGMENTS,
+    SHORT_BRIDGE, /* version 2 with four pairs, the last of them the bridge's */
     HARD_CAPTURES
 };
 

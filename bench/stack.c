@@ -93,10 +93,13 @@ static void measure_way_and_back(const char *what, const struct capture *capture
         measure_call(what, (struct call){TRACE, capture, (uint32_t)(answer >> 32), (uint32_t)answer});
 }
 
-/* The questions are those of document 01's examples about board A, where they have every sort of answer, and the SCI. */
+/*
+ * The questions are those of document 01's examples about board A, where they have every sort of answer, one about the number
+ * that a bridge of 32 pins does not own any more (W-212), and the SCI.
+ */
 static void measure_capture(const char *what, const struct capture *capture)
 {
-    static const uint32_t numbers[] = {3, 26, 45, 50, 72};
+    static const uint32_t numbers[] = {3, 26, 45, 50, 72, 96};
     static const struct {
         uint32_t vector, number;
     } arrivals[] = {{3, 64}, {2, 24}};
