@@ -727,10 +727,14 @@ static void print_hits(enum reading reading, const struct hits *hits)
     printf("\n");
 }
 
-/* 3 is about other versions. Every other refusal must be met in version 2 too. */
+enum { OTHER_VERSION = 3 }; /* the refusal of versions other than 1 and 2 */
+
+/* Every refusal that version 2 can have must be met there too. */
 static bool hit_often_enough(unsigned refusal, const struct hits *hits)
 {
-    return hits->all[refusal] >= LEAST_HITS && (refusal == 3 || hits->of_version_2[refusal] >= LEAST_HITS);
+    bool in_version_2 = refusal == OTHER_VERSION || hits->of_version_2[refusal] >= LEAST_HITS;
+
+    return hits->all[refusal] >= LEAST_HITS && in_version_2;
 }
 
 /* Whether a reading gave each refusal often enough, and no other; says which not. */
