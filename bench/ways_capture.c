@@ -88,12 +88,22 @@ static void wrong_version_without_room_for_pairs(struct random *random, struct c
     capture->length = length_without_pairs(random);
 }
 
-/* Often all of them are missing: it ends with the header, or with the pairs. */
+/* How much is left of the descriptors: often nothing, or all but what a reader that leaves the pairs out would not miss. */
+static size_t part_of_descriptors(struct random *random, size_t length)
+{
+    switch (below(random, 4)) {
+    case 0:
+        return 0;
+    case 1:
+        return length - between(random, 1, PAIRS_LENGTH);
+    default:
+        return below(random, length);
+    }
+}
+
 static void descriptors_past_end(struct random *random, struct capture *capture)
 {
-    size_t left = one_in(random, 4) ? 0 : below(random, DESCRIPTOR_LENGTH * capture->segments);
-
-    capture->length = capture->descriptors + left;
+    capture->length = capture->descriptors + part_of_descriptors(random, DESCRIPTOR_LENGTH * capture->segments);
     if (one_in(random, 2))
         set_total(capture, capture->length);
 }
