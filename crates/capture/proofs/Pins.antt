@@ -94,6 +94,25 @@ unfolding toldOf first
 told-nowhere id [] h = refl
 told-nowhere id (p ∷ ps) h = no-if _ _ _ (h 0 (omega arith)) (told-nowhere id ps (λ k l. h (suc k) (omega arith)))
 
+-- where something is told, a pair tells it
+pub told-some : (id : ℕ) (pairs : List Pair) → (toldOf id pairs ≡ 0 → ⊥)
+    → (k : ℕ) × (k < length pairs) × (tellsOf id (getD pairs k noPair) ≡ true)
+unfolding toldOf first if
+told-some id [] some = absurd (some refl)
+told-some id (p ∷ ps) some = go (tellsOf id p) refl some (told-some id ps)
+  where
+    go : (b : Bool) → tellsOf id p ≡ b → (if b (p .pins) (toldOf id ps) ≡ 0 → ⊥)
+        → ((toldOf id ps ≡ 0 → ⊥) → (k : ℕ) × (k < length ps) × (tellsOf id (getD ps k noPair) ≡ true))
+        → (k : ℕ) × (k < length (p ∷ ps)) × (tellsOf id (getD (p ∷ ps) k noPair) ≡ true)
+    go true t n later = (0, omega arith, t)
+    go false t n later = let w = later n in (suc (w .0), omega arith, w .2)
+
+-- and where nothing is, none does
+pub none-told : (id : ℕ) (pairs : List Pair) → toldOf id pairs ≡ 0 → (k : ℕ) → k < length pairs → tellsOf id (getD pairs k noPair) ≡ false
+none-told id [] none k l = absurd (omega arith)
+none-told id (p ∷ ps) none zero l = told-none id p ps none .0
+none-told id (p ∷ ps) none (suc k) l = none-told id ps (told-none id p ps none .1) k (omega arith)
+
 -- ---- of a sound capture
 module _ (capture : List ℕ) (sound : verdict capture ≡ Sound) where
   pair-kept : (k : ℕ) → k < 4 → pairBroken (pairsOf capture) k ≡ false

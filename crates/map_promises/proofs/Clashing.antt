@@ -37,7 +37,7 @@ use Rattle.map_promises.proofs.Unused.{lio-said}
 use Rattle.map_promises.proofs.Verdicts.{eio-there, later-kept, both-kept, spotted-kept, later-told, both-told, spotted-told, rule-read, position, Second, own, told-at}
 
 -- 45: an LPC whose bridge lacks the input of its cascade
-no-input : (lpc : Lpc) (bridge : Bridge) → noInput lpc bridge ≡ true → (lpc .present ≡ true) × (b : Bio) × (bridge ≡ Is b) × (b .pins ≤ lpc .cascade)
+pub no-input : (lpc : Lpc) (bridge : Bridge) → noInput lpc bridge ≡ true → (lpc .present ≡ true) × (b : Bio) × (bridge ≡ Is b) × (b .pins ≤ lpc .cascade)
 unfolding noInput
 no-input lpc (Is b) h =
     (and-left (lpc .present) (leb (b .pins) (lpc .cascade)) h, b, refl, leb-true _ _ (and-right (lpc .present) (leb (b .pins) (lpc .cascade)) h))

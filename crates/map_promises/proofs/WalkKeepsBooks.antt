@@ -34,6 +34,7 @@ use Rattle.madt.proofs.Types.{type-yes}
 use Rattle.madt.proofs.Contents.{made-many, standing-many}
 use Rattle.madt.proofs.Checks.{Kept, fits-lio, fits-eio, fits-msi, fits-bio, fits-lpc}
 use Rattle.madt.proofs.Accepted.{noWhole, rules-sound, found-is, few-eios, few-msis, few-bios, kept-at}
+use Rattle.map_promises.specs.Sources.{bioAt}
 use Rattle.map_promises.specs.Structures.{Structure, lio, eio, bio, msi, IsIn, placeOf, Placed}
 use Rattle.map_promises.specs.Walks.{Normal, PinsInRange, WellKept, WalkKeepsBooks}
 use Rattle.map_promises.proofs.Shelves.{take-four, past, at-four, at-every, map-at}
@@ -322,6 +323,14 @@ module _ {until : ℕ} {all : List Whole} (g : Good until all) (sci : ℕ) (pins
   unfolding mapOf
   few = rw (le-ltb 4 (howMany 20 all) (g .eios), le-ltb 4 (howMany 22 all) (g .bios), le-ltb 4 (howMany 21 all) (g .msis))
 
+  -- a BIO has as many inputs as is told of its hardware ID
+  pub counted : (j : ℕ) → j < length (says (mapOf sci pins all) .bios)
+      → getD (says (mapOf sci pins all) .bios) j noBio .pins ≡ pins (getD (says (mapOf sci pins all) .bios) j noBio .node)
+  unfolding bridgeOf
+  counted j l =
+      let here : j < howMany 22 all = omega (arith, ap length (said-bios g sci pins), made-many 22 (bridgeOf pins) all) in
+      rw (said-bios g sci pins, makes g 22 j here (bridgeOf pins) noBio)
+
   -- ---- unused places hold 0
   unused : {A : Type 0} (number : ℕ) (maker : List ℕ → A) (none : A) → howMany number all ≤ 4 → (i : ℕ) → howMany number all ≤ i
       → getD (inFour none (made number maker all)) i none ≡ none
@@ -362,6 +371,14 @@ pub walk-few : (table : List ℕ) (base sci : ℕ) (pins : ℕ → ℕ) → walk
 unfolding foundIn
 walk-few table base sci pins h =
     rw (found-is table base sci pins h) (few (good table base (44 + length table) (rules-sound table base sci pins h) (omega arith) (omega arith)) sci pins)
+
+-- and each BIO has as many inputs as is told of it
+pub walk-counts : (table : List ℕ) (base sci : ℕ) (pins : ℕ → ℕ) → walked table base sci pins .verdict ≡ Sound
+    → (j : ℕ) → let said = says (walked table base sci pins .found .map) in
+    j < length (said .bios) → bioAt said j .pins ≡ pins (bioAt said j .node)
+unfolding foundIn
+walk-counts table base sci pins h =
+    rw (found-is table base sci pins h) (counted (good table base (44 + length table) (rules-sound table base sci pins h) (omega arith) (omega arith)) sci pins)
 
 -- THE PROMISE
 pub walk-keeps-books : (table : List ℕ) (base sci : ℕ) (pins : ℕ → ℕ) → WalkKeepsBooks table base sci pins

@@ -47,7 +47,7 @@ use Rattle.promises.proofs.AcceptedIsTrustworthy.{accepted-is-trustwort
 use Rattle.promises.proofs.MapRefusals.{map-told}
 use Rattle.reading.proofs.Scanned.{found-verdict}
 use Rattle.promises.proofs.TableRefusals.{SurveyTold, survey-told}
-use Rattle.promises.proofs.Told.{Told, isOfStructures, is39, isFrom40, isTo30, isAfter38, isAfter30, isNot60, told-left, told-right, told-not-60, Inside, tell, tell-none, more-told, joined-told}
+use Rattle.promises.proofs.Told.{Told, isOfStructures, is39, isFrom40, isTo30, isAfter38, isAfter30, isNot, told-left, told-right, told-not, Inside, tell, tell-none, more-told, joined-told}
 use Rattle.promises.proofs.WhyRefused.{why-refused}
 use Rattle.promises.proofs.WalkRefusals.{walked-told}
 
@@ -115,15 +115,15 @@ module _ (capture : List ℕ) (t : Tables) (inside : TablesInside capture t) (at
       (λ sound. told-right isOfStructures isAfter38 capture (firstRefusal (laterRules capture t)) (rules-told (walk-verdict _ _ _ _ ∙ sound)))
 
 -- ---- 1 to 54
-scan-told : (strictness : Strictness) (capture : List ℕ) → Told isNot60 capture (scan strictness capture .verdict)
+scan-told : (strictness : Strictness) (capture : List ℕ) → Told (isNot 60) capture (scan strictness capture .verdict)
 unfolding turnedDown
 scan-told strictness capture = go (survey strictness capture) refl (survey-told strictness capture)
   where
-    go : (s : Survey) → survey strictness capture ≡ s → SurveyTold capture s → Told isNot60 capture (scan strictness capture .verdict)
-    go (surveys.Refused r) e told = rw (scan-refused strictness capture e) (told-not-60 isTo30 refl capture (verdicts.Refused r) told)
+    go : (s : Survey) → survey strictness capture ≡ s → SurveyTold capture s → Told (isNot 60) capture (scan strictness capture .verdict)
+    go (surveys.Refused r) e told = rw (scan-refused strictness capture e) (told-not 60 isTo30 refl capture (verdicts.Refused r) told)
     go (surveys.Found t) e told =
         rw (found-verdict strictness capture e)
-        (told-not-60 isAfter30 refl capture (firstRefusal (rulesFrom31 capture t))
+        (told-not 60 isAfter30 refl capture (firstRefusal (rulesFrom31 capture t))
         (after-30-told capture t (tables-inside strictness capture t e) told))
 
 module _ (strictness : Strictness) (capture : List ℕ) (r : Refusal) (e : scan strictness capture .verdict ≡ verdicts.Refused r) where
@@ -132,7 +132,7 @@ module _ (strictness : Strictness) (capture : List ℕ) (r : Refusal) (e : scan 
 
   -- 60 is no refusal of the scan
   pub not-60 : r .number ≡ 60 → ⊥
-  not-60 sixty = true≢false (sym ((rw e at (scan-told strictness capture)) .1) ∙ ap isNot60 sixty)
+  not-60 sixty = true≢false (sym ((rw e at (scan-told strictness capture)) .1) ∙ ap (isNot 60) sixty)
 
 -- THE PROMISES
 pub reading-refusals : (strictness : Strictness) (capture list : List ℕ) → ReadingRefusals strictness capture list

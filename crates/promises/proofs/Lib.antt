@@ -17,3 +17,4 @@ pub mod MapOfMadt
 pub mod Memory
 pub mod Readings
 pub mod Processors
+pub mod Pairs

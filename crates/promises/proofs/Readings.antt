@@ -73,7 +73,7 @@ module _ (strictness : Strictness) (capture : List ℕ) where
   isWrong = wrongMadtRevision strictness (madtRevision capture)
 
   -- 1 to 28 come first
-  refused-before : {r : Refusal} → firstRefusal (rulesBefore29 capture) ≡ Refused r → scan strictness capture ≡ turnedDown r
+  pub refused-before : {r : Refusal} → firstRefusal (rulesBefore29 capture) ≡ Refused r → scan strictness capture ≡ turnedDown r
   unfolding survey surveyRules
   refused-before h = scan-refused strictness capture (joined-refused surveys.Refused (rulesBefore29 capture) _ _ h)
 

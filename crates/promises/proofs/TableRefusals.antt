@@ -132,7 +132,7 @@ lengths-told capture madt fadt m f =
     (λ t. none-told isOfTables capture))
 
 -- 29 and 30
-fields-told : (strictness : Strictness) (capture : List ℕ) (madt : Table) → Inside capture (madt .place)
+pub fields-told : (strictness : Strictness) (capture : List ℕ) (madt : Table) → Inside capture (madt .place)
     → Told is29Or30 capture (firstRefusal (madtFieldRules strictness capture madt))
 unfolding madtFieldRules
 fields-told strictness capture madt m =

@@ -61,9 +61,9 @@ isAfter38 n = is39 n || isFrom40 n
 abbrev pub isAfter30 : ℕ → Bool
 isAfter30 n = isOfStructures n || isAfter38 n
 
--- all of them: every number but 60, the list's
-abbrev pub isNot60 : ℕ → Bool
-isNot60 n = not (eqb n 60)
+-- every number but one
+abbrev pub isNot : ℕ → ℕ → Bool
+isNot m n = not (eqb n m)
 
 -- what some rules tell is told by more of them
 pub told-wider : (own more : ℕ → Bool) → ((n : ℕ) → own n ≡ true → more n ≡ true) → (capture : List ℕ) (v : Verdict)
@@ -77,8 +77,13 @@ told-left own more = told-wider own (λ n. own n || more n) (λ n h. left-true (
 pub told-right : (more own : ℕ → Bool) (capture : List ℕ) (v : Verdict) → Told own capture v → Told (λ n. more n || own n) capture v
 told-right more own = told-wider own (λ n. more n || own n) (λ n h. right-true (more n) (own n) h)
 
-pub told-not-60 : (own : ℕ → Bool) → own 60 ≡ false → (capture : List ℕ) (v : Verdict) → Told own capture v → Told isNot60 capture v
-told-not-60 own h = told-wider own isNot60 (λ n t. ap not (ne-eqb n 60 (λ e. true≢false (sym t ∙ ap own e ∙ h))))
+pub told-not : (m : ℕ) (own : ℕ → Bool) → own m ≡ false → (capture : List ℕ) (v : Verdict) → Told own capture v → Told (isNot m) capture v
+told-not m own h = told-wider own (isNot m) (λ n t. ap not (ne-eqb n m (λ e. true≢false (sym t ∙ ap own e ∙ h))))
+
+-- and so a refusal of others does not have it
+pub not-told : (m : ℕ) (own : ℕ → Bool) → own m ≡ false → (capture : List ℕ) {v : Verdict} {r : Refusal} → Told own capture v → v ≡ Refused r
+    → r .number ≡ m → ⊥
+not-told m own h capture told e same = true≢false (sym ((rw e at told) .1) ∙ ap own same ∙ h)
 
 -- ---- one refusal
 abbrev pub Inside : List ℕ → ℕ → Type 0

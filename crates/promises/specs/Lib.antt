@@ -1,5 +1,6 @@
 pub mod Captures
 pub mod Readings
+pub mod Pairs
 pub mod Processors
 pub mod Memory
 pub mod RefusalTable
