@@ -1,7 +1,8 @@
 /*
  * Yasmirand's entries for C (crates/reading/src/entries.rt). A slice of bytes is a pointer and a length.
  *
- * All of them give the strict reading: a MADT of another revision than 1 is refused with 29 (README, "Newer tables").
+ * All of them take captures of version 1 and of version 2, which tells how many inputs bridges have (README, "Two versions of the
+ * capture"), and give the strict reading: a MADT of another revision than 1 is refused with 29 (README, "Newer tables").
  *
  * A result of 2^48 or more is a refusal: refusal number × 2^48 + place in the capture. Any other result is an answer.
  * (The second place that 51 to 53 have is not in a result; `./map` prints it.)
