@@ -1,10 +1,9 @@
 -- 7 is told exactly where a pair breaks it, the map's bridges have the counts that the pairs give, a version 1 capture gets the answers
 -- that it got before, and pairs that name no bridge change nothing.
-use Prim.Native.Nat.{ℕ, zero, suc, _+_, _*_, _<_, _≤_}
-use native.Mathlib.Nat.{not-suc-le-zero, le-of-suc-le-suc}
+use Prim.Native.Nat.{ℕ, zero, suc, _+_, _*_, _<_}
 use native.Mathlib.Omega.{arith}
-use mathlib.Core.Bool.{Bool, true, false, not, _&&_, _||_, true≢false}
-use mathlib.Core.List.{List, [], _∷_, _++_}
+use mathlib.Core.Bool.{Bool, true, false, not, _&&_, true≢false}
+use mathlib.Core.List.{List, _∷_, _++_}
 use mathlib.Core.Logic.{_⊎_, inl, inr, ⊎-elim}
 use mathlib.Core.Path.{_≡_, refl, sym, ap, _∙_}
 use borrow.Author.Tests.{eqb-true, eqb-false, eq-eqb, ne-eqb, ltb-true, lt-ltb, not-true}
@@ -18,7 +17,7 @@ use Rattle.words.specs.Refusals.{refused, refusedWith, rule, unless, firstRefus
 use Rattle.words.specs.declared.Refusal.{Refusal}
 use Rattle.words.specs.declared.Verdict.{Verdict}
 use Rattle.words.specs.declared.Verdict.the-variants.{Sound, Refused}
-use Rattle.words.proofs.Searches.{Hit, search-found, search-none}
+use Rattle.words.proofs.Searches.{search-found, search-none}
 use Rattle.words.proofs.Tests.{both-left, both-right, fails}
 use Rattle.words.proofs.Verdicts.{not-sound, same-refusal, unless-refused, unless-sound, first-kept, first-joined}
 use Rattle.capture.specs.Fields.{version, segmentCount, descriptor, segments}

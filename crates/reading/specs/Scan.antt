@@ -1,7 +1,7 @@
 -- Document 01, "Refusals in order": the order of all rules up to 54, and what is found where none is broken. How strict the reading is
 -- (W-207 of document 02) is handed on to 29.
 use Prim.Native.Nat.{ℕ, _+_}
-use mathlib.Core.List.{List, [], _∷_, _++_}
+use mathlib.Core.List.{List, _∷_, _++_}
 use lib.Dec.{eqb}
 use Rattle.words.specs.Bytes.{partAt}
 use Rattle.words.specs.Refusals.{refused, rule, unless, firstRefusal}

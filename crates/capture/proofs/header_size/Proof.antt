@@ -1,6 +1,5 @@
 -- `capture::header_size` is the header's size.
 use mathlib.Core.Path.{refl, sym}
-use borrow.Author.Needs.{needs}
 use borrow.Author.Tests.{eq-eqb, ne-eqb}
 use Rattle.words.proofs.Choices.{yes-if, no-if}
 use Rattle.capture.specs.Fields.{headerSize}

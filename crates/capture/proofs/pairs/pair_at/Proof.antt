@@ -1,5 +1,4 @@
 -- `pairs::pair_at` reads the two bytes of a pair.
-use mathlib.Core.Path.{ap, _∙_}
 use borrow.Author.Needs.{needs}
 use Rattle.capture.specs.Pairs.{pairAt}
 use Rattle.capture.proofs.pairs.pair_at.Statement.{statement}

@@ -1,5 +1,5 @@
 -- `pairs::pairs_of` reads four pairs of a capture of version 2.
-use mathlib.Core.Path.{sym, _∙_}
+use mathlib.Core.Path.{sym}
 use borrow.Author.Needs.{needs}
 use borrow.Author.Tests.{eq-eqb, ne-eqb}
 use Rattle.capture.proofs.Pins.{four-pairs, empty-pairs}
