@@ -38,9 +38,14 @@ struct Segment {
 
 const VERSION: usize = 3;
 
+// The versions that there are, and the size of the header of each.
 const WITHOUT_PAIRS: u16 = 1;
 
+const HEADER: u8 = 18;
+
 const WITH_PAIRS: u16 = 2;
+
+const HEADER_WITH_PAIRS: u8 = 26;
 
 const SEGMENT_COUNT: usize = 5;
 
@@ -73,11 +78,15 @@ fn segment_count(capture: &[u8]) -> u8
     words::byte_at(capture, SEGMENT_COUNT)
 }
 
-// The size of the header ahead of the descriptors: the only place that knows it.
+// The size of the header ahead of the descriptors, by the version alone.
 fn header_size(version: u16) -> u8
     ensures { λ r. ⌜ r ≡ headerSize version ⌝ }
 {
-    if version == WITH_PAIRS { 26 } else { 18 }
+    if version == WITH_PAIRS {
+        HEADER_WITH_PAIRS
+    } else {
+        HEADER
+    }
 }
 
 // The place of the first descriptor.

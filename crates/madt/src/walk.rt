@@ -115,9 +115,9 @@ fn walk_table(table: &[u8], base: u16, sci: u16, pairs: Pairs, offsets: &mut Off
     Walked { verdict, found }
 }
 
-// Refusals 31 to 38 and 71 to 77 of the MADT of a capture, or the map with an SCI number and with what pairs tell of its bridges, the
-// places of its structures, and the number of processors. Where these stand in the MADT is noted in the front of a lent room; a refusal leaves there what was noted
-// before it.
+// Refusals 31 to 38 and 71 to 77 of the MADT of a capture, or the map with an SCI number and with what pairs tell of its bridges,
+// the places of its structures, and the number of processors. Where these stand in the MADT is noted in the front of a lent room;
+// a refusal leaves there what was noted before it.
 pub fn walk_madt(
     capture: &[u8],
     madt: Table,
