@@ -5,6 +5,7 @@ use mathlib.Core.Path.{_≡_, ap, _∙_}
 use Prim.Native.Nat.{ℕ, _+_, _≤_, _<_}
 use native.Mathlib.Omega.{arith}
 use lib.ListN.{length, length-take}
+use lib.Seq.{getD-take}
 use Rattle.words.specs.Bytes.{AllBytes, numberAt, partAt}
 use Rattle.words.proofs.Numbers.{number-take}
 use Rattle.capture.proofs.Laws.{count-small, header-bounds}
@@ -55,3 +56,29 @@ module _ (capture : List ℕ) {head : List ℕ} (whole : descriptorsEnd capture 
   pub head-over : {at : ℕ} (i : ℕ) → at ≡ descriptor capture i → i ≤ segmentCount capture → length head < at + 12 → i ≡ segmentCount capture
   unfolding descriptorsEnd descriptor
   head-over i here counted over = omega (arith, head-length)
+
+  -- the head is a capture with the same version, and so with the same descriptors
+  same-version : version head ≡ version capture
+  unfolding version descriptorsEnd descriptor
+  same-version = number-there 2 3 (omega (arith, head-length, header-bounds (version capture) .0))
+
+  pub same-count : segmentCount head ≡ segmentCount capture
+  unfolding segmentCount descriptorsEnd descriptor
+  same-count = rw is (getD-take (descriptorsEnd capture) capture 5 0 (omega (arith, header-bounds (version capture) .0)))
+
+  pub same-place : (i : ℕ) → descriptor head i ≡ descriptor capture i
+  unfolding descriptor
+  same-place i = rw same-version
+
+  pub same-end : descriptorsEnd head ≡ descriptorsEnd capture
+  unfolding descriptorsEnd
+  same-end = rw same-count (same-place (segmentCount capture))
+
+  -- and with the same segments
+  pub same-address : (i : ℕ) → i < segmentCount capture → segmentAddress head i ≡ segmentAddress capture i
+  unfolding segmentAddress descriptorsEnd descriptor
+  same-address i counted = rw (same-place i) (number-there 8 (descriptor capture i) (omega (arith, head-length)))
+
+  pub same-length : (i : ℕ) → i < segmentCount capture → segmentLength head i ≡ segmentLength capture i
+  unfolding segmentLength descriptorsEnd descriptor
+  same-length i counted = rw (same-place i) (number-there 4 (descriptor capture i + 8) (omega (arith, head-length)))

@@ -12,10 +12,12 @@ use Rattle.words.specs.Choice.{if}
 use Rattle.words.specs.Lists.{first}
 use Rattle.words.proofs.Searches.{next-number}
 use Rattle.words.proofs.Tests.{fails, both-left, both-right}
-use Rattle.capture.specs.Fields.{segmentCount, descriptor, segmentAddress, segmentLength, segmentEnd, hasAddress, lengths}
+use lib.ListN.{length}
+use Rattle.words.specs.Bytes.{partAt}
+use Rattle.capture.specs.Fields.{segmentCount, descriptor, descriptorsEnd, segmentAddress, segmentLength, segmentEnd, hasAddress, lengths}
 use Rattle.capture.specs.Presence.{goesOn, runEnd, placeIn}
 use Rattle.capture.proofs.Laws.{lengths-next, lengths-within, place-next}
-use Rattle.capture.proofs.Head.{next-descriptor}
+use Rattle.capture.proofs.Head.{next-descriptor, same-count, same-address, same-length}
 
 module _ (capture : List ℕ) where
   -- behind a segment that goes on there is one, which starts at its end
@@ -162,3 +164,26 @@ module _ (capture : List ℕ) where
 
     pub along-end : segmentCount capture ≤ a .last + 1 → sum ≡ runEnd capture i - address
     along-end out = ends (fails (goesOn capture (a .last)) (λ on. omega (arith, next-counted (a .last) on)))
+
+-- a capture's head has its runs
+module _ (capture : List ℕ) {head : List ℕ} (whole : descriptorsEnd capture ≤ length capture) (is : head ≡ partAt capture 0 (descriptorsEnd capture)) where
+  pub same-segment-end : (i : ℕ) → i < segmentCount capture → segmentEnd head i ≡ segmentEnd capture i
+  same-segment-end i counted = omega (arith, same-address capture whole is i counted, same-length capture whole is i counted)
+
+  same-goes-on : (i : ℕ) → i < segmentCount capture → goesOn head i ≡ goesOn capture i
+  unfolding goesOn
+  same-goes-on i counted = go (ltb (i + 1) (segmentCount capture)) refl
+    where
+      go : (more : Bool) → ltb (i + 1) (segmentCount capture) ≡ more → goesOn head i ≡ goesOn capture i
+      go true more =
+          rw (same-count capture whole is, same-address capture whole is (i + 1) (ltb-true _ _ more), same-segment-end i counted)
+      go false more = rw (same-count capture whole is, more)
+
+  pub same-run : (i : ℕ) → i < segmentCount capture → runEnd head i ≡ runEnd capture i
+  same-run =
+      along capture (λ (i : ℕ). runEnd head i ≡ runEnd capture i)
+      (λ i counted over.
+      run-last head i (omega (arith, same-count capture whole is)) (same-goes-on i counted ∙ over)
+      ∙ same-segment-end i counted
+      ∙ sym (run-last capture i counted over))
+      (λ i on later. run-next head i (same-goes-on i (omega (arith, next-counted capture i on)) ∙ on) ∙ later ∙ sym (run-next capture i on))

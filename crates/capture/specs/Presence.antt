@@ -61,6 +61,6 @@ rsdpPlace capture = placeOf (rsdpStretch capture)
 unfoldable pub presenceRules : List ℕ → List Verdict
 presenceRules capture = rule (not (isPresent (rsdpStretch capture))) 10 10 ∷ []
 
--- the order: refusals 1 to 6, then 10; or the RSDP's place
+-- the order: refusals 1 to 7, then 10; or the RSDP's place
 unfoldable pub rsdp : List ℕ → Root
 rsdp capture = unless Refused (firstRefusal (containerRules capture ++ presenceRules capture)) (At (rsdpPlace capture))

@@ -90,18 +90,18 @@ fn header_size(version: u16) -> u8
 }
 
 // The place of the first descriptor.
-fn descriptors_start(capture: &[u8]) -> u16
+fn descriptors_start(capture: &[u8]) -> u32
     ensures { λ r. ⌜ r ≡ descriptor (now (capture .entry)) 0 ⌝ }
 {
-    header_size(version_of(capture)) as u16
+    header_size(version_of(capture)) as u32
 }
 
 // The place behind the last descriptor.
-fn descriptors_end(capture: &[u8]) -> u16
+fn descriptors_end(capture: &[u8]) -> u32
     ensures { λ r. ⌜ r ≡ descriptorsEnd (now (capture .entry)) ⌝ }
 {
-    (header_size(version_of(capture)) as u16)
-        + (DESCRIPTOR_SIZE as u16) * (segment_count(capture) as u16)
+    (header_size(version_of(capture)) as u32)
+        + (DESCRIPTOR_SIZE as u32) * (segment_count(capture) as u32)
 }
 
 // Header and descriptors, or as much of them as there is. Loops over the descriptors read them here: that each lies inside is then
@@ -287,13 +287,12 @@ fn starts_at(start: u64, address: u64, room: u64) -> bool
 }
 
 // How many bytes there are from an address of segment i on, as far as segments touch. Up to the end of segment i it is `room`; the
-// next segment's descriptor stands at `next`.
-fn room_of_run(capture: &[u8], address: u64, next: usize, room: u64) -> u64
-    requires { let c = now capture in ⌜ ((i : ℕ) × (i < segmentCount c) × (next ≡ descriptor c (i + 1))
-        × (address + room ≡ segmentEnd c i) × (room < 2 ^ 32) × (descriptorsEnd c ≤ length c)) ⌝ }
-    ensures { λ r. ⌜ ((i : ℕ) → next ≡ descriptor (now (capture .entry)) (i + 1) → r ≡ runEnd (now (capture .entry)) i - address) ⌝ }
+// next segment's descriptor stands at `next`. The head of a capture tells it, since it has the capture's segments.
+fn room_of_run(head: &[u8], address: u64, next: usize, room: u64) -> u64
+    requires { let h = now head in ⌜ ((i : ℕ) × (i < segmentCount h) × (next ≡ descriptor h (i + 1))
+        × (address + room ≡ segmentEnd h i) × (room < 2 ^ 32) × (length h ≡ descriptorsEnd h)) ⌝ }
+    ensures { λ r. ⌜ ((i : ℕ) → next ≡ descriptor (now (head .entry)) (i + 1) → r ≡ runEnd (now (head .entry)) i - address) ⌝ }
 {
-    let head = head_of(capture);
     let mut sum = room;
     let mut at = next;
     while at + DESCRIPTOR_SIZE <= head.len() {
@@ -313,11 +312,12 @@ fn room_of_run(capture: &[u8], address: u64, next: usize, room: u64) -> u64
 pub fn reach_of(capture: &[u8], address: u64) -> Reach
     ensures { λ r. ⌜ r ≡ reached (now (capture .entry)) address ⌝ }
 {
-    if capture.len() < descriptors_end(capture) as usize {
+    let end = descriptors_end(capture) as usize;
+    if capture.len() < end {
         return Reach { place: 0, room: 0 };
     }
-    let head = head_of(capture);
-    let mut place = head.len() as u64;
+    let head = words::part(capture, 0, end);
+    let mut place = end as u64;
     let mut at = descriptors_start(capture) as usize;
     while at + DESCRIPTOR_SIZE <= head.len() {
         let segment = segment_at(head, at);
@@ -326,7 +326,7 @@ pub fn reach_of(capture: &[u8], address: u64) -> Reach
             let ahead = address - segment.address;
             return Reach {
                 place: (place + ahead) as usize,
-                room: room_of_run(capture, address, at, (segment.length as u64) - ahead),
+                room: room_of_run(head, address, at, (segment.length as u64) - ahead),
             };
         }
         place += segment.length as u64;

@@ -6,11 +6,11 @@ ghost use Rattle.kinds.specs.Used.{usedHalf, saidLio, saidLpc};
 pub mod ranges; // 71 to 77 and 37: the range of each field, and the first that is broken
 pub mod makers; // type, length and maker of each of the seven kinds
 
-// One half of the LIO: the core vector that it enters by, and a bit for each input that it leads there. With mask 0 it is
-// unused and its cascade is free.
+// One half of the LIO: a bit for each input that it leads to a core vector, and the vector. With mask 0 it is unused and its
+// cascade is free.
 pub struct Half {
-    pub cascade: u8,
     pub mask: u32,
+    pub cascade: u8,
 }
 
 // The processor's own controller. Bytes 13 and 15 of its structure are the low half, 14 and 19 the high half.

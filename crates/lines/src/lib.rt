@@ -22,14 +22,14 @@ pub const MOST: u8 = 4;
 // is what an absent LIO or LPC or an unused half holds: nothing looks at them.
 pub struct Map {
     pub lio: Lio,
-    pub eiocount: u8,
-    pub eios: [Eio; 4],
-    pub biocount: u8,
-    pub bios: [Bio; 4],
-    pub msicount: u8,
-    pub msis: [Msi; 4],
     pub lpc: Lpc,
     pub sci: u16,
+    pub eiocount: u8,
+    pub biocount: u8,
+    pub msicount: u8,
+    pub eios: [Eio; 4],
+    pub bios: [Bio; 4],
+    pub msis: [Msi; 4],
 }
 
 // The answer to a global number: it arrives at a core vector with a number, or it is unwired, or it has no owner.

@@ -72,7 +72,8 @@ fn no_eio_of(eios: [Eio; 4], n: usize, node: u16) -> bool
     none
 }
 
-// ---- the structures of a kind among themselves, and against those of other kinds
+// ---- the structures of a kind among themselves, and against those of other kinds. The last of a kind has none behind it: the
+// array is not handed on for it, since handing it on is a copy.
 
 // The EIO, with the LIO's claim.
 fn eios_quiet(lio: Claim, eios: [Eio; 4], n: usize) -> bool
@@ -84,8 +85,11 @@ fn eios_quiet(lio: Claim, eios: [Eio; 4], n: usize) -> bool
     while i < n {
         let e = eios[i];
         let x = parts::eio_claim(e, 0);
-        still = still & (clashes::are_apart(lio, x) & far_from_eios(x, eios, n, i + 1));
+        still = still & clashes::are_apart(lio, x);
         i += 1;
+        if i < n {
+            still = still & far_from_eios(x, eios, n, i);
+        }
     }
     still
 }
@@ -100,9 +104,11 @@ fn bios_quiet(eios: [Eio; 4], e: usize, bios: [Bio; 4], n: usize, msis: [Msi; 4]
     while i < n {
         let b = bios[i];
         let x = parts::bio_claim(b, 0);
-        let alone = !no_eio_of(eios, e, b.node) & far_from_msis(x, msis, m, 0);
-        still = still & (alone & far_from_bios(x, bios, n, i + 1));
+        still = still & (!no_eio_of(eios, e, b.node) & far_from_msis(x, msis, m, 0));
         i += 1;
+        if i < n {
+            still = still & far_from_bios(x, bios, n, i);
+        }
     }
     still
 }
@@ -116,8 +122,10 @@ fn msis_quiet(msis: [Msi; 4], n: usize) -> bool
     let mut i = 0;
     while i < n {
         let m = msis[i];
-        still = still & far_from_msis(parts::msi_claim(m, 0), msis, n, i + 1);
         i += 1;
+        if i < n {
+            still = still & far_from_msis(parts::msi_claim(m, 0), msis, n, i);
+        }
     }
     still
 }

@@ -11,7 +11,7 @@ use kinds::Lpc;
 use words::Verdict;
 ghost use mathlib.Core.Path.{_≡_};
 ghost use mathlib.Core.List.{[], _∷_};
-ghost use Prim.Native.Nat.{_≤_};
+ghost use Prim.Native.Nat.{ℕ, _≤_};
 ghost use Rattle.words.specs.Refusals.{rule, unless, firstRefusal, isSound};
 ghost use Rattle.words.specs.declared.Verdict.the-variants.{Refused};
 ghost use Rattle.lines.specs.Says.{says};
@@ -126,22 +126,20 @@ impl Map {
         Verdict::Sound
     }
 
-    // The first broken rule from 40 on, of a map that breaks none of 41, 42 and 51 to 53.
-    fn first_of_quiet(self, lpc: u32, madt: u32, fadt: u32) -> Verdict
+    // The first broken rule from 40 on, of a map that breaks none of 41, 42 and 51 to 53. What 54 says is known.
+    fn first_of_quiet(self, lpc: u32, madt: u32, from54: Verdict) -> Verdict
         requires { ⌜ (self .eiocount ≤ 4) × (self .biocount ≤ 4) ⌝ }
-        ensures { λ r. ⌜ r ≡ firstRefusal (rule40 (says self) madt ∷ rule43 (says self) lpc ∷ rule45 (says self) lpc ∷ rule54 (says self) fadt ∷ []) ⌝ }
+        ensures { λ r. ⌜ r ≡ firstRefusal (rule40 (says self) madt ∷ rule43 (says self) lpc ∷ rule45 (says self) lpc ∷ from54 ∷ []) ⌝ }
     {
-        let from54 = self.rule_54(fadt);
         let from43 = or_else(self.lpc_rules(lpc), from54);
         or_else(self.rule_40(madt), from43)
     }
 
-    // The first broken rule from 40 on, by a search of all claims.
-    fn first_by_search(self, places: Places, madt: u32, fadt: u32) -> Verdict
+    // The first broken rule from 40 on, by a search of all claims. What 54 says is known.
+    fn first_by_search(self, places: Places, madt: u32, from54: Verdict) -> Verdict
         requires { ⌜ (self .eiocount ≤ 4) × (self .biocount ≤ 4) × (self .msicount ≤ 4) ⌝ }
-        ensures { λ r. ⌜ r ≡ firstRefusal (mapRules (says self) places madt fadt) ⌝ }
+        ensures { λ r. ⌜ ((fadt : ℕ) → from54 ≡ rule54 (says self) fadt → r ≡ firstRefusal (mapRules (says self) places madt fadt)) ⌝ }
     {
-        let from54 = self.rule_54(fadt);
         let from53 = or_else(clashes::at_both(53, self.first_clash(places, 53)), from54);
         let from52 = or_else(clashes::at_both(52, self.first_clash(places, 52)), from53);
         let from51 = or_else(clashes::at_both(51, self.first_clash(places, 51)), from52);
@@ -156,10 +154,11 @@ impl Map {
         requires { ⌜ (self .eiocount ≤ 4) × (self .biocount ≤ 4) × (self .msicount ≤ 4) ⌝ }
         ensures { λ r. ⌜ r ≡ firstRefusal (mapRules (says self) places madt fadt) ⌝ }
     {
+        let from54 = self.rule_54(fadt);
         if self.is_quiet() {
-            return self.first_of_quiet(places.lpc, madt, fadt);
+            return self.first_of_quiet(places.lpc, madt, from54);
         }
-        self.first_by_search(places, madt, fadt)
+        self.first_by_search(places, madt, from54)
     }
 
     // The first broken rule of a map from 38 on, at the place of the structure that is named, and with its partner's for 51 to 53. A

@@ -1,20 +1,22 @@
 -- `capture::reach_of` names the first segment that has the address. The place of each segment is the sum of what was passed.
-use mathlib.Core.Path.{_≡_, refl, sym, _∙_}
+use mathlib.Core.Path.{_≡_, refl, ap, sym, _∙_}
 use Prim.Native.Nat.{ℕ, _+_, _-_, _*_, _≤_, _<_}
 use native.Mathlib.Omega.{arith}
 use lib.ListN.{length}
+use Rattle.words.specs.Bytes.{partAt}
 use Rattle.words.specs.Lists.{first, numbersFrom}
 use Rattle.words.proofs.Searches.{search-start, Searching, search-hit, search-miss, search-over, next-number, no-number}
 use Rattle.capture.specs.Fields.{segmentCount, descriptorsEnd, segmentAddress, segmentLength, hasAddress, lengths, segmentPlace, segments}
 use Rattle.capture.specs.Reach.{reachIn, nowhere}
 use Rattle.capture.proofs.Laws.{count-small, between, reach-told, reached-short, reached-whole, place-next}
-use Rattle.capture.proofs.Head.{Standing, next-descriptor, descriptor-small, head-length, head-reads, head-over}
+use Rattle.capture.proofs.Head.{Standing, next-descriptor, descriptor-small, head-length, head-reads, head-over, same-count, same-place, same-end}
+use Rattle.capture.proofs.Runs.{same-segment-end, same-run}
 use borrow.Author.Needs.{needs}
 use Rattle.capture.proofs.reach_of.Statement.{statement}
 use Rattle.capture.proofs.reach_of.Tie as tie
 
 abbrev Inv-loop : tie.InvT-loop
-Inv-loop capture address head place₀ at₀ place at =
+Inv-loop capture address end head place₀ at₀ place at =
     Standing capture at
     (λ (i : ℕ).
     (place ≡ segmentPlace capture i)
@@ -22,11 +24,15 @@ Inv-loop capture address head place₀ at₀ place at =
     × Searching (hasAddress capture address) (reachIn capture address) nowhere (first (hasAddress capture address) (reachIn capture address) nowhere (segments capture)) (numbersFrom i (segmentCount capture - i)))
 
 abbrev μ-loop : tie.MeasureT-loop
-μ-loop capture address head place₀ at₀ place at = length head - at
+μ-loop capture address end head place₀ at₀ place at = length head - at
 
 -- the descriptors lie inside the capture
 whole : (c : tie.Else1 Inv-loop μ-loop) → let capture = c .before .before .before .args .capture .now in descriptorsEnd capture ≤ length capture
 whole c = omega (arith, c .before .descriptors-end .ensures)
+
+-- and the head is what is read of it
+cut : (c : tie.After-part Inv-loop μ-loop) → c .part .result .now ≡ partAt (c .before .before .before .before .args .capture .now) 0 (descriptorsEnd (c .before .before .before .before .args .capture .now))
+cut c = c .part .ensures ∙ ap (partAt _ 0) (c .before .before .descriptors-end .ensures)
 
 -- the segment at hand, by its number
 abbrev at-hand : tie.At-loop Inv-loop μ-loop → ℕ
@@ -52,7 +58,7 @@ reads : (c : tie.After-segment-at Inv-loop μ-loop) → let l = c .before .befor
     × (at-hand l < segmentCount capture)
 reads c =
     let l = c .before .before in
-    head-reads _ (whole (l .before .before .before)) (l .before .before .head-of .ensures) (at-hand l) (l .loop .inv .here) (omega arith) (c .segment-at .ensures)
+    head-reads _ (whole (l .before .before .before)) (cut (l .before .before)) (at-hand l) (l .loop .inv .here) (omega arith) (c .segment-at .ensures)
 
 -- whether it has the address
 asked : (c : tie.After-has-address Inv-loop μ-loop) → let l = c .before .before .before in
@@ -69,14 +75,14 @@ has c = between _ _ _ (sym (c .before .has-address .ensures) ∙ c .if2 .taken)
 descriptors-end-requires : tie.Need-descriptors-end-requires Inv-loop μ-loop
 descriptors-end-requires c κs = search needs
 
-cast-if1 : tie.Need-cast-if1 Inv-loop μ-loop
-cast-if1 c = search needs
+cast-end : tie.Need-cast-end Inv-loop μ-loop
+cast-end c = search needs
 
 returns : tie.Need-returns Inv-loop μ-loop
 returns c = sym (reached-short _ _ (omega (arith, c .before .descriptors-end .ensures)))
 
-head-of-requires : tie.Need-head-of-requires Inv-loop μ-loop
-head-of-requires c κs = search needs
+part-requires : tie.Need-part-requires Inv-loop μ-loop
+part-requires c κs = search needs
 
 descriptors-start-requires : tie.Need-descriptors-start-requires Inv-loop μ-loop
 descriptors-start-requires c κs = search needs
@@ -85,14 +91,17 @@ cast-at : tie.Need-cast-at Inv-loop μ-loop
 cast-at c = search needs
 
 loop-holds : tie.Need-loop-holds Inv-loop μ-loop
-unfolding segments segmentPlace lengths
+unfolding segments segmentPlace lengths descriptorsEnd
 loop-holds c =
-    let long = head-length _ (whole (c .before .before)) (c .before .head-of .ensures) in
+    let known = c .before .before .before .before in
+    let ends = c .before .before .before .descriptors-end .ensures in
+    let capture = known .before .args .capture .now in
+    let small = descriptor-small capture (segmentCount capture) (λ (k : ℕ). known .shared-slice-known .given k .fits) (omega arith) in
     record {
       i = 0;
       here = c .descriptors-start .ensures;
       counted = omega arith;
-      holds = (omega (arith, long), omega (arith, long, c .before .before .before .descriptors-end .ensures), search-start _ _ refl);
+      holds = (omega (arith, ends), omega (arith, ends, small), search-start _ _ refl);
     }
 
 add-loop : tie.Need-add-loop Inv-loop μ-loop
@@ -125,13 +134,15 @@ room-of-run-requires : tie.Need-room-of-run-requires Inv-loop μ-loop
 room-of-run-requires c κs =
     let t = c .before .before in
     let l = t .before .before .before .before in
-    let here = reads (t .before .before) in (
+    let here = reads (t .before .before) in
+    let all = whole (l .before .before .before) in
+    let is = cut (l .before .before) in (
       at-hand l,
-      here .2,
-      next-descriptor _ (at-hand l) (l .loop .inv .here),
-      omega (arith, has t, here .0, here .1),
+      omega (arith, here .2, same-count _ all is),
+      next-descriptor _ (at-hand l) (l .loop .inv .here) ∙ sym (same-place _ all is (at-hand l + 1)),
+      omega (arith, has t, here .0, here .1, same-segment-end _ all is (at-hand l) (here .2)),
       omega (arith, has t),
-      whole (l .before .before .before),
+      head-length _ all is ∙ sym (same-end _ all is),
     )
 
 returns-2 : tie.Need-returns-2 Inv-loop μ-loop
@@ -139,9 +150,13 @@ returns-2 c =
     let t = c .before .before .before in
     let l = t .before .before .before .before in
     let s = l .loop .inv in
-    reach-told _ _ (s .i) (s .holds .0) (reads (t .before .before) .0) (c .room-of-run .ensures (s .i) (next-descriptor _ (s .i) (s .here)))
-    ∙ search-hit (s .holds .2) (next-number _ _ (reads (t .before .before) .2)) (sym (asked (t .before)) ∙ t .if2 .taken)
-    ∙ sym (reached-whole _ _ (whole (l .before .before .before)))
+    let here = reads (t .before .before) in
+    let all = whole (l .before .before .before) in
+    let is = cut (l .before .before) in
+    let room = c .room-of-run .ensures (s .i) (next-descriptor _ (s .i) (s .here) ∙ sym (same-place _ all is (s .i + 1))) in
+    reach-told _ _ (s .i) (s .holds .0) (here .0) (rw (same-run _ all is (s .i) (here .2)) at room)
+    ∙ search-hit (s .holds .2) (next-number _ _ (here .2)) (sym (asked (t .before)) ∙ t .if2 .taken)
+    ∙ sym (reached-whole _ _ all)
 
 cast-place : tie.Need-cast-place Inv-loop μ-loop
 cast-place c = search needs
@@ -175,7 +190,7 @@ returns-3 c =
     let l = c .before in
     let s = l .loop .inv in
     let all = whole (l .before .before .before) in
-    let seen = head-over _ all (l .before .before .head-of .ensures) (s .i) (s .here) (s .counted) (omega arith) in
+    let seen = head-over _ all (cut (l .before .before)) (s .i) (s .here) (s .counted) (omega arith) in
     search-over (s .holds .2) (no-number _ _ (omega arith)) ∙ sym (reached-whole _ _ all)
 
 pub reach-of-spec : {M : Type 1} → statement M
@@ -185,9 +200,9 @@ reach-of-spec =
     Inv-loop
     μ-loop
     descriptors-end-requires
-    cast-if1
+    cast-end
     returns
-    head-of-requires
+    part-requires
     descriptors-start-requires
     cast-at
     loop-holds

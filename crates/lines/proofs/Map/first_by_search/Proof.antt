@@ -6,11 +6,8 @@ use Rattle.lines.specs.Rules.{rulesTo45, rulesFrom51, mapRules}
 use Rattle.lines.proofs.Map.first_by_search.Statement.{statement}
 use Rattle.lines.proofs.Map.first_by_search.Tie as tie
 
-rule-54-requires : tie.Need-rule-54-requires
-rule-54-requires c κs = search needs
-
 first-clash-requires : tie.Need-first-clash-requires
-first-clash-requires c κs = c .before .pre
+first-clash-requires c κs = c .pre
 
 at-both-requires : tie.Need-at-both-requires
 at-both-requires c κs = search needs
@@ -19,7 +16,7 @@ or-else-requires : tie.Need-or-else-requires
 or-else-requires c κs = search needs
 
 first-clash-requires-2 : tie.Need-first-clash-requires-2
-first-clash-requires-2 c κs = c .before .before .before .before .pre
+first-clash-requires-2 c κs = c .before .before .before .pre
 
 at-both-requires-2 : tie.Need-at-both-requires-2
 at-both-requires-2 c κs = search needs
@@ -28,7 +25,7 @@ or-else-requires-2 : tie.Need-or-else-requires-2
 or-else-requires-2 c κs = search needs
 
 first-clash-requires-3 : tie.Need-first-clash-requires-3
-first-clash-requires-3 c κs = c .before .before .before .before .before .before .before .pre
+first-clash-requires-3 c κs = c .before .before .before .before .before .before .pre
 
 at-both-requires-3 : tie.Need-at-both-requires-3
 at-both-requires-3 c κs = search needs
@@ -37,13 +34,13 @@ or-else-requires-3 : tie.Need-or-else-requires-3
 or-else-requires-3 c κs = search needs
 
 lpc-rules-requires : tie.Need-lpc-rules-requires
-lpc-rules-requires c κs = c .before .before .before .before .before .before .before .before .before .before .pre .1
+lpc-rules-requires c κs = c .before .before .before .before .before .before .before .before .before .pre .1
 
 or-else-requires-4 : tie.Need-or-else-requires-4
 or-else-requires-4 c κs = search needs
 
 first-lone-requires : tie.Need-first-lone-requires
-first-lone-requires c κs = c .before .before .before .before .before .before .before .before .before .before .before .before .pre
+first-lone-requires c κs = c .before .before .before .before .before .before .before .before .before .before .before .pre
 
 at-spot-requires : tie.Need-at-spot-requires
 at-spot-requires c κs = search needs
@@ -52,7 +49,7 @@ or-else-requires-5 : tie.Need-or-else-requires-5
 or-else-requires-5 c κs = search needs
 
 first-clash-requires-4 : tie.Need-first-clash-requires-4
-first-clash-requires-4 c κs = c .before .before .before .before .before .before .before .before .before .before .before .before .before .before .before .pre
+first-clash-requires-4 c κs = c .before .before .before .before .before .before .before .before .before .before .before .before .before .before .pre
 
 at-later-requires : tie.Need-at-later-requires
 at-later-requires c κs = search needs
@@ -61,14 +58,14 @@ or-else-requires-6 : tie.Need-or-else-requires-6
 or-else-requires-6 c κs = search needs
 
 rule-40-requires : tie.Need-rule-40-requires
-rule-40-requires c κs = c .before .before .before .before .before .before .before .before .before .before .before .before .before .before .before .before .before .before .pre .0
+rule-40-requires c κs = c .before .before .before .before .before .before .before .before .before .before .before .before .before .before .before .before .before .pre .0
 
 or-else-requires-7 : tie.Need-or-else-requires-7
 or-else-requires-7 c κs = search needs
 
 returns : tie.Need-returns
 unfolding firstRefusal mapRules rulesTo45 rulesFrom51
-returns c =
+returns c fadt last =
     rw (
       c .or-else7 .ensures,
       c .before .rule-40 .ensures,
@@ -89,7 +86,7 @@ returns c =
       c .before .before .before .before .before .before .before .before .before .before .before .before .before .before .before .before .or-else .ensures,
       c .before .before .before .before .before .before .before .before .before .before .before .before .before .before .before .before .before .at-both .ensures,
       c .before .before .before .before .before .before .before .before .before .before .before .before .before .before .before .before .before .before .first-clash .ensures,
-      c .before .before .before .before .before .before .before .before .before .before .before .before .before .before .before .before .before .before .before .rule-54 .ensures,
+      last,
       unless-again,
       unless-last,
     )
@@ -98,7 +95,6 @@ pub first-by-search-spec : {M : Type 1} → statement M
 first-by-search-spec =
     tie.close
     (tie.spec
-    rule-54-requires
     first-clash-requires
     at-both-requires
     or-else-requires

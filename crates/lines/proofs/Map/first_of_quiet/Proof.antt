@@ -5,9 +5,6 @@ use Rattle.words.proofs.Verdicts.{unless-again, unless-last}
 use Rattle.lines.proofs.Map.first_of_quiet.Statement.{statement}
 use Rattle.lines.proofs.Map.first_of_quiet.Tie as tie
 
-rule-54-requires : tie.Need-rule-54-requires
-rule-54-requires c κs = search needs
-
 lpc-rules-requires : tie.Need-lpc-rules-requires
 lpc-rules-requires c κs = search needs
 
@@ -28,7 +25,6 @@ returns c =
       c .before .rule-40 .ensures,
       c .before .before .or-else .ensures,
       c .before .before .before .lpc-rules .ensures,
-      c .before .before .before .before .rule-54 .ensures,
       unless-again,
       unless-last,
     )
@@ -37,7 +33,6 @@ pub first-of-quiet-spec : {M : Type 1} → statement M
 first-of-quiet-spec =
     tie.close
     (tie.spec
-    rule-54-requires
     lpc-rules-requires
     or-else-requires
     rule-40-requires

@@ -8,7 +8,7 @@ use Rattle.words.proofs.Turns.{Turn, element, next-turn, no-turn}
 use mathlib.Core.Bool.{not, _&&_}
 use Rattle.parts.specs.Claims.{bioClaim, msiClaim}
 use Rattle.lines.specs.Quiet.{biosQuiet, farFrom, noEioOf}
-use Rattle.lines.proofs.Stilling.{Stilling, still-next, still-over}
+use Rattle.lines.proofs.Stilling.{Stilling, still-next, still-last, still-over}
 use Rattle.lines.proofs.quiet.bios_quiet.Statement.{statement}
 use Rattle.lines.proofs.quiet.bios_quiet.Tie as tie
 
@@ -38,22 +38,28 @@ no-eio-of-requires c κs = search needs
 far-from-msis-requires : tie.Need-far-from-msis-requires Inv-loop μ-loop
 far-from-msis-requires c κs = search needs
 
-add-far-from-bios : tie.Need-add-far-from-bios Inv-loop μ-loop
-add-far-from-bios c = search needs
+add-i : tie.Need-add-i Inv-loop μ-loop
+add-i c = search needs
 
 far-from-bios-requires : tie.Need-far-from-bios-requires Inv-loop μ-loop
 far-from-bios-requires c κs = search needs
-
-add-i : tie.Need-add-i Inv-loop μ-loop
-add-i c = search needs
 
 loop-less : tie.Need-loop-less Inv-loop μ-loop
 loop-less c = search needs
 
 loop-again : tie.Need-loop-again Inv-loop μ-loop
 loop-again c =
+    let l = c .before .before .before .before .before .before .before .loop .inv in
+    (next-turn (l .0) (omega arith), rw (c .far-from-bios .ensures, c .before .before .far-from-msis .ensures, c .before .before .before .no-eio-of .ensures, c .before .before .before .before .bio-claim .ensures) (still-next (l .1) (element (l .0) _ (omega arith)) refl))
+
+loop-less-2 : tie.Need-loop-less-2 Inv-loop μ-loop
+loop-less-2 c = search needs
+
+loop-again-2 : tie.Need-loop-again-2 Inv-loop μ-loop
+loop-again-2 c =
     let l = c .before .before .before .before .before .before .loop .inv in
-    (next-turn (l .0) (omega arith), rw (c .far-from-bios .ensures, c .before .far-from-msis .ensures, c .before .before .no-eio-of .ensures, c .before .before .before .bio-claim .ensures) (still-next (l .1) (element (l .0) _ (omega arith))))
+    let t = next-turn (l .0) (omega arith) in
+    (t, rw (c .before .far-from-msis .ensures, c .before .before .no-eio-of .ensures, c .before .before .before .bio-claim .ensures) (still-last (l .1) (element (l .0) _ (omega arith)) (no-turn t (omega arith)) refl))
 
 returns : tie.Need-returns Inv-loop μ-loop
 returns c =
@@ -72,9 +78,10 @@ bios-quiet-spec =
     bio-claim-requires
     no-eio-of-requires
     far-from-msis-requires
-    add-far-from-bios
-    far-from-bios-requires
     add-i
+    far-from-bios-requires
     loop-less
     loop-again
+    loop-less-2
+    loop-again-2
     returns)

@@ -8,7 +8,7 @@ use Rattle.words.proofs.Turns.{Turn, element, next-turn, no-turn}
 use Rattle.clashes.specs.Apart.{apart}
 use Rattle.parts.specs.Claims.{eioClaim}
 use Rattle.lines.specs.Quiet.{eiosQuiet}
-use Rattle.lines.proofs.Stilling.{Stilling, still-next, still-over}
+use Rattle.lines.proofs.Stilling.{Stilling, still-next, still-last, still-over}
 use Rattle.lines.proofs.quiet.eios_quiet.Statement.{statement}
 use Rattle.lines.proofs.quiet.eios_quiet.Tie as tie
 
@@ -35,22 +35,28 @@ eio-claim-requires c κs = search needs
 are-apart-requires : tie.Need-are-apart-requires Inv-loop μ-loop
 are-apart-requires c κs = search needs
 
-add-far-from-eios : tie.Need-add-far-from-eios Inv-loop μ-loop
-add-far-from-eios c = search needs
+add-i : tie.Need-add-i Inv-loop μ-loop
+add-i c = search needs
 
 far-from-eios-requires : tie.Need-far-from-eios-requires Inv-loop μ-loop
 far-from-eios-requires c κs = search needs
-
-add-i : tie.Need-add-i Inv-loop μ-loop
-add-i c = search needs
 
 loop-less : tie.Need-loop-less Inv-loop μ-loop
 loop-less c = search needs
 
 loop-again : tie.Need-loop-again Inv-loop μ-loop
 loop-again c =
+    let l = c .before .before .before .before .before .before .loop .inv in
+    (next-turn (l .0) (omega arith), rw (c .far-from-eios .ensures, c .before .before .are-apart .ensures, c .before .before .before .eio-claim .ensures) (still-next (l .1) (element (l .0) _ (omega arith)) refl))
+
+loop-less-2 : tie.Need-loop-less-2 Inv-loop μ-loop
+loop-less-2 c = search needs
+
+loop-again-2 : tie.Need-loop-again-2 Inv-loop μ-loop
+loop-again-2 c =
     let l = c .before .before .before .before .before .loop .inv in
-    (next-turn (l .0) (omega arith), rw (c .far-from-eios .ensures, c .before .are-apart .ensures, c .before .before .eio-claim .ensures) (still-next (l .1) (element (l .0) _ (omega arith))))
+    let t = next-turn (l .0) (omega arith) in
+    (t, rw (c .before .are-apart .ensures, c .before .before .eio-claim .ensures) (still-last (l .1) (element (l .0) _ (omega arith)) (no-turn t (omega arith)) refl))
 
 returns : tie.Need-returns Inv-loop μ-loop
 returns c =
@@ -68,9 +74,10 @@ eios-quiet-spec =
     array-copy-out-e
     eio-claim-requires
     are-apart-requires
-    add-far-from-eios
-    far-from-eios-requires
     add-i
+    far-from-eios-requires
     loop-less
     loop-again
+    loop-less-2
+    loop-again-2
     returns)
