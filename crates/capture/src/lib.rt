@@ -90,18 +90,17 @@ fn header_size(version: u16) -> u8
 }
 
 // The place of the first descriptor.
-fn descriptors_start(capture: &[u8]) -> u32
+fn descriptors_start(capture: &[u8]) -> usize
     ensures { λ r. ⌜ r ≡ descriptor (now (capture .entry)) 0 ⌝ }
 {
-    header_size(version_of(capture)) as u32
+    header_size(version_of(capture)) as usize
 }
 
 // The place behind the last descriptor.
-fn descriptors_end(capture: &[u8]) -> u32
+fn descriptors_end(capture: &[u8]) -> usize
     ensures { λ r. ⌜ r ≡ descriptorsEnd (now (capture .entry)) ⌝ }
 {
-    (header_size(version_of(capture)) as u32)
-        + (DESCRIPTOR_SIZE as u32) * (segment_count(capture) as u32)
+    descriptors_start(capture) + DESCRIPTOR_SIZE * (segment_count(capture) as usize)
 }
 
 // Header and descriptors, or as much of them as there is. Loops over the descriptors read them here: that each lies inside is then
@@ -109,7 +108,7 @@ fn descriptors_end(capture: &[u8]) -> u32
 fn head_of(capture: &[u8]) -> &[u8]
     ensures { λ r. let c = now (capture .entry) in ⌜ now r ≡ partAt c 0 (descriptorsEnd c) ⌝ }
 {
-    words::part(capture, 0, descriptors_end(capture) as usize)
+    words::part(capture, 0, descriptors_end(capture))
 }
 
 // The segment whose descriptor stands at a place of the head.
@@ -130,7 +129,7 @@ fn lengths_of(capture: &[u8]) -> u64
 {
     let head = head_of(capture);
     let mut sum: u64 = 0;
-    let mut at = descriptors_start(capture) as usize;
+    let mut at = descriptors_start(capture);
     while at + DESCRIPTOR_SIZE <= head.len() {
         sum += segment_at(head, at).length as u64;
         at += DESCRIPTOR_SIZE;
@@ -223,7 +222,7 @@ fn check_segments(capture: &[u8]) -> Verdict
         address: 0,
         length: 0,
     };
-    let mut at = descriptors_start(capture) as usize;
+    let mut at = descriptors_start(capture);
     while at + DESCRIPTOR_SIZE <= head.len() {
         let segment = segment_at(head, at);
         if segment_broken(segment, before) {
@@ -312,24 +311,24 @@ fn room_of_run(head: &[u8], address: u64, next: usize, room: u64) -> u64
 pub fn reach_of(capture: &[u8], address: u64) -> Reach
     ensures { λ r. ⌜ r ≡ reached (now (capture .entry)) address ⌝ }
 {
-    let end = descriptors_end(capture) as usize;
+    let end = descriptors_end(capture);
     if capture.len() < end {
         return Reach { place: 0, room: 0 };
     }
     let head = words::part(capture, 0, end);
-    let mut place = end as u64;
-    let mut at = descriptors_start(capture) as usize;
+    let mut place = end;
+    let mut at = descriptors_start(capture);
     while at + DESCRIPTOR_SIZE <= head.len() {
         let segment = segment_at(head, at);
         at += DESCRIPTOR_SIZE;
         if has_address(segment, address) {
             let ahead = address - segment.address;
             return Reach {
-                place: (place + ahead) as usize,
+                place: place + ahead as usize,
                 room: room_of_run(head, address, at, (segment.length as u64) - ahead),
             };
         }
-        place += segment.length as u64;
+        place += segment.length as usize;
     }
     Reach { place: 0, room: 0 }
 }

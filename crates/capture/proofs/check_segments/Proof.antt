@@ -52,9 +52,6 @@ head-of-requires c κs = search needs
 descriptors-start-requires : tie.Need-descriptors-start-requires Inv-loop μ-loop
 descriptors-start-requires c κs = search needs
 
-cast-at : tie.Need-cast-at Inv-loop μ-loop
-cast-at c = search needs
-
 loop-holds : tie.Need-loop-holds Inv-loop μ-loop
 unfolding endBefore segments
 loop-holds c = record { i = 0; here = c .descriptors-start .ensures; counted = omega arith; holds = (refl, search-start _ _ refl) }
@@ -125,7 +122,6 @@ check-segments-spec =
     μ-loop
     head-of-requires
     descriptors-start-requires
-    cast-at
     loop-holds
     add-loop
     segment-at-requires

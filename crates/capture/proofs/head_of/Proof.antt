@@ -8,9 +8,6 @@ use Rattle.capture.proofs.head_of.Tie as tie
 descriptors-end-requires : tie.Need-descriptors-end-requires
 descriptors-end-requires c κs = search needs
 
-cast-part : tie.Need-cast-part
-cast-part c = search needs
-
 part-requires : tie.Need-part-requires
 part-requires c κs = search needs
 
@@ -18,4 +15,4 @@ returns : tie.Need-returns
 returns c = c .part .ensures ∙ ap (partAt _ 0) (c .before .descriptors-end .ensures)
 
 pub head-of-spec : {M : Type 1} → statement M
-head-of-spec = tie.close (tie.spec descriptors-end-requires cast-part part-requires returns)
+head-of-spec = tie.close (tie.spec descriptors-end-requires part-requires returns)

@@ -75,9 +75,6 @@ has c = between _ _ _ (sym (c .before .has-address .ensures) ∙ c .if2 .taken)
 descriptors-end-requires : tie.Need-descriptors-end-requires Inv-loop μ-loop
 descriptors-end-requires c κs = search needs
 
-cast-end : tie.Need-cast-end Inv-loop μ-loop
-cast-end c = search needs
-
 returns : tie.Need-returns Inv-loop μ-loop
 returns c = sym (reached-short _ _ (omega (arith, c .before .descriptors-end .ensures)))
 
@@ -86,9 +83,6 @@ part-requires c κs = search needs
 
 descriptors-start-requires : tie.Need-descriptors-start-requires Inv-loop μ-loop
 descriptors-start-requires c κs = search needs
-
-cast-at : tie.Need-cast-at Inv-loop μ-loop
-cast-at c = search needs
 
 loop-holds : tie.Need-loop-holds Inv-loop μ-loop
 unfolding segments segmentPlace lengths descriptorsEnd
@@ -200,11 +194,9 @@ reach-of-spec =
     Inv-loop
     μ-loop
     descriptors-end-requires
-    cast-end
     returns
     part-requires
     descriptors-start-requires
-    cast-at
     loop-holds
     add-loop
     segment-at-requires

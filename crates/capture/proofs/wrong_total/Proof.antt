@@ -12,9 +12,6 @@ use Rattle.capture.proofs.wrong_total.Tie as tie
 descriptors-end-requires : tie.Need-descriptors-end-requires
 descriptors-end-requires c κs = search needs
 
-cast-end : tie.Need-cast-end
-cast-end c = search needs
-
 returns : tie.Need-returns
 returns c = sym (short-total _ (omega arith))
 
@@ -43,7 +40,6 @@ wrong-total-spec =
     tie.close
     (tie.spec
     descriptors-end-requires
-    cast-end
     returns
     u32-at-requires
     cast-total
