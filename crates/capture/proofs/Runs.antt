@@ -7,13 +7,13 @@ use Prim.Native.Nat.{ℕ, zero, suc, _+_, _-_, _≤_, _<_}
 use native.Mathlib.Numerals.{add-one}
 use native.Mathlib.Omega.{arith}
 use lib.Dec.{eqb, ltb}
+use lib.ListN.{length}
 use borrow.Author.Tests.{ltb-true, ltb-false, lt-ltb, eqb-true, eq-eqb, le-leb}
+use Rattle.words.specs.Bytes.{partAt}
 use Rattle.words.specs.Choice.{if}
 use Rattle.words.specs.Lists.{first}
 use Rattle.words.proofs.Searches.{next-number}
 use Rattle.words.proofs.Tests.{fails, both-left, both-right}
-use lib.ListN.{length}
-use Rattle.words.specs.Bytes.{partAt}
 use Rattle.capture.specs.Fields.{segmentCount, descriptor, descriptorsEnd, segmentAddress, segmentLength, segmentEnd, hasAddress, lengths}
 use Rattle.capture.specs.Presence.{goesOn, runEnd, placeIn}
 use Rattle.capture.proofs.Laws.{lengths-next, lengths-within, place-next}
