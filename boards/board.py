@@ -118,8 +118,9 @@ def bio(hardware, base):
     return structure(22, le(0xE0010000000, 8) + le(0x1000, 2) + le(hardware, 2) + le(base, 2))
 
 
-def lpc(cascade, base=0xE0010002000):
-    return structure(23, le(base, 8) + le(0x1000, 2) + le(cascade, 2))
+def lpc(cascade, node=0, base=0xE0010002000):
+    """An LPC behind the bridge of a node, which stands in bits 44 to 47 of its base."""
+    return structure(23, le(node << 44 | base, 8) + le(0x1000, 2) + le(cascade, 2))
 
 
 # Board A.

@@ -676,12 +676,69 @@ route("1 pin: 65", paired((0, 1), lpc=lpc(0), sci=64), 65, "kind 2 0 0")
 route("as the reading: 45", paired((0, 19)), 72, refused(45, 287))
 read_bytes("32 pins, for C", SHORT, "read 2 0 0 0 0 0 0 0 0 1 0 0 0 1 0 0 0", 2048)
 
+# W-208: the LPC's bridge is the BIO whose hardware ID stands in bits 44 to 47 of the LPC's base.
+BRIDGES = [bio(0, 64), bio(5, 128)]  # at 226 and 243; the LPC is at 260
+
+
+def behind(own, bridges=BRIDGES, sci=26):
+    """A board with EIO of node 0 and of node 5, bridges, and an LPC of its own."""
+    return made(C, L, eio(3, 0), eio(4, 5), *bridges, own, sci=sci)
+
+
+ON_5 = behind(lpc(19, base=0x5E0010002000))
+read("the LPC behind node 5", ON_5, "read 1 0 0")
+for number in range(16):
+    route(f"the LPC behind node 5: {number}", ON_5, number, "kind 0 4 19")
+for number, answer in ((16, "kind 0 2 0"), (83, "kind 0 3 19"), (147, "kind 0 4 19")):
+    route(f"the LPC behind node 5: {number}", ON_5, number, answer)
+trace("the LPC behind node 5: its pin", ON_5, 4, 19, "kind 3 0 147")
+trace("the LPC behind node 5: the pin of node 0", ON_5, 3, 19, "kind 2 0 83")
+for base, vector, pin, other, told in ((0xFFFF0E0010002000, 3, 83, 4, 147), (0xFFFF5E0010002000, 4, 147, 3, 83), (0x050010002000, 3, 83, 4, 147),
+                                       (0x500000000000, 4, 147, 3, 83), (0x5FFFFFFFFFFF, 4, 147, 3, 83), (0x50E0010002000, 3, 83, 4, 147)):
+    for order, bridges in (("rising", BRIDGES), ("falling", BRIDGES[::-1])):
+        data = behind(lpc(19, base=base), bridges)
+        route(f"LPC base {base:#x}, bridges {order}: 3", data, 3, f"kind 0 {vector} 19")
+        trace(f"LPC base {base:#x}, bridges {order}: its pin", data, vector, 19, f"kind 3 0 {pin}")
+        trace(f"LPC base {base:#x}, bridges {order}: the other", data, other, 19, f"kind 2 0 {told}")
+for base in (0x4FFFFFFFFFFF, 0x600000000000, 0x3E0010002000, 0xFE0010002000, 0xFFFF1E0010002000, 0x5000000000000 | 0x450010002000):
+    read(f"43: LPC base {base:#x}, bridges 0 and 5", behind(lpc(19, base=base)), refused(43, 260))
+for node in range(1, 16):
+    read(f"43: board A with its LPC on node {node}", put(LPC, lpc(19, node)), refused(43, 279))
+for hardware, node in ((5, 0), (16, 0), (63, 15), (21, 5), (4, 5), (6, 5), (14, 15)):
+    read(f"43: hardware ID {hardware}, LPC on node {node}", made(C, L, eio(3, hardware), bio(hardware, 64), lpc(19, node)), refused(43, 230))
+for node in range(16):
+    route(f"hardware ID {node}, LPC on node {node}", made(C, L, eio(3, node), bio(node, 64), lpc(19, node)), 7, "kind 0 3 19")
+read("43, and the LPC before all bridges", made(C, L, lpc(19, 3), eio(3, 0), eio(4, 5), *BRIDGES), refused(43, 200))
+read("the LPC before all bridges", made(C, L, lpc(19, 5), eio(3, 0), eio(4, 5), *BRIDGES), "read 1 0 0")
+read("77 before 43", put(LPC, lpc(64, 3)), refused(77, 279))
+read("40 before 43", made(C, eio(3, 0), bio(0, 64), lpc(19, 3)), refused(40, 118))
+read("41 before 43", made(C, L, eio(3, 0), eio(4, 0), bio(0, 64), lpc(19, 3)), refused(41, 213))
+read("42 before 43", made(C, L, eio(3, 0), bio(9, 64), lpc(19, 3)), refused(42, 213))
+read("43 before 45", paired((0, 10), lpc=lpc(19, 5)), refused(43, 287))
+read("43 before 51", board(STRUCTURES_OF_A[:LPC] + [lpc(19, 3), bio(0, 64)]), refused(43, 279))
+read("43 before 52", board(STRUCTURES_OF_A[:MSI] + [msi(63, 193), bio(0, 64), lpc(19, 3)]), refused(43, 279))
+read("43 before 53", board(STRUCTURES_OF_A[:EIO] + [eio(2, 0), msi(64, 192), bio(0, 64), lpc(19, 3)]), refused(43, 279))
+read("43 before 54", put(LPC, lpc(19, 3), 45), refused(43, 279))
+read("two bridges of the LPC's node are 52", behind(lpc(19, 5), [bio(5, 64), bio(5, 128)]), refused(52, 243, 226))
+read("two bridges of node 5, the LPC's on 0, are 52", behind(lpc(19), [bio(5, 64), bio(0, 128), bio(5, 192)]), refused(52, 260, 226))
+for sci in (0, 3, 15):
+    read(f"54: SCI {sci}, the LPC behind node 5", behind(lpc(19, 5), sci=sci), "read 1 0 0")
+FIFTH = [eio(4, 5), bio(5, 128)]
+read("45: the LPC behind node 5, node 0 is short", paired((0, 10), structures=FIFTH, lpc=lpc(19, 5), sci=128), TWO)
+read("45: the LPC behind node 5, it is short", paired((5, 19), structures=FIFTH, lpc=lpc(19, 5)), refused(45, 287))
+read("45: the LPC behind node 5, it has the pin", paired((5, 20), structures=FIFTH, lpc=lpc(19, 5)), TWO)
+trace("the other bridge's pin is gone", paired((0, 10), structures=FIFTH, lpc=lpc(19, 5), sci=128), 3, 19, "kind 0 0 0")
+trace("the LPC's pin behind a short bridge", paired((0, 10), structures=FIFTH, lpc=lpc(19, 5), sci=128), 4, 19, "kind 3 0 147")
+read_bytes("43, for C", put(LPC, lpc(19, 5)), refused(43, 279), 16)
+route("43, route", put(LPC, lpc(19, 5)), 72, refused(43, 279))
+trace("43, trace", put(LPC, lpc(19, 5)), 3, 8, refused(43, 279))
+
 # Newer MADT revisions: the ordinary reading takes any of 1 or more, and then asks the same rules; the strict one takes 1 alone.
 
 
-def revised(revision, structures=STRUCTURES_OF_A, flags=0):
+def revised(revision, structures=STRUCTURES_OF_A, flags=0, sci=75):
     """Board A with a MADT of another revision."""
-    return one(lay([madt(structures, revision, flags), F]))
+    return one(lay([madt(structures, revision, flags), fadt(sci)]))
 
 
 NOT_TAKEN = refused(29, 118)
@@ -712,6 +769,9 @@ for revision, ordinary in ((1, refused(60, 0)), (5, refused(60, 0)), (0, NOT_TAK
     read(f"revision {revision}, a list of 3, strict", revised(revision), refused(60, 0) if revision == 1 else NOT_TAKEN, 3, STRICT)
 both(route, "revision 5: 72", revised(5), 72, ordinary="kind 0 3 8", strict=NOT_TAKEN)
 both(route, "revision 255: 3", revised(255), 3, ordinary="kind 0 3 19", strict=NOT_TAKEN)
+both(route, "revision 5, the LPC behind node 5: 3", revised(5, [C, L, eio(3, 0), eio(4, 5), *BRIDGES, lpc(19, 5)], sci=26), 3,
+     ordinary="kind 0 4 19", strict=NOT_TAKEN)
+both(read, "revision 5, the LPC on node 3", revised(5, STRUCTURES_OF_A[:LPC] + [lpc(19, 3)]), ordinary=refused(43, 279), strict=NOT_TAKEN)
 both(route, "revision 5: 50", revised(5), 50, ordinary="kind 2 0 0", strict=NOT_TAKEN)
 both(route, "revision 0: 72", revised(0), 72, ordinary=NOT_TAKEN, strict=NOT_TAKEN)
 both(route, "revision 1: 72", revised(1), 72, ordinary="kind 0 3 8", strict="kind 0 3 8")
@@ -746,7 +806,7 @@ for vector, number, answer in ((3, 19, "kind 3 0 83"), (3, 64, "kind 4 0 64"), (
                                (2, 42, "kind 0 0 0")):
     trace(f"A: {vector} {number}", A, vector, number, answer)
 TWO_BRIDGES = made(C, L, eio(3, 0), eio(4, 5), bio(5, 128), bio(0, 64), lpc(19))
-route("the LPC's bridge has the smallest hardware ID", TWO_BRIDGES, 3, "kind 0 3 19")
+route("the LPC's bridge stands behind the other", TWO_BRIDGES, 3, "kind 0 3 19")
 trace("the LPC's pin", TWO_BRIDGES, 3, 19, "kind 3 0 83")
 trace("the other bridge's input 19", TWO_BRIDGES, 4, 19, "kind 2 0 147")
 route("the other bridge's number of it", TWO_BRIDGES, 147, "kind 0 4 19")

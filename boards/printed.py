@@ -114,10 +114,10 @@ eio 0 3 1
 bio 0 64 127
 sci 127 3 63
 """),
-    # kinds in the order of the document, each in table order; the LPC's bridge is the one of node 2, the smallest, and the SCI
-    # is an LPC line: input 63 of that bridge, on the EIO of node 2
+    # kinds in the order of the document, each in table order; the LPC's bridge is the one of node 5, neither the first nor the smallest,
+    # and the SCI is an LPC line: input 63 of that bridge, on the EIO of node 5
     "four-bridges": (board([
-        lpc(63), bio(7, 256), msi(200, 10), eio(9, 5), core(7, 70), bio(2, 128), eio(6, 7, 1 << 63), lio(2, 0, 0x80000001, 0),
+        lpc(63, 5), bio(7, 256), msi(200, 10), eio(9, 5), core(7, 70), bio(2, 128), eio(6, 7, 1 << 63), lio(2, 0, 0x80000001, 0),
         core(3, 30, 0), msi(64, 1), bio(5, 64), eio(3, 3, 3), core(4294967295, 4294967294), eio(4, 2, 4), bio(3, 65472),
         msi(255, 1), msi(100, 28),
     ], 3), """\
@@ -137,9 +137,25 @@ msi 200 209
 msi 64 64
 msi 255 255
 msi 100 127
-lpc 2 63
-sci 3 4 63
+lpc 5 63
+sci 3 9 63
 """),
+    # the two-bridge server of W-208: the LPC is behind the bridge of node 5
+    "lpc-behind-node-5": (board(STRUCTURES_OF_A[:7] + [eio(4, 5), bio(5, 128), lpc(19, base=0x5E0010002000)]), """\
+map 1
+core 0 0
+core 1 1
+lio 2 16777215
+eio 0 3 1
+eio 5 4 1
+bio 0 64 127
+bio 5 128 191
+msi 64 255
+lpc 5 19
+sci 75 3 11
+"""),
+    # no bridge of node 3, though there are two
+    "refused-43-at-309": (board(STRUCTURES_OF_A[:7] + [eio(4, 5), bio(5, 128), lpc(19, 3)]), "refused 43 at 309\n"),
     # 20 digits
     "every-node": (board([core(0, 0), LIO, eio(3, 0, EVERY_NODE), MSI, BIO, LPC]), """\
 map 1

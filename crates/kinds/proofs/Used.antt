@@ -2,7 +2,7 @@
 use mathlib.Core.Path.{_≡_, refl}
 use mathlib.Core.Bool.{Bool, true, false}
 use Rattle.words.specs.Choice.{if}
-use Rattle.kinds.specs.Used.{usedHalf, saidLio, saidLpc, noHalf}
+use Rattle.kinds.specs.Used.{usedHalf, saidLio, saidLpc, noHalf, noLpc}
 use Rattle.kinds.specs.declared.Lio.{Lio}
 use Rattle.kinds.specs.declared.Lpc.{Lpc}
 
@@ -11,7 +11,7 @@ pub lpc-present : (lpc : Lpc) → saidLpc lpc .present ≡ lpc .present
 unfolding saidLpc if
 lpc-present lpc = go (lpc .present) refl
   where
-    go : (b : Bool) → lpc .present ≡ b → if b lpc (record { present = false; cascade = 0 }) .present ≡ b
+    go : (b : Bool) → lpc .present ≡ b → if b lpc noLpc .present ≡ b
     go true e = e
     go false e = refl
 

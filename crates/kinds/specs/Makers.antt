@@ -1,7 +1,7 @@
 -- Document 01, "MADT structures": the used fields of each kind, read from the structure's own bytes by the offsets of the
 -- table. "Base and address fields are 64 bits; UID, IDs, masks, flags of CORE, start and count 32; sizes, hardware ID and GSI
 -- base 16"; the LPC's cascade is 16 bits, every other cascade and the node of an EIO a byte.
-use Prim.Native.Nat.{ℕ, _%_}
+use Prim.Native.Nat.{ℕ, _/_, _%_, _^_}
 use mathlib.Core.Bool.{Bool, true}
 use mathlib.Core.List.{List}
 use lib.Dec.{eqb, ltb}
@@ -48,9 +48,9 @@ bioOf s = record { node = numberAt 2 s 13; base = numberAt 2 s 15; pins = 64 }
 abbrev pub withPins : ℕ → Bio → Bio
 withPins pins bio = record { node = bio .node; base = bio .base; pins = pins }
 
--- LPC: "base 3, size 11, cascade 13 (16 bits)"
+-- LPC: "base 3, size 11, cascade 13 (16 bits)"; W-208 of document 02: "the node in address bits 44 to 47" of its base
 unfoldable pub lpcOf : List ℕ → Lpc
-lpcOf s = record { present = true; cascade = numberAt 2 s 13 }
+lpcOf s = record { present = true; node = numberAt 8 s 3 / 2 ^ 44 % 2 ^ 4; cascade = numberAt 2 s 13 }
 
 -- "flags 11 (bit 0 enabled, the rest 0)": 35 where the rest is not 0
 abbrev pub reservedFlags : Core → Bool

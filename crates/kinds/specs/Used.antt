@@ -28,7 +28,7 @@ abbrev pub noMsi : Msi
 noMsi = record { start = 0; count = 0 }
 
 abbrev pub noLpc : Lpc
-noLpc = record { present = false; cascade = 0 }
+noLpc = record { present = false; node = 0; cascade = 0 }
 
 -- "a half with mask 0 is unused and its byte is free"
 unfoldable pub usedHalf : Half → Half

@@ -40,9 +40,10 @@ pub struct Msi {
     pub count: u32,
 }
 
-// The sixteen lines of the LPC: the input of its bridge that they share.
+// The sixteen lines of the LPC: the node of its bridge, and the input of the bridge that they share.
 pub struct Lpc {
     pub present: bool,
+    pub node: u16,
     pub cascade: u16,
 }
 
@@ -94,6 +95,7 @@ pub fn said_lpc(lpc: Lpc) -> Lpc
     }
     Lpc {
         present: false,
+        node: 0,
         cascade: 0,
     }
 }

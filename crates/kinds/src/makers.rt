@@ -156,11 +156,18 @@ impl Lpc {
 
     pub const LENGTH: u8 = 15;
 
+    // The node stands in an address from bit 44 on, and is one of 16.
+    pub const NODE_FROM: u64 = 44;
+
+    pub const NODES: u64 = 16;
+
     pub fn from_bytes(structure: &[u8]) -> Lpc
         ensures { λ r. ⌜ r ≡ lpcOf (now (structure .entry)) ⌝ }
     {
+        let base = words::u64_at(structure, 3);
         Lpc {
             present: true,
+            node: ((base >> Lpc::NODE_FROM) % Lpc::NODES) as u16,
             cascade: words::u16_at(structure, 13),
         }
     }

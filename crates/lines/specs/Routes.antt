@@ -1,17 +1,14 @@
 -- Document 01, "Where a line arrives", line by line, on what a map says.
 use Prim.Native.Nat.{ℕ, _-_}
-use mathlib.Core.List.{List, [], _∷_}
+use mathlib.Core.List.{List}
 use lib.Dec.{eqb, ltb}
 use Rattle.words.specs.Choice.{if}
 use Rattle.words.specs.Lists.{first}
 use Rattle.kinds.specs.declared.Lio.{Lio}
 use Rattle.kinds.specs.declared.Eio.{Eio}
 use Rattle.kinds.specs.declared.Bio.{Bio}
-use Rattle.clashes.specs.Folds.{fold}
-use Rattle.parts.specs.Inputs.{hasBit, lesser, owns}
+use Rattle.parts.specs.Inputs.{hasBit, owns}
 use Rattle.lines.specs.Says.{Said}
-use Rattle.lines.specs.declared.Bridge.{Bridge}
-use Rattle.lines.specs.declared.Bridge.the-variants.{Is, None}
 use Rattle.lines.specs.declared.Owner.{Owner}
 use Rattle.lines.specs.declared.Owner.the-variants.{LpcInput, LioInput, BioInput, Nobody}
 use Rattle.lines.specs.declared.Route.{Route}
@@ -29,16 +26,6 @@ lioArrival lio i =
 unfoldable pub through : List Eio → ℕ → ℕ → Route
 through eios node v = first (λ e. eqb (e .node) node) (λ e. Arrives (e .cascade) v) NoOwner eios
 
--- "Its BIO is the one with the smallest hardware ID, the earliest of equals."
-unfoldable pub bridge : List Bio → Bridge
-bridge [] = None
-bridge (b ∷ bs) = Is (fold lesser b bs)
-
--- "An LPC input arrives where the BIO input of the LPC's cascade does."
-unfoldable pub pinArrival : List Eio → Bridge → ℕ → Route
-pinArrival eios (Is b) v = through eios (b .node) v
-pinArrival eios None v = NoOwner
-
 -- the input of the first BIO that owns a number
 unfoldable pub bioOwner : List Bio → ℕ → Owner
 bioOwner bios number = first (owns number) (λ b. BioInput (b .node) (number - b .base)) Nobody bios
@@ -51,9 +38,10 @@ owner said number =
     (if (ltb number 48) (LioInput (number - 16))
     (bioOwner (said .bios) number))
 
--- where a number with this owner arrives
+-- where a number with this owner arrives; "An LPC input arrives where the BIO input of the LPC's cascade does", and its BIO has the
+-- hardware ID that the LPC has as its node
 unfoldable pub arrivalOf : Said → Owner → Route
-arrivalOf said LpcInput = pinArrival (said .eios) (bridge (said .bios)) (said .lpc .cascade)
+arrivalOf said LpcInput = through (said .eios) (said .lpc .node) (said .lpc .cascade)
 arrivalOf said (LioInput i) = lioArrival (said .lio) i
 arrivalOf said (BioInput node v) = through (said .eios) node v
 arrivalOf said Nobody = NoOwner

@@ -5,7 +5,7 @@ use mathlib.Core.Bool.{Bool, true, false, not, _&&_, _||_}
 use mathlib.Core.List.{List, [], _∷_, _++_}
 use lib.Dec.{eqb, ltb, leb}
 use lib.ListN.{length}
-use Rattle.words.specs.Lists.{every}
+use Rattle.words.specs.Lists.{every, first}
 use Rattle.words.specs.Refusals.{rule, firstRefusal, isSound}
 use Rattle.words.specs.declared.Verdict.{Verdict}
 use Rattle.kinds.specs.Ranges.{bitInBoth, lioField, eioField, bioField, pinsFit, msiField, lpcField}
@@ -16,13 +16,12 @@ use Rattle.kinds.specs.declared.Lpc.{Lpc}
 use Rattle.clashes.specs.Search.{firstClash, firstLone}
 use Rattle.clashes.specs.Told.{atLater, atBoth, spotted}
 use Rattle.clashes.specs.declared.Claim.{Claim}
+use Rattle.parts.specs.Inputs.{isBridge}
 use Rattle.lines.specs.Says.{Said, says}
 use Rattle.lines.specs.Claims.{claims}
-use Rattle.lines.specs.Routes.{bridge, arrival}
+use Rattle.lines.specs.Routes.{arrival}
 use Rattle.lines.specs.declared.Map.{Map}
 use Rattle.lines.specs.declared.Places.{Places}
-use Rattle.lines.specs.declared.Bridge.{Bridge}
-use Rattle.lines.specs.declared.Bridge.the-variants.{Is, None as NoBio}
 use Rattle.lines.specs.declared.Route.{Route}
 use Rattle.lines.specs.declared.Route.the-variants.{Arrives, Unwired, NoOwner, Refused as NoRoute}
 
@@ -62,23 +61,21 @@ rule41 all = atLater 41 (firstClash 41 all)
 abbrev pub rule42 : List Claim → Verdict
 rule42 all = spotted 42 (firstLone all)
 
--- there is an LPC, and it has no bridge
-unfoldable pub noBridge : Bool → Bridge → Bool
-noBridge present (Is b) = false
-noBridge present NoBio = present
+-- there is an LPC, and no BIO is its bridge
+unfoldable pub noBridge : Lpc → List Bio → Bool
+noBridge lpc bios = lpc .present && every (λ b. not (isBridge lpc b)) bios
 
--- 43: LPC without a BIO
+-- 43: "no such BIO" (W-208 of document 02)
 abbrev pub rule43 : Said → ℕ → Verdict
-rule43 said place = rule (noBridge (said .lpc .present) (bridge (said .bios))) 43 place
+rule43 said place = rule (noBridge (said .lpc) (said .bios)) 43 place
 
--- there is an LPC, and its bridge lacks the input of its cascade
-unfoldable pub noInput : Lpc → Bridge → Bool
-noInput lpc (Is b) = lpc .present && leb (b .pins) (lpc .cascade)
-noInput lpc NoBio = false
+-- there is an LPC, and its bridge, "the earliest of equals", lacks the input of its cascade
+unfoldable pub noInput : Lpc → List Bio → Bool
+noInput lpc bios = lpc .present && first (isBridge lpc) (λ b. leb (b .pins) (lpc .cascade)) false bios
 
--- 45: "at the LPC for a cascade at or past its bridge's count"
+-- 45: "at the LPC for a cascade at or past its bridge's count" (W-212)
 abbrev pub rule45 : Said → ℕ → Verdict
-rule45 said place = rule (noInput (said .lpc) (bridge (said .bios))) 45 place
+rule45 said place = rule (noInput (said .lpc) (said .bios)) 45 place
 
 -- the rule of 51, 52 or 53, at "the first structure that clashes with an earlier"
 abbrev pub ruleClash : ℕ → List Claim → Verdict

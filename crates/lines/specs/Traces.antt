@@ -1,17 +1,15 @@
 -- What arrives at a core vector with a number: document 01, "Where a line arrives", read from the far end.
 use Prim.Native.Nat.{ℕ, _+_}
-use mathlib.Core.Bool.{Bool, false, _&&_, _||_}
+use mathlib.Core.Bool.{Bool, _&&_, _||_}
 use mathlib.Core.List.{List}
 use lib.Dec.{eqb}
 use Rattle.words.specs.Choice.{if}
 use Rattle.words.specs.Lists.{first}
 use Rattle.kinds.specs.declared.Bio.{Bio}
 use Rattle.kinds.specs.declared.Msi.{Msi}
-use Rattle.parts.specs.Inputs.{leads, hasSlot, hasPin}
+use Rattle.kinds.specs.declared.Lpc.{Lpc}
+use Rattle.parts.specs.Inputs.{leads, hasSlot, hasPin, isBridge}
 use Rattle.lines.specs.Says.{Said}
-use Rattle.lines.specs.Routes.{bridge}
-use Rattle.lines.specs.declared.Bridge.{Bridge}
-use Rattle.lines.specs.declared.Bridge.the-variants.{Is, None}
 use Rattle.lines.specs.declared.Trace.{Trace}
 use Rattle.lines.specs.declared.Trace.the-variants.{Nothing, LioInput, BioInput, LpcCascade, MsiSlot}
 
@@ -19,22 +17,17 @@ use Rattle.lines.specs.declared.Trace.the-variants.{Nothing, LioInput, B
 unfoldable pub slotTold : List Msi → ℕ → ℕ → Trace
 slotTold msis node slot = first (hasSlot slot) (λ _. MsiSlot node slot) Nothing msis
 
--- the LPC's bridge has this hardware ID
-unfoldable pub isBridge : Bridge → ℕ → Bool
-isBridge (Is b) node = eqb (b .node) node
-isBridge None node = false
-
 -- input v of a BIO is the one that the LPC lines share
-unfoldable pub isLpcPin : Said → Bio → ℕ → Bool
-isLpcPin said bio v = said .lpc .present && eqb (said .lpc .cascade) v && isBridge (bridge (said .bios)) (bio .node)
+unfoldable pub isLpcPin : Lpc → Bio → ℕ → Bool
+isLpcPin lpc bio v = lpc .present && eqb (lpc .cascade) v && isBridge lpc bio
 
 -- "the LPC cascade input (never told as a BIO input) with its global number", or a BIO input with its global number
-unfoldable pub pinTold : Said → ℕ → Bio → Trace
-pinTold said v bio = if (isLpcPin said bio v) (LpcCascade (bio .base + v)) (BioInput (bio .base + v))
+unfoldable pub pinTold : Lpc → ℕ → Bio → Trace
+pinTold lpc v bio = if (isLpcPin lpc bio v) (LpcCascade (bio .base + v)) (BioInput (bio .base + v))
 
 -- what lands on an extended vector of the EIO of a node: an input of its BIO, a slot, or nothing
 unfoldable pub landed : Said → ℕ → ℕ → Trace
-landed said node vector = first (hasPin node vector) (pinTold said vector) (slotTold (said .msis) node vector) (said .bios)
+landed said node vector = first (hasPin node vector) (pinTold (said .lpc) vector) (slotTold (said .msis) node vector) (said .bios)
 
 -- what enters a core vector by an EIO with a number
 unfoldable pub eioTraced : Said → ℕ → ℕ → Trace

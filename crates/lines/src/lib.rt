@@ -59,12 +59,6 @@ pub enum Owner {
     Nobody,
 }
 
-// The bridge that the LPC stands behind, if there is one.
-pub enum Bridge {
-    Is(Bio),
-    None,
-}
-
 // Where each structure of a map stands in the capture, in the same arrangement as the map.
 pub struct Places {
     pub lio: u32,

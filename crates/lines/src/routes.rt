@@ -1,7 +1,6 @@
-// Document 01, "Where a line arrives": owners, wired inputs, the LPC's bridge, and the arrival of a global number. Nothing
+// Document 01, "Where a line arrives": owners, wired inputs, and the arrival of a global number. Nothing
 // here asks whether the map keeps the rules: `Map::arrival` is for callers that know it, and `Map::route`, with 61 first, for
 // all others.
-use crate::Bridge;
 use crate::MOST;
 use crate::Map;
 use crate::Owner;
@@ -13,7 +12,7 @@ ghost use mathlib.Core.Path.{_≡_};
 ghost use Prim.Native.Nat.{_≤_, min};
 ghost use lib.ListN.{take};
 ghost use Rattle.lines.specs.Says.{says};
-ghost use Rattle.lines.specs.Routes.{lioArrival, through, bridge, bioOwner, owner, pinArrival, arrival};
+ghost use Rattle.lines.specs.Routes.{lioArrival, through, bioOwner, owner, arrival};
 
 // The first global number of the LIO: those below are the LPC's.
 pub(crate) const LIO_FIRST: u32 = 16;
@@ -52,24 +51,6 @@ fn eio_arrival(eios: [Eio; 4], n: usize, node: u16, vector: u32) -> Route
     Route::NoOwner
 }
 
-// The LPC's bridge: the BIO with the smallest hardware ID, the earliest of equals.
-pub(crate) fn lpc_bridge(bios: [Bio; 4], n: usize) -> Bridge
-    requires { ⌜ n ≤ 4 ⌝ }
-    ensures { λ r. ⌜ r ≡ bridge (take n bios) ⌝ }
-{
-    if n == 0 {
-        return Bridge::None;
-    }
-    let mut best = bios[0];
-    let mut i = 1;
-    while i < n {
-        let b = bios[i];
-        best = parts::lesser_of(best, b);
-        i += 1;
-    }
-    Bridge::Is(best)
-}
-
 // The input of a BIO that a global number is.
 fn bio_owner(bios: [Bio; 4], n: usize, number: u32) -> Owner
     requires { ⌜ n ≤ 4 ⌝ }
@@ -86,17 +67,6 @@ fn bio_owner(bios: [Bio; 4], n: usize, number: u32) -> Owner
     Owner::Nobody
 }
 
-// Where input v of the LPC's bridge arrives.
-fn pin_arrival(eios: [Eio; 4], n: usize, bridge: Bridge, v: u32) -> Route
-    requires { ⌜ n ≤ 4 ⌝ }
-    ensures { λ r. ⌜ r ≡ pinArrival (take n eios) bridge v ⌝ }
-{
-    let Bridge::Is(b) = bridge else {
-        return Route::NoOwner;
-    };
-    eio_arrival(eios, n, b.node, v)
-}
-
 // How many entries of its array a count uses: one past the array uses all of it.
 pub fn used(count: u8) -> usize
     ensures few { λ r. ⌜ r ≤ 4 ⌝ }
@@ -110,14 +80,6 @@ pub fn used(count: u8) -> usize
 }
 
 impl Map {
-    // The bridge that the LPC stands behind.
-    pub fn bridge(self) -> Bridge
-        ensures { λ r. ⌜ r ≡ bridge (says self .bios) ⌝ }
-    {
-        let bios = self.bios;
-        lpc_bridge(bios, used(self.biocount))
-    }
-
     // Whose a global number is.
     fn owner(self, number: u32) -> Owner
         ensures { λ r. ⌜ r ≡ owner (says self) number ⌝ }
@@ -145,7 +107,7 @@ impl Map {
         let lpc = kinds::said_lpc(self.lpc);
         let lio = kinds::said_lio(self.lio);
         match self.owner(number) {
-            Owner::LpcInput => pin_arrival(eios, n, self.bridge(), lpc.cascade as u32),
+            Owner::LpcInput => eio_arrival(eios, n, lpc.node, lpc.cascade as u32),
             Owner::LioInput(i) => lio_arrival(lio, i),
             Owner::BioInput(node, v) => eio_arrival(eios, n, node, v),
             Owner::Nobody => Route::NoOwner,

@@ -1,13 +1,10 @@
 // The rules that a map must keep from 38 on, each in document 01's words, and their order: the lowest line that applies wins.
 // A map comes with the places of its structures in the table; one that has none is given places of its own, since whether a
 // rule is broken does not hang on them.
-use crate::Bridge;
 use crate::MOST;
 use crate::Map;
 use crate::Places;
 use crate::Route;
-use crate::routes::lpc_bridge;
-use kinds::Lpc;
 use words::Verdict;
 ghost use mathlib.Core.Path.{_≡_};
 ghost use mathlib.Core.List.{[], _∷_};
@@ -15,7 +12,7 @@ ghost use Prim.Native.Nat.{ℕ, _≤_};
 ghost use Rattle.words.specs.Refusals.{rule, unless, firstRefusal, isSound};
 ghost use Rattle.words.specs.declared.Verdict.the-variants.{Refused};
 ghost use Rattle.lines.specs.Says.{says};
-ghost use Rattle.lines.specs.Rules.{noBridge, noInput, tooMany, rule40, rule43, rule45, rule54, mapRules, firstBroken, slotPlaces};
+ghost use Rattle.lines.specs.Rules.{tooMany, rule40, rule43, rule45, rule54, mapRules, firstBroken, slotPlaces};
 
 // ---- verdicts
 
@@ -47,28 +44,6 @@ pub(crate) fn is_sound(verdict: Verdict) -> bool
         Verdict::Sound => true,
         Verdict::Refused(_) => false,
     }
-}
-
-// ---- one function for each rule
-
-// Whether an LPC has no bridge to stand behind.
-fn lacks_bridge(present: bool, bridge: Bridge) -> bool
-    ensures { λ r. ⌜ r ≡ noBridge present bridge ⌝ }
-{
-    let Bridge::Is(_) = bridge else {
-        return present;
-    };
-    false
-}
-
-// Whether an LPC stands behind a bridge that lacks the input of its cascade.
-fn lacks_input(lpc: Lpc, bridge: Bridge) -> bool
-    ensures { λ r. ⌜ r ≡ noInput lpc bridge ⌝ }
-{
-    let Bridge::Is(b) = bridge else {
-        return false;
-    };
-    lpc.present & (b.pins <= lpc.cascade)
 }
 
 // Places for a map that comes with none.
@@ -104,16 +79,26 @@ impl Map {
         rule_of(!lio.present | (self.eiocount == 0), 40, madt)
     }
 
-    // 43: LPC without a BIO. 45: its BIO has no input of its cascade.
+    // 43: no BIO is the LPC's bridge. 45: its bridge has no input of its cascade.
     fn lpc_rules(self, place: u32) -> Verdict
         requires { ⌜ self .biocount ≤ 4 ⌝ }
         ensures { λ r. ⌜ r ≡ unless Refused (rule43 (says self) place) (rule45 (says self) place) ⌝ }
     {
         let bios = self.bios;
-        let lpc = self.lpc;
-        let bridge = lpc_bridge(bios, self.biocount as usize);
-        let rule43 = rule_of(lacks_bridge(lpc.present, bridge), 43, place);
-        or_else(rule43, rule_of(lacks_input(lpc, bridge), 45, place))
+        let lpc = kinds::said_lpc(self.lpc);
+        let n = self.biocount as usize;
+        if !lpc.present {
+            return Verdict::Sound;
+        }
+        let mut i = 0;
+        while i < n {
+            let b = bios[i];
+            if parts::is_bridge(lpc, b) {
+                return rule_of(b.pins <= lpc.cascade, 45, place);
+            }
+            i += 1;
+        }
+        Verdict::Refused(words::refuse(43, place))
     }
 
     // 54: SCI_INT doesn't arrive.

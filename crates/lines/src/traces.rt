@@ -1,17 +1,17 @@
 // Tracing back: what arrives at a core vector with a number (document 01, "Where a line arrives"). Nothing here asks whether
 // the map keeps the rules: `Map::traced` is for callers that know it, and `Map::trace`, with 61 first, for all others.
-use crate::Bridge;
 use crate::Map;
 use crate::Trace;
 use crate::routes::LIO_FIRST;
 use crate::routes::used;
 use kinds::Bio;
+use kinds::Lpc;
 use kinds::Msi;
 ghost use mathlib.Core.Path.{_≡_};
 ghost use Prim.Native.Nat.{_<_, _≤_};
 ghost use lib.ListN.{take};
 ghost use Rattle.lines.specs.Says.{says};
-ghost use Rattle.lines.specs.Traces.{slotTold, isBridge, isLpcPin, pinTold, landed, eioTraced, traced};
+ghost use Rattle.lines.specs.Traces.{slotTold, isLpcPin, pinTold, landed, eioTraced, traced};
 
 // The slot on the EIO of a node, if an MSI has it.
 fn slot_told(msis: [Msi; 4], n: usize, node: u8, slot: u32) -> Trace
@@ -29,38 +29,26 @@ fn slot_told(msis: [Msi; 4], n: usize, node: u8, slot: u32) -> Trace
     Trace::Nothing
 }
 
-// Whether the LPC's bridge has a hardware ID.
-fn is_bridge(bridge: Bridge, node: u16) -> bool
-    ensures { λ r. ⌜ r ≡ isBridge bridge node ⌝ }
+// Whether input v of a BIO is the one that the LPC lines share.
+fn is_lpc_pin(lpc: Lpc, bio: Bio, v: u32) -> bool
+    ensures { λ r. ⌜ r ≡ isLpcPin lpc bio v ⌝ }
 {
-    let Bridge::Is(b) = bridge else {
-        return false;
-    };
-    b.node == node
+    lpc.present & (lpc.cascade as u32 == v) & parts::is_bridge(lpc, bio)
+}
+
+// What input v of a BIO is told as.
+fn pin_told(lpc: Lpc, bio: Bio, v: u32) -> Trace
+    requires { ⌜ v < bio .pins ⌝ }
+    ensures { λ r. ⌜ r ≡ pinTold lpc v bio ⌝ }
+{
+    let number = (bio.base as u32) + v;
+    if is_lpc_pin(lpc, bio, v) {
+        return Trace::LpcCascade(number);
+    }
+    Trace::BioInput(number)
 }
 
 impl Map {
-    // Whether input v of a BIO is the one that the LPC lines share.
-    fn is_lpc_pin(self, bio: Bio, v: u32) -> bool
-        ensures { λ r. ⌜ r ≡ isLpcPin (says self) bio v ⌝ }
-    {
-        let lpc = kinds::said_lpc(self.lpc);
-        let bridge = self.bridge();
-        lpc.present & (lpc.cascade as u32 == v) & is_bridge(bridge, bio.node)
-    }
-
-    // What input v of a BIO is told as.
-    fn pin_told(self, bio: Bio, v: u32) -> Trace
-        requires { ⌜ v < bio .pins ⌝ }
-        ensures { λ r. ⌜ r ≡ pinTold (says self) v bio ⌝ }
-    {
-        let number = (bio.base as u32) + v;
-        if self.is_lpc_pin(bio, v) {
-            return Trace::LpcCascade(number);
-        }
-        Trace::BioInput(number)
-    }
-
     // What lands on an extended vector of the EIO of a node.
     fn landed(self, node: u8, vector: u32) -> Trace
         ensures { λ r. ⌜ r ≡ landed (says self) node vector ⌝ }
@@ -72,7 +60,7 @@ impl Map {
         while i < n {
             let b = bios[i];
             if parts::has_pin(b, node, vector) {
-                return self.pin_told(b, vector);
+                return pin_told(kinds::said_lpc(self.lpc), b, vector);
             }
             i += 1;
         }

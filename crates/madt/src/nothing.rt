@@ -39,6 +39,7 @@ pub(crate) fn no_map(sci: u16) -> Map
     let msi = Msi { start: 0, count: 0 };
     let lpc = Lpc {
         present: false,
+        node: 0,
         cascade: 0,
     };
     let eios = [eio; 4];

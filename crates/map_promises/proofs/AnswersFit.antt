@@ -14,12 +14,10 @@ use Rattle.clashes.proofs.Logic.{and-right}
 use Rattle.parts.specs.Inputs.{hasPin, hasSlot, owns}
 use Rattle.parts.proofs.Inputs.{pin-small, leads-small}
 use Rattle.lines.specs.Says.{Said, says}
-use Rattle.lines.specs.Routes.{lioArrival, through, bridge, pinArrival, bioOwner, owner, arrivalOf}
+use Rattle.lines.specs.Routes.{lioArrival, through, bioOwner, owner, arrivalOf}
 use Rattle.lines.specs.Traces.{slotTold, pinTold, landed, eioTraced, traced}
 use Rattle.lines.specs.Rules.{rangesKept, keepsRules}
 use Rattle.lines.specs.declared.Map.{Map}
-use Rattle.lines.specs.declared.Bridge.{Bridge}
-use Rattle.lines.specs.declared.Bridge.the-variants.{Is, None}
 use Rattle.lines.specs.declared.Owner.{Owner}
 use Rattle.lines.specs.declared.Owner.the-variants.{BioInput as ofBio, Nobody}
 use Rattle.lines.specs.declared.Route.the-variants.{Arrives, NoOwner}
@@ -72,11 +70,6 @@ module _ (map : Map) (kept : keepsRules map ≡ true) where
       if-cases RouteFits _ _ _ (λ t. (omega (arith, low-small), omega arith))
       (λ t. if-cases RouteFits _ _ _ (λ u. (omega (arith, high-small), omega arith)) (λ u. omega arith))
 
-  pin-route-fits : (b : Bridge) → RouteFits (pinArrival (said .eios) b (said .lpc .cascade))
-  unfolding pinArrival
-  pin-route-fits (Is b) = through-fits (b .node) (said .lpc .cascade) (omega (arith, lpc-fits said ranged))
-  pin-route-fits None = omega arith
-
   bio-route-fits : (n : ℕ) → RouteFits (arrivalOf said (bioOwner (said .bios) n))
   unfolding bioOwner arrivalOf
   bio-route-fits n =
@@ -92,7 +85,7 @@ module _ (map : Map) (kept : keepsRules map ≡ true) where
   unfolding owner arrivalOf
   arrival-fits n =
       if-cases (λ (o : Owner). RouteFits (arrivalOf said o)) _ _ _
-      (λ t. if-cases (λ (o : Owner). RouteFits (arrivalOf said o)) _ _ _ (λ u. pin-route-fits (bridge (said .bios))) (λ u. omega arith))
+      (λ t. if-cases (λ (o : Owner). RouteFits (arrivalOf said o)) _ _ _ (λ u. through-fits (said .lpc .node) (said .lpc .cascade) (omega (arith, lpc-fits said ranged))) (λ u. omega arith))
       (λ t. if-cases (λ (o : Owner). RouteFits (arrivalOf said o)) _ _ _
       (λ u. lio-route-fits (n - 16) (let less = ltb-true n 48 u in omega arith))
       (λ u. bio-route-fits n))
@@ -111,7 +104,7 @@ module _ (map : Map) (kept : keepsRules map ≡ true) where
   landed-fits : (node k : ℕ) → node ≤ 63 → TraceFits (landed said node k)
   unfolding landed pinTold
   landed-fits node k small =
-      found-holds noBio TraceFits (hasPin node k) (pinTold said k) (slotTold (said .msis) node k) (said .bios)
+      found-holds noBio TraceFits (hasPin node k) (pinTold (said .lpc) k) (slotTold (said .msis) node k) (said .bios)
       (λ i l t.
       let few = pin-small node k (bioAt said i) t in
       let fits : bioAt said i .base + k < 2 ^ 32 = (let fit = bio-fits said ranged i l in omega (arith, fit .2, fit .4)) in

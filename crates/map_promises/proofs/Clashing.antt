@@ -1,51 +1,33 @@
--- Each of 41, 42, 45 and 51 to 53 is told of a map exactly where it is the first that is broken, and names what the documents name.
+-- Each of 41 to 43, 45 and 51 to 53 is told of a map exactly where it is the first that is broken, and names what the documents name.
 use Prim.Native.Nat.{ℕ, zero, suc, _<_, _≤_}
 use native.Mathlib.Omega.{arith}
 use mathlib.Core.Path.{_≡_, refl, sym, _∙_}
 use mathlib.Core.Logic.{inr}
 use mathlib.Core.List.{List, [], _∷_}
-use mathlib.Core.Bool.{true, false, true≢false}
-use borrow.Author.Tests.{leb-true, le-leb}
-use lib.Dec.{leb}
+use mathlib.Core.Bool.{true, false}
 use lib.ListN.{getD}
 use Rattle.words.specs.Choice.{if}
 use Rattle.words.specs.Refusals.{refusedWith, rule, unless, firstRefusal}
 use Rattle.words.specs.declared.Verdict.{Verdict}
 use Rattle.words.specs.declared.Verdict.the-variants.{Sound, Refused}
 use Rattle.words.proofs.Verdicts.{first-kept, first-told}
-use Rattle.kinds.specs.declared.Bio.{Bio}
-use Rattle.kinds.specs.declared.Lpc.{Lpc}
-use Rattle.clashes.proofs.Logic.{and-left, and-right}
 use Rattle.clashes.specs.Search.{firstClash, firstLone}
 use Rattle.clashes.specs.Told.{atLater, atBoth, spotted}
 use Rattle.clashes.specs.declared.Claim.{Claim}
 use Rattle.clashes.specs.declared.Pair.the-variants.{None as NoPair}
 use Rattle.lines.specs.Says.{Said, says}
 use Rattle.lines.specs.Claims.{claims}
-use Rattle.lines.specs.Routes.{bridge}
-use Rattle.lines.specs.Rules.{tooMany, noInput, ruleClash, rangesKept, rule51, rule52, rule53, rule54, rulesTo45, rulesFrom51, mapRules, firstBroken}
+use Rattle.lines.specs.Rules.{tooMany, noBridge, noInput, ruleClash, rangesKept, rule51, rule52, rule53, rule54, rulesTo45, rulesFrom51, mapRules, firstBroken}
 use Rattle.lines.specs.declared.Map.{Map}
 use Rattle.lines.specs.declared.Places.{Places}
-use Rattle.lines.specs.declared.Bridge.{Bridge}
-use Rattle.lines.specs.declared.Bridge.the-variants.{Is, None}
 use Rattle.map_promises.specs.Structures.{Structure, Placed}
-use Rattle.map_promises.specs.Clashing.{ShareNode, ShareNumber, ShareVector, ShareCore, Sharing, TwoNode, LoneBio, TwoNumber, TwoVector, TwoCore, Names, NamesLater, NamesLone, OnePlace, KeepsTo40, KeepsTo43, KeepsTo45, NoInput, RefusedWith, OthersCarryNone, NodeExactly, LoneExactly, InputExactly, NumberExactly, VectorExactly, CoreExactly}
+use Rattle.map_promises.specs.Clashing.{ShareNode, ShareNumber, ShareVector, ShareCore, Sharing, TwoNode, LoneBio, TwoNumber, TwoVector, TwoCore, Names, NamesLater, NamesLone, OnePlace, KeepsTo40, KeepsTo42, KeepsTo43, KeepsTo45, NoBridge, NoInput, RefusedWith, OthersCarryNone, NodeExactly, LoneExactly, BridgeExactly, InputExactly, NumberExactly, VectorExactly, CoreExactly}
+use Rattle.map_promises.proofs.Bridges.{no-bridge, bridge-gone, no-input, input-gone}
 use Rattle.map_promises.proofs.Hubs.{bio-hub, names-lone, finds-lone}
 use Rattle.map_promises.proofs.Meetings.{Agrees, names, sharing, no-sharing, finds-two, finds-nothing}
 use Rattle.map_promises.proofs.Sharing.{node-agrees, number-agrees, vector-agrees, core-agrees, number-sharing, sharing-number, vector-sharing, sharing-vector}
 use Rattle.map_promises.proofs.Unused.{lio-said}
 use Rattle.map_promises.proofs.Verdicts.{eio-there, later-kept, both-kept, spotted-kept, later-told, both-told, spotted-told, rule-read, position, Second, own, told-at}
-
--- 45: an LPC whose bridge lacks the input of its cascade
-pub no-input : (lpc : Lpc) (bridge : Bridge) → noInput lpc bridge ≡ true → (lpc .present ≡ true) × (b : Bio) × (bridge ≡ Is b) × (b .pins ≤ lpc .cascade)
-unfolding noInput
-no-input lpc (Is b) h =
-    (and-left (lpc .present) (leb (b .pins) (lpc .cascade)) h, b, refl, leb-true _ _ (and-right (lpc .present) (leb (b .pins) (lpc .cascade)) h))
-no-input lpc None h = absurd (true≢false (sym h))
-
-input-gone : (lpc : Lpc) (bridge : Bridge) → (lpc .present ≡ true) × (b : Bio) × (bridge ≡ Is b) × (b .pins ≤ lpc .cascade) → noInput lpc bridge ≡ true
-unfolding noInput
-input-gone lpc bridge w = rw (w .2, w .0, le-leb (w .1 .pins) (lpc .cascade) (w .3))
 
 module _ (map : Map) (places : Places) (madt fadt : ℕ) where
   abbrev said : Said
@@ -70,19 +52,33 @@ module _ (map : Map) (places : Places) (madt fadt : ℕ) where
       → (getD rules (position n) Sound ≡ Refused (refusedWith n p q)) × ((i : ℕ) → i < position n → getD rules i Sound ≡ Sound)
   told few n p q h = told-at said places madt fadt n p q (sym (from-40 few) ∙ h)
 
+  -- ---- 43
+  module _ (h : KeepsTo42 map places madt) where
+    bridge-told : (p q : ℕ) → Told 43 p q → NoBridge said × OnePlace (λ p. p ≡ places .lpc) p q
+    unfolding mapRules rulesTo45 rulesFrom51 if
+    bridge-told p q t =
+        let r = told (h .to40 .r38) 43 p q t .0 in
+        let w = rule-read (noBridge (said .lpc) (said .bios)) 43 (places .lpc) 43 p q r in
+        (no-bridge said (w .3), (w .2, w .1))
+
+    bridge-tells : NoBridge said → (p : ℕ) × (q : ℕ) × Told 43 p q
+    unfolding mapRules rulesTo45 rulesFrom51 firstRefusal unless if
+    bridge-tells w = (places .lpc, 0, from-40 (h .to40 .r38) ∙ rw (h .to40 .r40, h .r41, h .r42, bridge-gone said w))
+
   -- ---- 45
   module _ (h : KeepsTo43 map places madt) where
     input-told : (p q : ℕ) → Told 45 p q → NoInput said × OnePlace (λ p. p ≡ places .lpc) p q
     unfolding mapRules rulesTo45 rulesFrom51 if
     input-told p q t =
-        let r = told (h .to40 .r38) 45 p q t .0 in
-        let w = rule-read (noInput (said .lpc) (bridge (said .bios))) 45 (places .lpc) 45 p q r in
-        (no-input (said .lpc) (bridge (said .bios)) (w .3), (w .2, w .1))
+        let r = told (h .to42 .to40 .r38) 45 p q t .0 in
+        let w = rule-read (noInput (said .lpc) (said .bios)) 45 (places .lpc) 45 p q r in
+        (no-input said (w .3), (w .2, w .1))
 
     input-tells : NoInput said → (p : ℕ) × (q : ℕ) × Told 45 p q
     unfolding mapRules rulesTo45 rulesFrom51 firstRefusal unless if
     input-tells w =
-        (places .lpc, 0, from-40 (h .to40 .r38) ∙ rw (h .to40 .r40, h .r41, h .r42, h .r43, input-gone (said .lpc) (bridge (said .bios)) w))
+        let to42 = h .to42 in
+        (places .lpc, 0, from-40 (to42 .to40 .r38) ∙ rw (to42 .to40 .r40, to42 .r41, to42 .r42, h .r43, input-gone said w))
 
   module _ (ok : Placed said places) where
     -- ---- 41 and 42
@@ -120,17 +116,20 @@ module _ (map : Map) (places : Places) (madt fadt : ℕ) where
 
     -- ---- 51 to 53
     module _ (h : KeepsTo45 map places madt) where
+      abbrev to42 : KeepsTo42 map places madt
+      to42 = h .to43 .to42
+
       abbrev ranged : rangesKept said ≡ true
-      ranged = h .to43 .to40 .ranges
+      ranged = to42 .to40 .ranges
 
       abbrev few : tooMany map ≡ false
-      few = h .to43 .to40 .r38
+      few = to42 .to40 .r38
 
       numbers : Agrees said 51 (ShareNumber said)
       numbers = number-agrees said ranged
 
       vectors : Agrees said 52 (ShareVector said)
-      vectors = vector-agrees said ranged (eio-there said madt (h .to43 .to40 .r40)) (bio-hub said ranged places ok (spotted-kept 42 (firstLone all) (h .to43 .r42)))
+      vectors = vector-agrees said ranged (eio-there said madt (to42 .to40 .r40)) (bio-hub said ranged places ok (spotted-kept 42 (firstLone all) (to42 .r42)))
 
       cores : Agrees said 53 (ShareCore said)
       cores = core-agrees said ranged (lio-said (map .lio) .0) (lio-said (map .lio) .1)
@@ -150,7 +149,7 @@ module _ (map : Map) (places : Places) (madt fadt : ℕ) where
       -- with the rules below 51 kept, the verdict is that of the rest
       from-51 : firstBroken map places madt fadt ≡ firstRefusal (rule51 all ∷ rule52 all ∷ rule53 all ∷ rule54 said fadt ∷ [])
       unfolding mapRules rulesTo45 rulesFrom51 firstRefusal unless
-      from-51 = from-40 few ∙ rw (h .to43 .to40 .r40, h .to43 .r41, h .to43 .r42, h .to43 .r43, h .r45)
+      from-51 = from-40 few ∙ rw (to42 .to40 .r40, to42 .r41, to42 .r42, h .to43 .r43, h .r45)
 
       no-number : (TwoNumber said → ⊥) → firstClash 51 all ≡ NoPair
       no-number never = finds-nothing said places ok numbers (λ w. never (sharing-number said w))
@@ -220,6 +219,9 @@ node-exactly map places madt fadt ok h = (node-told map places madt fadt ok h, n
 
 pub lone-exactly : (map : Map) (places : Places) (madt fadt : ℕ) → LoneExactly map places madt fadt
 lone-exactly map places madt fadt ok h = (lone-told map places madt fadt ok h, λ w. lone-tells map places madt fadt ok h (w .0) (w .1))
+
+pub bridge-exactly : (map : Map) (places : Places) (madt fadt : ℕ) → BridgeExactly map places madt fadt
+bridge-exactly map places madt fadt h = (bridge-told map places madt fadt h, bridge-tells map places madt fadt h)
 
 pub input-exactly : (map : Map) (places : Places) (madt fadt : ℕ) → InputExactly map places madt fadt
 input-exactly map places madt fadt h = (input-told map places madt fadt h, input-tells map places madt fadt h)

@@ -9,18 +9,18 @@ use Rattle.clashes.specs.Folds.{fold}
 use Rattle.clashes.specs.Rules.{clash}
 use Rattle.clashes.specs.Search.{sooner, nearer, partner, better, firstClash, lonelier, firstLone}
 use Rattle.clashes.specs.Told.{atLater, atBoth, spotted}
-use Rattle.parts.specs.Inputs.{hasBit, lesser, hasPin}
+use Rattle.parts.specs.Inputs.{hasBit, hasPin}
 use Rattle.lines.specs.Answers.{routeOf, traceOf}
 use Rattle.lines.specs.Claims.{placed, claims}
-use Rattle.lines.specs.Routes.{lioArrival, through, bridge, pinArrival, bioOwner, owner, arrivalOf, arrival}
+use Rattle.lines.specs.Routes.{lioArrival, through, bioOwner, owner, arrivalOf, arrival}
 use Rattle.lines.specs.Rules.{eiosFit, biosFit, msisFit, rangesKept, noBridge, noInput, lost, rulesTo45, rulesFrom51, mapRules, firstBroken, keepsRules}
-use Rattle.lines.specs.Traces.{slotTold, isBridge, isLpcPin, pinTold, landed, eioTraced, traced}
+use Rattle.lines.specs.Traces.{slotTold, isLpcPin, pinTold, landed, eioTraced, traced}
 use Rattle.lines.specs.declared.Map.{Map}
-use Rattle.map_promises.specs.Examples.{Question, Told, told, brokenAlone, fewerPins, unusedPlaces, firstNamed, MapExamples}
+use Rattle.map_promises.specs.Examples.{Question, Told, told, brokenAlone, fewerPins, rightBridge, unusedPlaces, firstNamed, MapExamples}
 
 -- what is told, with all that it is computed by
 unfoldable computed : Map → Question → Told
-unfolding if first every fold lioField eioField msiField bioField lpcField usedHalf saidLio saidLpc clash sooner nearer partner better firstClash lonelier firstLone hasBit lesser hasPin routeOf traceOf placed claims lioArrival through bridge pinArrival bioOwner owner arrivalOf arrival atLater atBoth spotted eiosFit biosFit msisFit rangesKept noBridge noInput lost rulesTo45 rulesFrom51 mapRules firstBroken unless firstRefusal isSound keepsRules slotTold isBridge isLpcPin pinTold landed eioTraced traced told
+unfolding if first every fold lioField eioField msiField bioField lpcField usedHalf saidLio saidLpc clash sooner nearer partner better firstClash lonelier firstLone hasBit hasPin routeOf traceOf placed claims lioArrival through bioOwner owner arrivalOf arrival atLater atBoth spotted eiosFit biosFit msisFit rangesKept noBridge noInput lost rulesTo45 rulesFrom51 mapRules firstBroken unless firstRefusal isSound keepsRules slotTold isLpcPin pinTold landed eioTraced traced told
 computed map question = told map question
 
 -- THE PROMISES
@@ -31,6 +31,10 @@ broken-alone = refl
 pub fewer-pins : MapExamples fewerPins
 unfolding computed fewerPins
 fewer-pins = refl
+
+pub right-bridge : MapExamples rightBridge
+unfolding computed rightBridge
+right-bridge = refl
 
 pub unused-places : MapExamples unusedPlaces
 unfolding computed unusedPlaces

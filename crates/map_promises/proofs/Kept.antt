@@ -14,21 +14,18 @@ use Rattle.words.specs.declared.Verdict.the-variants.{Sound}
 use Rattle.words.proofs.Verdicts.{is-sound, rule-kept, each-sound}
 use Rattle.kinds.specs.Ranges.{bitInBoth}
 use Rattle.kinds.specs.declared.Bio.{Bio}
-use Rattle.kinds.specs.declared.Lpc.{Lpc}
 use Rattle.clashes.specs.Search.{firstClash, firstLone}
 use Rattle.clashes.specs.declared.Pair.the-variants.{None as NoPair}
 use Rattle.clashes.proofs.Logic.{and-left, and-right}
 use Rattle.lines.specs.Says.{Said, says}
-use Rattle.lines.specs.Routes.{bridge}
 use Rattle.lines.specs.Claims.{claims}
 use Rattle.lines.specs.Rules.{tooMany, noBridge, noInput, rangesKept, ruleClash, rulesTo45, rulesFrom51, mapRules, firstBroken, keepsRules, slotPlaces}
 use Rattle.lines.specs.declared.Map.{Map}
-use Rattle.lines.specs.declared.Bridge.{Bridge}
-use Rattle.lines.specs.declared.Bridge.the-variants.{Is, None}
 use Rattle.lines.proofs.Counts.{counts, few-of-kept}
-use Rattle.map_promises.specs.Sources.{pin, slot, eioAt, bioAt, msiAt}
+use Rattle.map_promises.specs.Sources.{pin, slot, eioAt, bioAt, msiAt, IsBehind}
 use Rattle.map_promises.specs.Structures.{Structure, lio, eio}
 use Rattle.map_promises.specs.Clashing.{Enters, Sharing, TwoNode, TwoNumber, TwoVector, TwoCore}
+use Rattle.map_promises.proofs.Bridges.{behind-bridge}
 use Rattle.map_promises.proofs.Hubs.{Hub, bio-hub}
 use Rattle.map_promises.proofs.Logic.{order}
 use Rattle.map_promises.proofs.Meetings.{no-sharing}
@@ -45,17 +42,10 @@ pub record Good (said : Said) : Type 0 where
   pub some : length (said .eios) ≡ 0 → ⊥
   pub no41 : TwoNode said → ⊥
   pub hub : (j : ℕ) → j < length (said .bios) → Hub said j
-  pub behind : said .lpc .present ≡ true → (b : Bio) × (bridge (said .bios) ≡ Is b) × (said .lpc .cascade < b .pins)
+  pub behind : said .lpc .present ≡ true → (j : ℕ) × IsBehind said j
   pub no51 : TwoNumber said → ⊥
   pub no52 : TwoVector said → ⊥
   pub no53 : TwoCore said → ⊥
-
--- an LPC that lacks neither a bridge nor an input has both
-behind-bridge : (lpc : Lpc) (b : Bridge) → noBridge (lpc .present) b ≡ false → noInput lpc b ≡ false → lpc .present ≡ true
-    → (x : Bio) × (b ≡ Is x) × (lpc .cascade < x .pins)
-unfolding noBridge noInput
-behind-bridge lpc (Is x) h i p = (x, refl, leb-false _ _ (rw p at i))
-behind-bridge lpc None h i p = absurd (true≢false (sym p ∙ h))
 
 pub good : (map : Map) → keepsRules map ≡ true → Good (says map)
 unfolding keepsRules firstBroken mapRules rulesTo45 rulesFrom51
@@ -80,9 +70,9 @@ good map h =
       some = some;
       no41 = no-sharing said slotPlaces ok (node-agrees said ranged) (later-kept 41 (firstClash 41 (claims said slotPlaces)) (f 2));
       hub = hub;
-      behind = behind-bridge (said .lpc) (bridge (said .bios))
-          (rule-kept (noBridge (said .lpc .present) (bridge (said .bios))) 43 14 (f 4))
-          (rule-kept (noInput (said .lpc) (bridge (said .bios))) 45 14 (f 5));
+      behind = behind-bridge said
+          (rule-kept (noBridge (said .lpc) (said .bios)) 43 14 (f 4))
+          (rule-kept (noInput (said .lpc) (said .bios)) 45 14 (f 5));
       no51 = λ w. no-sharing said slotPlaces ok (number-agrees said ranged) (none 51 (f 6)) (number-sharing said w);
       no52 = λ w. no-sharing said slotPlaces ok (vector-agrees said ranged some hub) (none 52 (f 7)) (vector-sharing said w);
       no53 = no-sharing said slotPlaces ok (core-agrees said ranged low0 high0) (none 53 (f 8));

@@ -8,9 +8,9 @@ pub mod Hubs
 pub mod Slots
 pub mod Unused
 pub mod Sharing
+pub mod Bridges
 pub mod Kept
 pub mod NoTwoAlike
-pub mod Bridges
 pub mod Routing
 pub mod Tracing
 pub mod Clashing
@@ -26,6 +26,7 @@ pub mod InOrder
 pub mod Rising
 pub mod WalkKeepsBooks
 pub mod WalkInTableOrder
+pub mod NodeOfBase
 pub mod OnlyItsBridges
 pub mod NormalMapsEqual
 pub mod Fields

@@ -5,8 +5,9 @@ use native.Mathlib.Omega.{arith}
 use mathlib.Core.Path.{_≡_, refl, sym, _∙_, ap}
 use mathlib.Core.Logic.{_⊎_, inl, inr, ⊎-elim}
 use mathlib.Core.List.{List, [], _∷_, List·Memᴰ, List·Memᴰ·head, List·Memᴰ·tail, List·Memᴰ·not-nil, List·Memᴰ·cases-cons}
-use mathlib.Core.Bool.{Bool, true, false, true≢false}
-use lib.ListN.{length, getD}
+use mathlib.Core.Bool.{Bool, true, false, not, true≢false}
+use borrow.Author.Tests.{not-true}
+use lib.ListN.{length, take, getD}
 use Rattle.words.specs.Choice.{if}
 use Rattle.words.specs.Lists.{first, every}
 use Rattle.clashes.specs.declared.Claim.{Claim}
@@ -95,6 +96,33 @@ module _ {A : Type 0} (d : A) where
       → ((j : ℕ) → j < length l → test (getD l j d) ≡ true → found (getD l j d) ≡ found (getD l i d)) → first test found none l ≡ found (getD l i d)
   finds test found none l i k t same =
       ⊎-elim (λ w. w .3 ∙ same (w .0) (w .1) (w .2)) (λ w. absurd (true≢false (sym t ∙ w .0 i k))) (found-or-not test found none l)
+
+  -- the first place that a test takes: it takes none before it
+  abbrev pub IsFirst : (A → Bool) → List A → ℕ → Type 0
+  IsFirst test l j = (j < length l) × (test (getD l j d) ≡ true) × (every (λ x. not (test x)) (take j l) ≡ true)
+
+  -- a search answers by it
+  pub finds-first : {R : Type 0} (test : A → Bool) (found : A → R) (none : R) (l : List A) (j : ℕ) → IsFirst test l j
+      → first test found none l ≡ found (getD l j d)
+  unfolding first every if
+  finds-first test found none [] j h = absurd (not-suc-le-zero (h .0))
+  finds-first test found none (x ∷ xs) zero h = rw (h .1)
+  finds-first test found none (x ∷ xs) (suc j) h =
+      let before = every (λ y. not (test y)) (take j xs) in
+      rw (not-true (test x) (and-left (not (test x)) before (h .2)))
+      (finds-first test found none xs j (le-of-suc-le-suc (h .0), h .1, and-right (not (test x)) before (h .2)))
+
+  -- and there is one, or the test takes none
+  pub first-or-none : (test : A → Bool) (l : List A) → ((j : ℕ) × IsFirst test l j) ⊎ (every (λ x. not (test x)) l ≡ true)
+  unfolding every
+  first-or-none test [] = inr refl
+  first-or-none test (x ∷ xs) = go (test x) refl (first-or-none test xs)
+    where
+      go : (t : Bool) → test x ≡ t → ((j : ℕ) × IsFirst test xs j) ⊎ (every (λ y. not (test y)) xs ≡ true)
+          → ((j : ℕ) × IsFirst test (x ∷ xs) j) ⊎ (every (λ y. not (test y)) (x ∷ xs) ≡ true)
+      go true e r = inl (0, (omega arith, e, refl))
+      go false e (inl w) = inl (suc (w .0), (omega (arith, w .1 .0), w .1 .1, rw e (w .1 .2)))
+      go false e (inr none) = inr (rw e none)
 
   -- a search that takes no place
   pub finds-none : {R : Type 0} (test : A → Bool) (found : A → R) (none : R) (l : List A)

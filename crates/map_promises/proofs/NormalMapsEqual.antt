@@ -11,7 +11,7 @@ use lib.ListN.{length, take, getD}
 use lib.Seq.{getD-take, ext-getD}
 use Rattle.words.specs.Choice.{if}
 use Rattle.words.proofs.Choices.{yes-if, no-if}
-use Rattle.kinds.specs.Used.{noHalf, usedHalf, saidLio, saidLpc, noEio, noBio, noMsi}
+use Rattle.kinds.specs.Used.{noHalf, usedHalf, saidLio, saidLpc, noEio, noBio, noMsi, noLpc}
 use Rattle.kinds.specs.declared.Half.{Half}
 use Rattle.kinds.specs.declared.Lio.{Lio}
 use Rattle.kinds.specs.declared.Eio.{Eio}
@@ -58,16 +58,13 @@ lio-said x low high none = go (x .present) refl
     go true e = yes-if _ _ _ e ∙ made-lio (sym e) (half-said (x .low) low) (half-said (x .high) high)
     go false e = no-if _ _ _ e (made-lio (sym e) (sym (none e .0)) (sym (none e .1)))
 
-lpc-said : (x : Lpc) → (x .present ≡ false → x .cascade ≡ 0) → saidLpc x ≡ x
+lpc-said : (x : Lpc) → (x .present ≡ false → x ≡ noLpc) → saidLpc x ≡ x
 unfolding saidLpc
 lpc-said x none = go (x .present) refl
   where
-    made : {p q : Bool} {c c′ : ℕ} → p ≡ q → c ≡ c′ → _≡_ {A = Lpc} (record { present = p; cascade = c }) (record { present = q; cascade = c′ })
-    made a b = rw (a, b)
-
     go : (b : Bool) → x .present ≡ b → saidLpc x ≡ x
     go true e = yes-if _ _ _ e
-    go false e = no-if _ _ _ e (made (sym e) (sym (none e)))
+    go false e = no-if _ _ _ e (sym (none e))
 
 -- a map is its fields
 made-map : {lio lio′ : Lio} {ec ec′ bc bc′ mc mc′ sci sci′ : ℕ} {eios eios′ : List Eio} {bios bios′ : List Bio} {msis msis′ : List Msi} {lpc lpc′ : Lpc}

@@ -18,7 +18,7 @@ use Rattle.clashes.proofs.Logic.{and-right}
 use Rattle.clashes.proofs.Searched.{none-lone, lone-none}
 use Rattle.lines.specs.Says.{Said, says}
 use Rattle.lines.specs.Claims.{claims}
-use Rattle.lines.specs.Routes.{bridge, arrival}
+use Rattle.lines.specs.Routes.{arrival}
 use Rattle.lines.specs.Rules.{tooMany, noBridge, noInput, lost, rangesKept, ruleClash, rulesTo45, rulesFrom51, mapRules, firstBroken, keepsRules, slotPlaces}
 use Rattle.lines.specs.declared.Map.{Map}
 use Rattle.lines.specs.declared.Places.{Places}
@@ -69,8 +69,8 @@ moves map p q op oq a b c d h =
     let said = says map in
     let f = each-sound (rule (tooMany map) 38 a ∷ mapRules said p a b) h in
     let bad40 = not (said .lio .present) || eqb (length (said .eios)) 0 in
-    let bad43 = noBridge (said .lpc .present) (bridge (said .bios)) in
-    let bad45 = noInput (said .lpc) (bridge (said .bios)) in
+    let bad43 = noBridge (said .lpc) (said .bios) in
+    let bad45 = noInput (said .lpc) (said .bios) in
     let bad54 = lost (arrival said (said .sci)) in
     let clash : (n : ℕ) → ruleClash n (claims said p) ≡ Sound → ruleClash n (claims said q) ≡ Sound =
     λ n k. kept-both n (firstClash n (claims said q)) (clash-moves said p q op oq n (both-kept n (firstClash n (claims said p)) k)) in

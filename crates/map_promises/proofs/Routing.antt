@@ -15,17 +15,16 @@ use Rattle.clashes.proofs.Logic.{and-left, and-right, both-true, or-neither}
 use Rattle.parts.specs.Inputs.{hasBit, wired, owns}
 use Rattle.kinds.specs.Used.{noBio}
 use Rattle.lines.specs.Says.{Said, says}
-use Rattle.lines.specs.Routes.{lioArrival, bridge, pinArrival, bioOwner, owner, arrivalOf, arrival, through}
+use Rattle.lines.specs.Routes.{lioArrival, bioOwner, owner, arrivalOf, arrival, through}
 use Rattle.lines.specs.Rules.{keepsRules}
 use Rattle.lines.specs.Answers.{routeOf}
 use Rattle.lines.specs.declared.Map.{Map}
-use Rattle.lines.specs.declared.Bridge.the-variants.{Is}
 use Rattle.lines.specs.declared.Owner.the-variants.{LpcInput, LioInput, BioInput, Nobody}
 use Rattle.lines.specs.declared.Route.{Route}
 use Rattle.lines.specs.declared.Route.the-variants.{Arrives, NoOwner, Unwired}
-use Rattle.map_promises.specs.Sources.{input, pin, slot, bioAt, IsSource}
+use Rattle.map_promises.specs.Sources.{input, pin, slot, bioAt, IsBehind}
 use Rattle.map_promises.specs.Routing.{IsSourced, IsUnwired, IsLpcLine, Rest, RouteIsSources, UnwiredExactly, NoOwnerExactly}
-use Rattle.map_promises.proofs.Bridges.{bridge-one}
+use Rattle.map_promises.proofs.Bridges.{bridge-node}
 use Rattle.map_promises.proofs.Kept.{Good, good, bio-number}
 use Rattle.map_promises.proofs.Logic.{order, is-bool, wired-small}
 use Rattle.map_promises.proofs.Members.{finds, found-or-not}
@@ -83,17 +82,12 @@ module _ (map : Map) (kept : keepsRules map ≡ true) where
       (ltb-true _ _ (and-right (leb (bioAt said i .base) n) (ltb n (bioAt said i .base + bioAt said i .pins)) t)) a b))
 
   -- ---- where each kind of number is routed
-  -- the LPC's bridge by its place, the pin that the LPC lines share, and where they go
-  pub lpc-line : (n : ℕ) → n < 16 → said .lpc .present ≡ true
-      → (j : ℕ) × IsSource said (pin j (said .lpc .cascade)) × (bridge (said .bios) ≡ Is (bioAt said j))
-      × (routeOf map n ≡ through (said .eios) (bioAt said j .node) (said .lpc .cascade))
-  unfolding arrivalOf pinArrival
-  lpc-line n l p =
-      let b = g .behind p in
-      let w = bridge-one (said .bios) (b .0) (b .1) in
-      let e : bridge (said .bios) ≡ Is (bioAt said (w .0)) = b .1 ∙ ap Is (sym (w .2)) in
-      let has : said .lpc .cascade < bioAt said (w .0) .pins = rw (w .2) (b .2) in
-      (w .0, (w .1, has), e, routed map kept n ∙ rw (owner-lpc said n l p, e))
+  -- the LPC lines go where the pin of its bridge does
+  pub lpc-line : (n : ℕ) → n < 16 → said .lpc .present ≡ true → (j : ℕ) → IsBehind said j
+      → routeOf map n ≡ through (said .eios) (bioAt said j .node) (said .lpc .cascade)
+  unfolding arrivalOf
+  lpc-line n l p j b =
+      routed map kept n ∙ ap (arrivalOf said) (owner-lpc said n l p) ∙ ap (λ node. through (said .eios) node (said .lpc .cascade)) (sym (bridge-node said j (b .1)))
 
   input-routed : (i : ℕ) → i < 32 → routeOf map (16 + i) ≡ lioArrival (said .lio) i
   unfolding arrivalOf
@@ -125,9 +119,9 @@ module _ (map : Map) (kept : keepsRules map ≡ true) where
 
   lpc-lands : (n : ℕ) → IsLpcLine said n → Lands n
   lpc-lands n l =
-      let w = lpc-line n (l .0) (l .1) in
-      let a = pin-at said g (w .0) (said .lpc .cascade) (w .1 .0) in
-      (_, _, w .3 ∙ a .3)
+      let w = g .behind (l .1) in
+      let a = pin-at said g (w .0) (said .lpc .cascade) (w .1 .0 .0) in
+      (_, _, lpc-line n (l .0) (l .1) (w .0) (w .1) ∙ a .3)
 
   source-lands : (n : ℕ) → IsSourced said n → Lands n
   source-lands n s =

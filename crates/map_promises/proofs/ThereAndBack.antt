@@ -7,27 +7,24 @@ use mathlib.Core.Bool.{Bool, true, false, _||_}
 use borrow.Author.Tests.{eq-eqb, leb-true, ltb-true}
 use lib.Dec.{leb, ltb}
 use Rattle.words.specs.Choice.{if}
+use Rattle.words.proofs.Choices.{yes-if}
 use Rattle.kinds.specs.Used.{noBio}
-use Rattle.kinds.specs.declared.Bio.{Bio}
 use Rattle.clashes.proofs.Logic.{and-left, and-right}
 use Rattle.parts.specs.Inputs.{hasBit, wired, owns}
 use Rattle.lines.specs.Says.{Said, says}
-use Rattle.lines.specs.Routes.{lioArrival, bridge, bioOwner, arrivalOf, through}
-use Rattle.lines.specs.Traces.{isBridge, isLpcPin, pinTold}
+use Rattle.lines.specs.Routes.{lioArrival, bioOwner, arrivalOf, through}
 use Rattle.lines.specs.Rules.{keepsRules}
 use Rattle.lines.specs.Answers.{routeOf, traceOf}
 use Rattle.lines.specs.declared.Map.{Map}
-use Rattle.lines.specs.declared.Bridge.the-variants.{Is}
 use Rattle.lines.specs.declared.Owner.the-variants.{BioInput, Nobody}
 use Rattle.lines.specs.declared.Route.the-variants.{Arrives, NoOwner, Unwired}
 use Rattle.lines.specs.declared.Trace.the-variants.{LioInput as LioTold, BioInput as BioTold, LpcCascade}
-use Rattle.map_promises.specs.Sources.{input, pin, bioAt, isShared, name}
+use Rattle.map_promises.specs.Sources.{input, pin, bioAt, isShared, IsBehind, name}
 use Rattle.map_promises.specs.Statements.{LpcLinesShare, Tells, ThereAndBack}
-use Rattle.map_promises.proofs.Bridges.{pin-told}
 use Rattle.map_promises.proofs.Kept.{Good, good}
 use Rattle.map_promises.proofs.Logic.{order, is-bool}
 use Rattle.map_promises.proofs.Members.{found-or-not}
-use Rattle.map_promises.proofs.Routing.{owner-nobody, owner-lio, owner-bio, routed, lpc-line, pin-routed}
+use Rattle.map_promises.proofs.Routing.{owner-nobody, owner-lio, owner-bio, routed, lpc-line}
 use Rattle.map_promises.proofs.Tracing.{tracing-names}
 
 -- an answer that is no arrival
@@ -52,9 +49,7 @@ module _ (map : Map) (kept : keepsRules map ≡ true) where
   g = good map kept
 
   pub lines-share : LpcLinesShare map
-  lines-share n l p =
-      let w = lpc-line map kept n l p in
-      (bioAt said (w .0), w .2, w .3 ∙ sym (pin-routed map kept (w .0) (said .lpc .cascade) (w .1 .0) (w .1 .1)))
+  lines-share p = let w = g .behind p in (w .0, w .1, λ n l. lpc-line map kept n l p (w .0) (w .1))
 
   -- ---- there and back
   back-lio : (n v k : ℕ) → 16 ≤ n → n < 48 → routeOf map n ≡ Arrives v k → Tells n (traceOf map v k)
@@ -92,21 +87,16 @@ module _ (map : Map) (kept : keepsRules map ≡ true) where
       (λ w. absurd (not-arrived v k (rw (routed map kept n, owner-bio said n a, w .1) at q)))
       (found-or-not noBio (owns n) (λ b. BioInput (b .node) (n - b .base)) Nobody (said .bios))
 
-  pin-is-lpc : (j : ℕ) → said .lpc .present ≡ true → bridge (said .bios) ≡ Is (bioAt said j)
-      → pinTold said (said .lpc .cascade) (bioAt said j) ≡ LpcCascade (bioAt said j .base + said .lpc .cascade)
-  unfolding pinTold isLpcPin isBridge if
-  pin-is-lpc j p e = rw (p, eq-eqb (said .lpc .cascade) (said .lpc .cascade) refl, e, eq-eqb (bioAt said j .node) (bioAt said j .node) refl)
-
   back-lpc : (n v k : ℕ) → n < 16 → routeOf map n ≡ Arrives v k
-      → (b : Bio) × (bridge (said .bios) ≡ Is b) × (traceOf map v k ≡ LpcCascade (b .base + said .lpc .cascade))
+      → (j : ℕ) × IsBehind said j × (traceOf map v k ≡ LpcCascade (bioAt said j .base + said .lpc .cascade))
   unfolding arrivalOf
   back-lpc n v k l q =
       ⊎-elim
       (λ p. absurd (not-arrived v k (rw (routed map kept n, owner-nobody said n l p) at q)))
       (λ p.
-      let w = lpc-line map kept n l p in
-      let t = tracing-names map kept (pin (w .0) (said .lpc .cascade)) v k (w .1) .0 (sym (w .3) ∙ q) in
-      (bioAt said (w .0), w .2, t ∙ sym (pin-told said g (w .0) (w .1 .0) (said .lpc .cascade)) ∙ pin-is-lpc (w .0) p (w .2)))
+      let w = g .behind p in
+      let t = tracing-names map kept (pin (w .0) (said .lpc .cascade)) v k (w .1 .0) .0 (sym (lpc-line map kept n l p (w .0) (w .1)) ∙ q) in
+      (w .0, w .1, t ∙ yes-if _ _ _ (rw (p, eq-eqb (said .lpc .cascade) (said .lpc .cascade) refl) (w .1 .1))))
       (is-bool (said .lpc .present))
 
   pub there-back : ThereAndBack map

@@ -3,30 +3,30 @@ use Prim.Native.Nat.{ℕ, _+_, _<_, _≤_}
 use native.Mathlib.Omega.{arith}
 use mathlib.Core.Path.{_≡_, refl, sym, _∙_, ap, ap₂}
 use mathlib.Core.Logic.{_⊎_, inl, inr, ⊎-elim}
-use mathlib.Core.Bool.{Bool, true, false, _||_}
-use borrow.Author.Tests.{eqb-true, eq-eqb, leb-true, ltb-true, le-leb, lt-ltb}
+use mathlib.Core.Bool.{Bool, true, false, not, _&&_, _||_}
+use borrow.Author.Tests.{eqb-true, eq-eqb, ne-eqb, leb-true, ltb-true, le-leb, lt-ltb}
 use lib.Dec.{eqb, leb, ltb}
-use lib.ListN.{length}
+use lib.ListN.{length, getD, take, length-take}
+use lib.Seq.{getD-take}
 use Rattle.words.specs.Choice.{if}
 use Rattle.words.proofs.Choices.{yes-if, no-if}
 use Rattle.kinds.specs.Used.{noEio, noBio, noMsi}
 use Rattle.kinds.specs.declared.Half.{Half}
 use Rattle.clashes.proofs.Logic.{and-left, and-right, or-cases, both-true, left-true, right-true, is-false}
-use Rattle.parts.specs.Inputs.{hasBit, leads, hasSlot, hasPin}
+use Rattle.parts.specs.Inputs.{hasBit, leads, hasSlot, hasPin, isBridge}
 use Rattle.lines.specs.Says.{Said, says}
 use Rattle.lines.specs.Routes.{lioArrival}
-use Rattle.lines.specs.Traces.{slotTold, pinTold, landed, eioTraced, traced}
+use Rattle.lines.specs.Traces.{slotTold, isLpcPin, pinTold, landed, eioTraced, traced}
 use Rattle.lines.specs.Rules.{keepsRules}
 use Rattle.lines.specs.Answers.{traceOf}
 use Rattle.lines.specs.declared.Map.{Map}
 use Rattle.lines.specs.declared.Route.the-variants.{Arrives}
 use Rattle.lines.specs.declared.Trace.the-variants.{Nothing, LioInput, BioInput, LpcCascade, MsiSlot}
-use Rattle.map_promises.specs.Sources.{Source, input, pin, slot, eioAt, bioAt, msiAt, IsSource, arrives, isShared, name}
+use Rattle.map_promises.specs.Sources.{Source, input, pin, slot, eioAt, bioAt, msiAt, IsSource, arrives, isLpcBridge, isShared, name}
 use Rattle.map_promises.specs.Statements.{TracingNames, Arrived, NothingExactly}
-use Rattle.map_promises.proofs.Bridges.{pin-told}
 use Rattle.map_promises.proofs.Kept.{Good, good, eio-node, eio-core, eio-not-lio, bio-node, bio-number, bio-msi, msi-slot}
-use Rattle.map_promises.proofs.Logic.{is-bool, both-bits, bit-used}
-use Rattle.map_promises.proofs.Members.{finds, finds-none, found-or-not}
+use Rattle.map_promises.proofs.Logic.{is-bool, same-bool, both-bits, bit-used}
+use Rattle.map_promises.proofs.Members.{at-every, finds, finds-none, found-or-not}
 use Rattle.map_promises.proofs.NoTwoAlike.{input-at, through-at, pin-at}
 
 -- a half leads an input
@@ -67,14 +67,35 @@ module _ (said : Said) (g : Good said) where
   unfolding traced
   traced-eio e k l = no-if _ _ _ (not-led e k l) (eio-at e k l)
 
+  -- a BIO of the LPC's node is its bridge, since by 52 no other has that node
+  is-lpc-bridge : (j : ℕ) → j < length (said .bios) → isBridge (said .lpc) (bioAt said j) ≡ isLpcBridge said j
+  is-lpc-bridge j there =
+      same-bool _ _
+      (λ t. both-true (isBridge (said .lpc) (bioAt said j)) _ t (at-every noBio (λ b. not (isBridge (said .lpc) b)) (take j (said .bios)) (earlier (eqb-true _ _ t))))
+      (and-left (isBridge (said .lpc) (bioAt said j)) _)
+    where
+      earlier : bioAt said j .node ≡ said .lpc .node
+          → (i : ℕ) → i < length (take j (said .bios)) → not (isBridge (said .lpc) (getD (take j (said .bios)) i noBio)) ≡ true
+      earlier own i k =
+          let l : i < j = omega (arith, length-take j (said .bios)) in
+          let e : getD (take j (said .bios)) i noBio ≡ bioAt said i = getD-take j (said .bios) i noBio l in
+          rw (e, ne-eqb (bioAt said i .node) (said .lpc .node) (λ z. let o : i ≡ j = bio-node said g i j (omega arith) there (z ∙ sym own) in omega arith))
+
+  -- a pin is told by its name
+  pin-told : (j v : ℕ) → j < length (said .bios) → pinTold (said .lpc) v (bioAt said j) ≡ name said (pin j v)
+  unfolding pinTold isLpcPin
+  pin-told j v there =
+      ap (λ (t : Bool). if (said .lpc .present && eqb (said .lpc .cascade) v && t) (LpcCascade (bioAt said j .base + v)) (BioInput (bioAt said j .base + v)))
+      (is-lpc-bridge j there)
+
   -- a pin lands on the EIO of its bridge's node
-  landed-pin : (j v : ℕ) → j < length (said .bios) → v < bioAt said j .pins → landed said (bioAt said j .node) v ≡ pinTold said v (bioAt said j)
+  landed-pin : (j v : ℕ) → j < length (said .bios) → v < bioAt said j .pins → landed said (bioAt said j .node) v ≡ pinTold (said .lpc) v (bioAt said j)
   unfolding landed hasPin
   landed-pin j v k l =
-      finds noBio (hasPin (bioAt said j .node) v) (pinTold said v) (slotTold (said .msis) (bioAt said j .node) v) (said .bios) j k
+      finds noBio (hasPin (bioAt said j .node) v) (pinTold (said .lpc) v) (slotTold (said .msis) (bioAt said j .node) v) (said .bios) j k
       (both-true (eqb (bioAt said j .node) (bioAt said j .node)) (ltb v (bioAt said j .pins)) (eq-eqb (bioAt said j .node) _ refl) (lt-ltb v (bioAt said j .pins) l))
       (λ i h t.
-      ap (λ n. pinTold said v (bioAt said n))
+      ap (λ n. pinTold (said .lpc) v (bioAt said n))
       (bio-node said g i j h k (eqb-true _ _ (and-left (eqb (bioAt said i .node) (bioAt said j .node)) (ltb v (bioAt said i .pins)) t))))
 
   -- a slot is on every EIO
@@ -89,7 +110,7 @@ module _ (said : Said) (g : Good said) where
       → landed said node s ≡ MsiSlot node s
   unfolding landed hasPin
   landed-slot m s node k p q =
-      finds-none noBio (hasPin node s) (pinTold said s) (slotTold (said .msis) node s) (said .bios)
+      finds-none noBio (hasPin node s) (pinTold (said .lpc) s) (slotTold (said .msis) node s) (said .bios)
       (λ j h t. bio-msi said g j m s h k (ltb-true s (bioAt said j .pins) (and-right (eqb (bioAt said j .node) node) (ltb s (bioAt said j .pins)) t)) p q)
       ∙ slot-at m s node k p q
 
@@ -112,7 +133,7 @@ module _ (said : Said) (g : Good said) where
       let ev : eioAt said (w .0) .cascade ≡ v = cc in
       let ek : n ≡ k = cc in
       ap₂ (traced said) (sym ev) (sym ek) ∙ traced-eio (w .0) n (w .1) ∙ ap (λ a. landed said a n) (w .2) ∙ landed-pin j n (p .0) (p .1)
-      ∙ pin-told said g j (p .0) n
+      ∙ pin-told j n (p .0)
   names (slot m s e) v k p q =
       let ev : eioAt said e .cascade ≡ v = cc in
       let ek : s ≡ k = cc in
@@ -170,7 +191,7 @@ module _ (said : Said) (g : Good said) where
         through-at said g e (bioAt said (w .0) .node) k l (sym node) ∙ ap (λ n. Arrives n k) q,
       ))
       (λ w. ⊎-elim inl (λ z. inr (w .1 ∙ z)) (of-slot e v k l q))
-      (found-or-not noBio (hasPin (eioAt said e .node) k) (pinTold said k) (slotTold (said .msis) (eioAt said e .node) k) (said .bios))
+      (found-or-not noBio (hasPin (eioAt said e .node) k) (pinTold (said .lpc) k) (slotTold (said .msis) (eioAt said e .node) k) (said .bios))
 
   pub source-or-nothing : (v k : ℕ) → Arrived said v k ⊎ (traced said v k ≡ Nothing)
   unfolding traced eioTraced

@@ -6,7 +6,7 @@ use lib.Dec.{eqb}
 use Rattle.words.specs.Choice.{if}
 use Rattle.words.proofs.Choices.{yes-if, no-if, if-cases}
 use Rattle.kinds.specs.Ranges.{halfFits}
-use Rattle.kinds.specs.Used.{noHalf, usedHalf, saidLio, saidLpc}
+use Rattle.kinds.specs.Used.{noHalf, usedHalf, saidLio, noLpc, saidLpc}
 use Rattle.kinds.specs.declared.Half.{Half}
 use Rattle.kinds.specs.declared.Lio.{Lio}
 use Rattle.kinds.specs.declared.Lpc.{Lpc}
@@ -61,8 +61,6 @@ lio-unused x false p e =
     let high : x .high ≡ noHalf = ap (λ (y : Lio). y .high) (sym z) in
     ((λ m. ap (λ (h : Half). h .cascade) low), (λ m. ap (λ (h : Half). h .cascade) high), λ q. (low, high))
 
-pub lpc-unused : (x : Lpc) → saidLpc x ≡ x → x .present ≡ false → x .cascade ≡ 0
+pub lpc-unused : (x : Lpc) → saidLpc x ≡ x → x .present ≡ false → x ≡ noLpc
 unfolding saidLpc
-lpc-unused x e p =
-    let z : record { present = false; cascade = 0 } ≡ x = sym (no-if _ _ _ p refl) ∙ e in
-    ap (λ (y : Lpc). y .cascade) (sym z)
+lpc-unused x e p = sym e ∙ no-if _ _ _ p refl

@@ -19,7 +19,7 @@ use Rattle.clashes.specs.declared.Pair.{Pair}
 use Rattle.clashes.specs.declared.Pair.the-variants.{Two, None}
 use Rattle.clashes.proofs.Logic.{or-neither}
 use Rattle.lines.specs.Says.{Said}
-use Rattle.lines.specs.Routes.{bridge, arrival}
+use Rattle.lines.specs.Routes.{arrival}
 use Rattle.clashes.specs.Told.{atLater, atBoth, spotted}
 use Rattle.lines.specs.Rules.{rule40, noBridge, noInput, lost, rulesTo45, rulesFrom51, mapRules}
 use Rattle.lines.specs.declared.Places.{Places}
@@ -119,10 +119,10 @@ module _ (said : Said) (places : Places) (madt fadt : ℕ) where
   own (suc zero) n p q h = let w = later-told 41 n p q _ h in one (w .0) (w .1)
   own (suc (suc zero)) n p q h = let w = spotted-told 42 n p q _ h in one (w .0) (w .1)
   own (suc (suc (suc zero))) n p q h =
-      let w = rule-read (noBridge (said .lpc .present) (bridge (said .bios))) 43 (places .lpc) n p q h in
+      let w = rule-read (noBridge (said .lpc) (said .bios)) 43 (places .lpc) n p q h in
       one (w .0) (w .1)
   own (suc (suc (suc (suc zero)))) n p q h =
-      let w = rule-read (noInput (said .lpc) (bridge (said .bios))) 45 (places .lpc) n p q h in
+      let w = rule-read (noInput (said .lpc) (said .bios)) 45 (places .lpc) n p q h in
       one (w .0) (w .1)
   own (suc (suc (suc (suc (suc zero))))) n p q h = two (omega arith) (omega arith) (both-told 51 n p q _ h .0)
   own (suc (suc (suc (suc (suc (suc zero)))))) n p q h = two (omega arith) (omega arith) (both-told 52 n p q _ h .0)

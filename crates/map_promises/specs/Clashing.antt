@@ -1,4 +1,4 @@
--- What two structures may not share, and what is told of it: document 01, "Refusals in order", 41, 42 and 51 to 53, each by
+-- What two structures may not share, and what is told of it: document 01, "Refusals in order", 41 to 43 and 51 to 53, each by
 -- itself, with 45 of W-212 of document 02, and the second place that W-202 gives to 51 to 53. The sharing is said of sources and controllers, not of
 -- claims. Each statement at the end stands alone; proofs/Clashing.antt has a theorem for it.
 use Prim.Native.Nat.{ℕ, _<_, _≤_}
@@ -9,15 +9,12 @@ use lib.ListN.{length}
 use Rattle.words.specs.Refusals.{refusedWith}
 use Rattle.words.specs.declared.Verdict.the-variants.{Sound, Refused}
 use Rattle.kinds.specs.Ranges.{bitInBoth}
-use Rattle.kinds.specs.declared.Bio.{Bio}
 use Rattle.lines.specs.Says.{Said, says}
-use Rattle.lines.specs.Routes.{bridge}
 use Rattle.lines.specs.Claims.{claims}
 use Rattle.lines.specs.Rules.{tooMany, rangesKept, rule40, rule41, rule42, rule43, rule45, firstBroken}
 use Rattle.lines.specs.declared.Map.{Map}
 use Rattle.lines.specs.declared.Places.{Places}
-use Rattle.lines.specs.declared.Bridge.the-variants.{Is}
-use Rattle.map_promises.specs.Sources.{Source, input, pin, slot, eioAt, bioAt, IsSource, HasNumber, LandsOn}
+use Rattle.map_promises.specs.Sources.{Source, input, pin, slot, eioAt, bioAt, IsSource, isLpcBridge, HasNumber, LandsOn}
 use Rattle.map_promises.specs.Structures.{Structure, lio, eio, bio, msi, IsIn, placeOf, Placed}
 
 -- ---- what a structure has
@@ -88,9 +85,14 @@ IsLone said j =
 abbrev pub LoneBio : Said → Type 0
 LoneBio said = (j : ℕ) × IsLone said j
 
+-- 43: the LPC has "no such BIO", whatever others there are
+abbrev pub NoBridge : Said → Type 0
+NoBridge said = (said .lpc .present ≡ true) × ((j : ℕ) → j < length (said .bios) → bioAt said j .node ≡ said .lpc .node → ⊥)
+
 -- 45: the LPC has "a cascade at or past its bridge's count"
 abbrev pub NoInput : Said → Type 0
-NoInput said = (said .lpc .present ≡ true) × (b : Bio) × (bridge (said .bios) ≡ Is b) × (b .pins ≤ said .lpc .cascade)
+NoInput said =
+    (said .lpc .present ≡ true) × (j : ℕ) × (j < length (said .bios)) × (isLpcBridge said j ≡ true) × (bioAt said j .pins ≤ said .lpc .cascade)
 
 -- 51: "two sources share a global number"
 abbrev pub TwoNumber : Said → Type 0
@@ -134,7 +136,7 @@ pub record NamesLone (said : Said) (places : Places) (p : ℕ) : Type 0 where
   pub at : placeOf places (bio j) ≡ p
   pub first : (i : ℕ) → IsLone said i → p ≤ placeOf places (bio i)
 
--- 41 and 42 tell one place: "all others carry 0"
+-- 41 to 45 tell one place: "all others carry 0"
 abbrev pub OnePlace : (ℕ → Type 0) → ℕ → ℕ → Type 0
 OnePlace Named p q = Named p × (q ≡ 0)
 
@@ -146,11 +148,15 @@ pub record KeepsTo40 (map : Map) (madt : ℕ) : Type 0 where
   pub r38 : tooMany map ≡ false
   pub r40 : rule40 (says map) madt ≡ Sound
 
--- no rule below 45 is broken
-pub record KeepsTo43 (map : Map) (places : Places) (madt : ℕ) : Type 0 where
+-- no rule below 43 is broken
+pub record KeepsTo42 (map : Map) (places : Places) (madt : ℕ) : Type 0 where
   pub to40 : KeepsTo40 map madt
   pub r41 : rule41 (claims (says map) places) ≡ Sound
   pub r42 : rule42 (claims (says map) places) ≡ Sound
+
+-- no rule below 45 is broken
+pub record KeepsTo43 (map : Map) (places : Places) (madt : ℕ) : Type 0 where
+  pub to42 : KeepsTo42 map places madt
   pub r43 : rule43 (says map) (places .lpc) ≡ Sound
 
 -- no rule below 51 is broken
@@ -182,6 +188,12 @@ abbrev pub LoneExactly : Map → Places → ℕ → ℕ → Type 0
 LoneExactly map places madt fadt =
     Placed (says map) places → KeepsTo40 map madt
     → Exactly (RefusedWith map places madt fadt 42) ((TwoNode (says map) → ⊥) × LoneBio (says map)) (OnePlace (NamesLone (says map) places))
+
+-- 43: exactly when there is an LPC, and no BIO has its node; the LPC is named
+abbrev pub BridgeExactly : Map → Places → ℕ → ℕ → Type 0
+BridgeExactly map places madt fadt =
+    KeepsTo42 map places madt
+    → Exactly (RefusedWith map places madt fadt 43) (NoBridge (says map)) (OnePlace (λ p. p ≡ places .lpc))
 
 -- 45: exactly when there is an LPC, and the input of its cascade is none that its bridge has; the LPC is named
 abbrev pub InputExactly : Map → Places → ℕ → ℕ → Type 0

@@ -44,11 +44,15 @@ bio node base = shortBio node base 64
 abbrev pub msi : ℕ → ℕ → Msi
 msi start count = record { start = start; count = count }
 
+-- an LPC by its cascade, behind the bridge of node 0 or of another
+abbrev pub lpcOn : ℕ → ℕ → Lpc
+lpcOn node cascade = record { present = true; node = node; cascade = cascade }
+
 abbrev pub lpc : ℕ → Lpc
-lpc cascade = record { present = true; cascade = cascade }
+lpc = lpcOn 0
 
 abbrev pub absentLpc : ℕ → Lpc
-absentLpc cascade = record { present = false; cascade = cascade }
+absentLpc cascade = record { present = false; node = 9; cascade = cascade }
 
 -- ---- maps that differ from board A's in one kind: by a count and an array, or by what is used
 abbrev pub used : {A : Type 0} → A → List A → ℕ × List A
@@ -114,6 +118,13 @@ withPins pins = holding lioA eiosA (bios (shortBio 0 64 pins ∷ []))
 -- two EIO, of nodes 0 and 5
 abbrev pub onTwo : ℕ × List Bio → ℕ × List Msi → Map
 onTwo bios msis = holding lioA (eios (eio 3 0 ∷ eio 4 5 ∷ [])) bios msis (lpc 19) 75
+
+-- with a bridge on each
+abbrev pub behindEither : ℕ × List Bio → Lpc → ℕ → Map
+behindEither bios = holding lioA (eios (eio 3 0 ∷ eio 4 5 ∷ [])) bios msisA
+
+abbrev pub twoBridges : Lpc → ℕ → Map
+twoBridges = behindEither (bios (bio 0 64 ∷ bio 5 128 ∷ []))
 
 -- four of each kind that may repeat, with other counts
 abbrev pub counting : ℕ → ℕ → ℕ → Map
@@ -203,8 +214,10 @@ brokenAlone =
     ∷ no72 (withEios (eios (eio 3 0 ∷ eio 4 0 ∷ [])))
     ∷ no72 (withBios (bios (bio 0 64 ∷ bio 9 128 ∷ [])))
     ∷ no26 (holding lioA eiosA (bios []) msisA (lpc 19) 26)
+    ∷ no26 (twoBridges (lpcOn 3 19) 26)
     -- 45
     ∷ no26 (withPins 19 msisA (lpc 19) 26)
+    ∷ no26 (behindEither (bios (bio 0 64 ∷ shortBio 5 128 19 ∷ [])) (lpcOn 5 19) 26)
     ∷ example (withPins 20 msisA (lpc 19) 26) (number 3) (routed (Arrives 3 19))
     -- 51 to 54
     ∷ no72 (onTwo (bios (bio 0 64 ∷ bio 5 127 ∷ [])) msisA)
@@ -235,6 +248,23 @@ fewerPins =
     ∷ example behind32 (arrival 4 0) (traced (BioInput 96))
     ∷ []
 
+-- ---- "On a two-bridge server the LPC sat on node 5, and we showed it on node 0" (W-208 of document 02)
+unfoldable pub rightBridge : List Example
+rightBridge =
+    example (twoBridges (lpcOn 5 19) 75) (number 3) (routed (Arrives 4 19))
+    ∷ example (twoBridges (lpcOn 5 19) 75) (arrival 4 19) (traced (LpcCascade 147))
+    ∷ example (twoBridges (lpcOn 5 19) 75) (arrival 3 19) (traced (BioInput 83))
+    ∷ example (twoBridges (lpcOn 0 19) 75) (number 3) (routed (Arrives 3 19))
+    ∷ example (twoBridges (lpcOn 0 19) 75) (arrival 3 19) (traced (LpcCascade 83))
+    ∷ example (twoBridges (lpcOn 0 19) 75) (arrival 4 19) (traced (BioInput 147))
+    -- the SCI is an LPC line
+    ∷ example (twoBridges (lpcOn 5 19) 3) (number 3) (routed (Arrives 4 19))
+    -- no base gives a node over 15, a map may hold it
+    ∷ example (holding lioA (eios (eio 3 63 ∷ [])) (bios (bio 63 64 ∷ [])) msisA (lpcOn 63 19) 75) (number 3) (routed (Arrives 3 19))
+    -- the other bridge may be a short one
+    ∷ example (behindEither (bios (shortBio 0 64 10 ∷ bio 5 128 ∷ [])) (lpcOn 5 19) 26) (number 3) (routed (Arrives 4 19))
+    ∷ []
+
 -- ---- "its unused places … hold 0, and 61 doesn't look at them": nor does any answer
 unfoldable pub unusedPlaces : List Example
 unusedPlaces =
@@ -260,7 +290,15 @@ firstNamed =
     ∷ names (withEios (eios (eio 3 0 ∷ eio 3 0 ∷ []))) (at 207 230 243 262) 41 294 0
     ∷ names (withBios (bios (bio 9 64 ∷ []))) (at 207 230 243 262) 42 262 0
     ∷ names (withBios (bios [])) (at 207 230 243 262) 43 279 0
-    -- 45, behind 42 and before 51, by the count of the LPC's own bridge
+    -- 43 where others are there, behind 42 and before 45
+    ∷ names (withLpc (lpcOn 5 19)) (at 207 230 243 262) 43 279 0
+    ∷ names (twoBridges (lpcOn 3 19) 75) (at 207 230 243 262) 43 279 0
+    ∷ names (holding lioA eiosA (bios (shortBio 0 64 10 ∷ [])) msisA (lpcOn 5 19) 45) (at 207 230 243 262) 43 279 0
+    ∷ names (holding lioA eiosA (bios (bio 9 64 ∷ [])) msisA (lpcOn 5 19) 75) (at 207 230 243 262) 42 262 0
+    -- 45, behind 42 and before 51, by the count of the LPC's own bridge, "the earliest of equals"
+    ∷ names (behindEither (bios (bio 0 64 ∷ shortBio 5 128 19 ∷ [])) (lpcOn 5 19) 75) (at 207 230 243 262) 45 279 0
+    ∷ names (withBios (bios (shortBio 0 64 19 ∷ bio 0 128 ∷ []))) (at 207 230 243 262) 45 279 0
+    ∷ names (withBios (bios (bio 0 64 ∷ shortBio 0 128 19 ∷ []))) (at 207 230 243 262) 52 314 262
     ∷ names (withBios (bios (shortBio 9 64 19 ∷ []))) (at 207 230 243 262) 42 262 0
     ∷ names (withPins 19 msisA (lpc 19) 26) (at 207 230 243 262) 45 279 0
     ∷ names (withBios (bios (shortBio 0 64 19 ∷ shortBio 0 64 19 ∷ []))) (at 207 230 243 262) 45 279 0

@@ -4,7 +4,7 @@
 use Prim.Native.Nat.{ℕ, _+_, _<_, _≤_}
 use mathlib.Core.Bool.{Bool, true, not, _&&_}
 use mathlib.Core.Path.{_≡_}
-use lib.Dec.{eqb, leb}
+use lib.Dec.{eqb}
 use lib.ListN.{length, getD, take}
 use Rattle.words.specs.Choice.{if}
 use Rattle.words.specs.Lists.{every}
@@ -50,17 +50,20 @@ arrives said (input i) = lioArrival (said .lio) i
 arrives said (pin j v) = through (said .eios) (bioAt said j .node) v
 arrives said (slot m s e) = Arrives (eioAt said e .cascade) s
 
--- "Its BIO is the one with the smallest hardware ID, the earliest of equals": no bridge has a smaller one than the bridge at
--- place j, and no earlier one has the same
+-- "the LPC's bridge is the BIO whose hardware ID equals those bits of the LPC's base, the earliest of equals" (W-208 of document 02),
+-- and the LPC's node is those bits: the bridge at place j has that hardware ID, and no earlier one has it
 abbrev pub isLpcBridge : Said → ℕ → Bool
 isLpcBridge said j =
-    every (λ b. leb (bioAt said j .node) (b .node)) (said .bios)
-    && every (λ b. not (eqb (b .node) (bioAt said j .node))) (take j (said .bios))
+    eqb (bioAt said j .node) (said .lpc .node) && every (λ b. not (eqb (b .node) (said .lpc .node))) (take j (said .bios))
 
 -- "An LPC input arrives where the BIO input of the LPC's cascade does": there is an LPC, and pin v of the bridge at place j is
 -- that input
 abbrev pub isShared : Said → ℕ → ℕ → Bool
 isShared said j v = said .lpc .present && eqb (said .lpc .cascade) v && isLpcBridge said j
+
+-- the bridge at place j is the LPC's, and has that input
+abbrev pub IsBehind : Said → ℕ → Type 0
+IsBehind said j = IsSource said (pin j (said .lpc .cascade)) × (isLpcBridge said j ≡ true)
 
 -- what it is called: "a LIO input or a BIO input with its global number, the LPC cascade input (never told as a BIO input) with
 -- its global number, an MSI slot with its node"

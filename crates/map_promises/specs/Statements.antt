@@ -3,23 +3,22 @@ use Prim.Native.Nat.{ℕ, _+_, _^_, _<_, _≤_}
 use mathlib.Core.Bool.{true, false}
 use mathlib.Core.Logic.{_⊎_}
 use mathlib.Core.Path.{_≡_}
+use lib.ListN.{length}
 use Rattle.words.specs.Refusals.{refused}
 use Rattle.words.specs.declared.Refusal.{Refusal}
 use Rattle.words.specs.declared.Verdict.the-variants.{Sound}
 use Rattle.kinds.specs.Ranges.{bitInBoth}
-use Rattle.kinds.specs.declared.Bio.{Bio}
 use Rattle.lines.specs.Says.{Said, says, Same}
-use Rattle.lines.specs.Routes.{bridge}
 use Rattle.lines.specs.Rules.{rangesKept, firstBroken, keepsRules}
 use Rattle.lines.specs.Answers.{routeOf, traceOf, badMap, routeCode, traceCode}
 use Rattle.lines.specs.declared.Map.{Map}
 use Rattle.lines.specs.declared.Places.{Places}
-use Rattle.lines.specs.declared.Bridge.the-variants.{Is}
 use Rattle.lines.specs.declared.Route.{Route}
 use Rattle.lines.specs.declared.Route.the-variants.{Arrives, Unwired, NoOwner, Refused}
 use Rattle.lines.specs.declared.Trace.{Trace}
 use Rattle.lines.specs.declared.Trace.the-variants.{Nothing, LioInput, BioInput, LpcCascade, MsiSlot, Refused as NoTrace}
-use Rattle.map_promises.specs.Sources.{Source, IsSource, arrives, name}
+use Rattle.map_promises.specs.Sources.{Source, pin, bioAt, IsSource, arrives, isLpcBridge, IsBehind, name}
+use Rattle.map_promises.specs.Clashing.{NoBridge}
 use Rattle.map_promises.specs.Structures.{Placed}
 
 -- ---- demand 3: no two lines look alike
@@ -58,11 +57,20 @@ PlacesDoNotMatter map =
     × (keepsRules map ≡ true → firstBroken map places madt fadt ≡ Sound)
 
 -- ---- the LPC lines, and there and back
--- "The sixteen LPC lines count as the one pin that they share": each arrives where that pin does
+-- "The sixteen LPC lines count as the one pin that they share": it is one of the bridge of the LPC's node, and each line arrives where
+-- it does
 abbrev pub LpcLinesShare : Map → Type 0
 LpcLinesShare map =
-    (n : ℕ) → n < 16 → says map .lpc .present ≡ true
-    → (b : Bio) × (bridge (says map .bios) ≡ Is b) × (routeOf map n ≡ routeOf map (b .base + says map .lpc .cascade))
+    let said = says map in
+    said .lpc .present ≡ true
+    → (j : ℕ) × IsBehind said j × ((n : ℕ) → n < 16 → routeOf map n ≡ arrives said (pin j (said .lpc .cascade)))
+
+-- W-208 of document 02 changes nothing where all bridges have the LPC's node: the first of them is the LPC's, and it lacks one only where
+-- there is none at all
+abbrev pub OneNodeAsBefore : Said → Type 0
+OneNodeAsBefore said =
+    ((j : ℕ) → j < length (said .bios) → bioAt said j .node ≡ said .lpc .node)
+    → (0 < length (said .bios) → isLpcBridge said 0 ≡ true) × (NoBridge said → length (said .bios) ≡ 0)
 
 -- a trace tells the global number n
 abbrev pub Tells : ℕ → Trace → Type 0
@@ -73,7 +81,7 @@ abbrev pub ThereAndBack : Map → Type 0
 ThereAndBack map =
     (n vector number : ℕ) → routeOf map n ≡ Arrives vector number
     → (16 ≤ n → Tells n (traceOf map vector number))
-    × (n < 16 → (b : Bio) × (bridge (says map .bios) ≡ Is b) × (traceOf map vector number ≡ LpcCascade (b .base + says map .lpc .cascade)))
+    × (n < 16 → (j : ℕ) × IsBehind (says map) j × (traceOf map vector number ≡ LpcCascade (bioAt (says map) j .base + says map .lpc .cascade)))
 
 -- ---- 61
 -- a map that breaks a rule is refused with 61 at place 0, whatever is asked; one that keeps them is never refused

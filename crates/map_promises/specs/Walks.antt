@@ -1,10 +1,11 @@
 -- What is promised of the walk of a MADT: what it finds is a map in good order. Each statement stands alone; proofs/ has a
 -- theorem of the same name for it.
-use Prim.Native.Nat.{ℕ, _+_, _≤_}
+use Prim.Native.Nat.{ℕ, _+_, _/_, _≤_}
 use mathlib.Core.Bool.{true, false}
 use mathlib.Core.List.{List, _∷_, _++_}
 use mathlib.Core.Path.{_≡_}
 use lib.ListN.{length, getD}
+use Rattle.words.specs.Bytes.{AllBytes, byteAt}
 use Rattle.words.specs.declared.Verdict.the-variants.{Sound}
 use Rattle.kinds.specs.Ranges.{bitInBoth}
 use Rattle.kinds.specs.Makers.{lioOf, eioOf, msiOf, bioOf, lpcOf}
@@ -44,6 +45,11 @@ WalkInTableOrder table base sci pins =
     walked table base sci pins .verdict ≡ Sound
     → InTableOrder base pins (structures (pieces table 44)) (walked table base sci pins .found .map) (walked table base sci pins .found .places)
 
+-- ---- "the node in address bits 44 to 47" (W-208 of document 02)
+-- byte 8 of an LPC is the sixth of its base, with bits 40 to 47: the node is its upper half, and nothing else of the base is looked at
+abbrev pub NodeOfBase : List ℕ → Type 0
+NodeOfBase s = AllBytes s → lpcOf s .node ≡ byteAt s 8 / 16
+
 -- ---- "The map's BIO gets this count" (W-212 of document 02)
 -- two ways to tell how many inputs the bridges with a hardware ID have agree on each BIO of some structures
 abbrev pub SamePins : List Whole → (ℕ → ℕ) → (ℕ → ℕ) → Type 0
@@ -68,7 +74,7 @@ pub record Normal (map : Map) : Type 0 where
   pub low : map .lio .low .mask ≡ 0 → map .lio .low .cascade ≡ 0
   pub high : map .lio .high .mask ≡ 0 → map .lio .high .cascade ≡ 0
   pub nolio : map .lio .present ≡ false → (map .lio .low ≡ noHalf) × (map .lio .high ≡ noHalf)
-  pub nolpc : map .lpc .present ≡ false → map .lpc .cascade ≡ 0
+  pub nolpc : map .lpc .present ≡ false → map .lpc ≡ noLpc
 
 -- nothing that is unused was forgotten there: normal maps that are the same map are equal
 abbrev pub NormalMapsEqual : Map → Map → Type 0

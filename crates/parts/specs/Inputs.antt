@@ -2,11 +2,11 @@
 use Prim.Native.Nat.{ℕ, _+_, _/_, _%_, _^_}
 use mathlib.Core.Bool.{Bool, _&&_, _||_}
 use lib.Dec.{eqb, leb, ltb}
-use Rattle.words.specs.Choice.{if}
 use Rattle.kinds.specs.declared.Half.{Half}
 use Rattle.kinds.specs.declared.Lio.{Lio}
 use Rattle.kinds.specs.declared.Bio.{Bio}
 use Rattle.kinds.specs.declared.Msi.{Msi}
+use Rattle.kinds.specs.declared.Lpc.{Lpc}
 
 -- bit i of a mask of 32 inputs
 unfoldable pub hasBit : ℕ → ℕ → Bool
@@ -28,10 +28,11 @@ hasSlot slot msi = leb (msi .start) slot && ltb slot (msi .start + msi .count)
 abbrev pub owns : ℕ → Bio → Bool
 owns number bio = leb (bio .base) number && ltb number (bio .base + bio .pins)
 
--- "the one with the smallest hardware ID, the earliest of equals", of two
-unfoldable pub lesser : Bio → Bio → Bio
-lesser b c = if (ltb (c .node) (b .node)) c b
-
 -- a BIO has an input v, and lands it on the EIO of a node
 unfoldable pub hasPin : ℕ → ℕ → Bio → Bool
 hasPin node v bio = eqb (bio .node) node && ltb v (bio .pins)
+
+-- "the LPC's bridge is the BIO whose hardware ID equals those bits of the LPC's base, the earliest of equals", where the map keeps those
+-- bits as the LPC's node (W-208 of document 02): a BIO has that hardware ID
+abbrev pub isBridge : Lpc → Bio → Bool
+isBridge lpc bio = eqb (bio .node) (lpc .node)

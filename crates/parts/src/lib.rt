@@ -7,9 +7,10 @@ use kinds::Bio;
 use kinds::Eio;
 use kinds::Half;
 use kinds::Lio;
+use kinds::Lpc;
 use kinds::Msi;
 ghost use mathlib.Core.Path.{_≡_};
-ghost use Rattle.parts.specs.Inputs.{hasBit, leads, hasSlot, owns, lesser, hasPin};
+ghost use Rattle.parts.specs.Inputs.{hasBit, leads, hasSlot, owns, hasPin, isBridge};
 ghost use Rattle.parts.specs.Claims.{lioClaim, eioClaim, bioClaim, msiClaim};
 
 // The inputs of the LIO.
@@ -47,18 +48,18 @@ pub fn owns_number(bio: Bio, number: u32) -> bool
     (base <= number) & (number < base + bio.pins as u32)
 }
 
-// The BIO with the smaller hardware ID, the earlier of equals.
-pub fn lesser_of(b: Bio, c: Bio) -> Bio
-    ensures { λ r. ⌜ r ≡ lesser b c ⌝ }
-{
-    if c.node < b.node { c } else { b }
-}
-
 // Whether a BIO has an input v, on the EIO of a node.
 pub fn has_pin(bio: Bio, node: u8, v: u32) -> bool
     ensures { λ r. ⌜ r ≡ hasPin node v bio ⌝ }
 {
     (bio.node == node as u16) & (v < bio.pins as u32)
+}
+
+// Whether a BIO has the hardware ID of the LPC's bridge.
+pub fn is_bridge(lpc: Lpc, bio: Bio) -> bool
+    ensures { λ r. ⌜ r ≡ isBridge lpc bio ⌝ }
+{
+    bio.node == lpc.node
 }
 
 // ---- what each structure claims

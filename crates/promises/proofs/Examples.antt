@@ -26,12 +26,12 @@ use Rattle.clashes.specs.Folds.{fold}
 use Rattle.clashes.specs.Rules.{clash}
 use Rattle.clashes.specs.Search.{sooner, nearer, partner, better, firstClash, lonelier, firstLone}
 use Rattle.clashes.specs.Told.{atLater, atBoth, spotted}
-use Rattle.parts.specs.Inputs.{hasBit, lesser, hasPin}
+use Rattle.parts.specs.Inputs.{hasBit, hasPin}
 use Rattle.lines.specs.Answers.{routeOf, traceOf}
 use Rattle.lines.specs.Claims.{placed, claims}
-use Rattle.lines.specs.Routes.{lioArrival, through, bridge, pinArrival, bioOwner, owner, arrivalOf, arrival}
+use Rattle.lines.specs.Routes.{lioArrival, through, bioOwner, owner, arrivalOf, arrival}
 use Rattle.lines.specs.Rules.{eiosFit, biosFit, msisFit, rangesKept, noBridge, noInput, lost, rulesTo45, rulesFrom51, mapRules, firstBroken, keepsRules}
-use Rattle.lines.specs.Traces.{slotTold, isBridge, isLpcPin, pinTold, landed, eioTraced, traced}
+use Rattle.lines.specs.Traces.{slotTold, isLpcPin, pinTold, landed, eioTraced, traced}
 use Rattle.madt.specs.Pieces.{pieceAt, piecesFrom, pieces, structures}
 use Rattle.madt.specs.Rules.{isType, isKnown, lengthOf, wrongLength as wrongStructureLength, wrongVersion as wrongStructureVersion, isHt, wrongFlags as reservedFlags, wrongCascade, wrongNode, wrongNodes, wrongCount as noSlots, wrongEnd, wrongBase, wrongInput, sharedBit, oneTooMany, structureRules}
 use Rattle.madt.specs.Contents.{ofType, made, standing, bridgeOf, mapOf, placesOf, isEnabledCore, enabledCores, foundIn}
@@ -50,7 +50,7 @@ use Rattle.promises.specs.Examples.{told, twelve, TwelveExamples, BoardA
 
 -- the scan, with all that it and the answers are computed by
 unfoldable computed : Strictness → List ℕ → Scan
-unfolding if unless firstRefusal inEach first every fold numberAt spelled total byteSum numbersFrom numbersBelow version segmentCount totalLength rsdpAddress headerSize descriptor descriptorsEnd segmentAddress segmentLength segments lengths segmentPlace isPresent placeOf goesOn runEnd holds placeIn located rsdpStretch rsdpPlace presenceRules wrongSize wrongMark wrongVersion wrongCount wrongTotal emptySegment endsPastMemory endBefore startsEarly segmentBroken segmentRules pairAt pairsOf tellsOf toldOf pinsOf pairBroken pairRules containerRules names namedFrom firstNamed namedAfter secondNamed rsdPtr wrongSignature wrongRevision wrongLength wrongSums rsdpRules xsdtField structureLength brokenAt stepAt apic facp isNowhere earlier secondRule nameRules lengthRules wrongMadtRevision wrongFlags madtFieldRules sciNumber withSci tableOfEntry madtOf fadtOf tablesFrom xsdtOf tablesOf rulesBefore29 surveyRules signature tableLength revision addressAt headerAt tableNamed cutShort wrongSum tableRules xsdtSignature notXsdt wrongXsdtRevision entryCount wrongBody xsdtRules entryField entries entryRules coreOf lioOf htOf eioOf msiOf bioOf lpcOf lioField eioField msiField bioField lpcField usedHalf saidLio saidLpc clash sooner nearer partner better firstClash lonelier firstLone hasBit lesser hasPin routeOf traceOf placed claims lioArrival through bridge pinArrival bioOwner owner arrivalOf arrival atLater atBoth spotted eiosFit biosFit msisFit rangesKept noBridge noInput lost rulesTo45 rulesFrom51 mapRules firstBroken isSound keepsRules slotTold isBridge isLpcPin pinTold landed eioTraced traced pieceAt piecesFrom pieces structures those isType isKnown lengthOf wrongStructureLength wrongStructureVersion isHt reservedFlags wrongCascade wrongNode wrongNodes noSlots wrongEnd wrongBase wrongInput sharedBit oneTooMany structureRules ofType made standing bridgeOf mapOf placesOf foundIn rulesInTurn walkRules turnedAway walked isEnabledCore enabledCores numbersOf processors count hasRoom written filled sharesWithOne repeatsId firstRepeating firstRepeat withoutMap answered madtFound readingOf listAfter madtBytes emptyMap turnedDown repeatRule processorRule madtRules lineRules rulesBefore51 allRules accepted scan
+unfolding if unless firstRefusal inEach first every fold numberAt spelled total byteSum numbersFrom numbersBelow version segmentCount totalLength rsdpAddress headerSize descriptor descriptorsEnd segmentAddress segmentLength segments lengths segmentPlace isPresent placeOf goesOn runEnd holds placeIn located rsdpStretch rsdpPlace presenceRules wrongSize wrongMark wrongVersion wrongCount wrongTotal emptySegment endsPastMemory endBefore startsEarly segmentBroken segmentRules pairAt pairsOf tellsOf toldOf pinsOf pairBroken pairRules containerRules names namedFrom firstNamed namedAfter secondNamed rsdPtr wrongSignature wrongRevision wrongLength wrongSums rsdpRules xsdtField structureLength brokenAt stepAt apic facp isNowhere earlier secondRule nameRules lengthRules wrongMadtRevision wrongFlags madtFieldRules sciNumber withSci tableOfEntry madtOf fadtOf tablesFrom xsdtOf tablesOf rulesBefore29 surveyRules signature tableLength revision addressAt headerAt tableNamed cutShort wrongSum tableRules xsdtSignature notXsdt wrongXsdtRevision entryCount wrongBody xsdtRules entryField entries entryRules coreOf lioOf htOf eioOf msiOf bioOf lpcOf lioField eioField msiField bioField lpcField usedHalf saidLio saidLpc clash sooner nearer partner better firstClash lonelier firstLone hasBit hasPin routeOf traceOf placed claims lioArrival through bioOwner owner arrivalOf arrival atLater atBoth spotted eiosFit biosFit msisFit rangesKept noBridge noInput lost rulesTo45 rulesFrom51 mapRules firstBroken isSound keepsRules slotTold isLpcPin pinTold landed eioTraced traced pieceAt piecesFrom pieces structures those isType isKnown lengthOf wrongStructureLength wrongStructureVersion isHt reservedFlags wrongCascade wrongNode wrongNodes noSlots wrongEnd wrongBase wrongInput sharedBit oneTooMany structureRules ofType made standing bridgeOf mapOf placesOf foundIn rulesInTurn walkRules turnedAway walked isEnabledCore enabledCores numbersOf processors count hasRoom written filled sharesWithOne repeatsId firstRepeating firstRepeat withoutMap answered madtFound readingOf listAfter madtBytes emptyMap turnedDown repeatRule processorRule madtRules lineRules rulesBefore51 allRules accepted scan
 computed strictness capture = scan strictness capture
 
 -- THE PROMISES

@@ -6,7 +6,7 @@ use mathlib.Core.Logic.{⊎-elim}
 use mathlib.Core.List.{List, List·Memᴰ}
 use mathlib.Core.Bool.{Bool, true, false, not, _||_, true≢false}
 use borrow.Author.Tests.{not-false}
-use lib.Dec.{eqb, ltb, leb}
+use lib.Dec.{eqb, ltb}
 use lib.ListN.{length}
 use Rattle.kinds.proofs.Used.{lio-present, lpc-present}
 use Rattle.clashes.specs.Rules.{lone}
@@ -17,22 +17,18 @@ use Rattle.clashes.specs.declared.Spot.{Spot}
 use Rattle.clashes.specs.declared.Spot.the-variants.{At, Nowhere}
 use Rattle.clashes.specs.declared.Pair.{Pair}
 use Rattle.clashes.specs.declared.Pair.the-variants.{Two, None}
-use Rattle.kinds.specs.declared.Lpc.{Lpc}
-use Rattle.words.proofs.Tests.{both-left}
 use Rattle.lines.specs.Says.{Said, says}
 use Rattle.lines.specs.Claims.{claims}
-use Rattle.lines.specs.Routes.{bridge}
-use Rattle.lines.specs.Rules.{rule40, noBridge, noInput, rulesTo45, rulesFrom51, mapRules}
+use Rattle.lines.specs.Rules.{rule40, rulesTo45, rulesFrom51, mapRules}
 use Rattle.lines.specs.declared.Map.{Map}
 use Rattle.lines.specs.declared.Places.{Places}
-use Rattle.lines.specs.declared.Bridge.{Bridge}
-use Rattle.lines.specs.declared.Bridge.the-variants.{Is, None as NoBio}
 use Rattle.words.specs.Refusals.{rule, firstRefusal}
 use Rattle.words.specs.declared.Verdict.the-variants.{Sound}
 use Rattle.words.proofs.Choices.{if-cases}
 use Rattle.words.proofs.Tests.{neither-left}
 use Rattle.words.proofs.Verdicts.{rule-kept}
 use Rattle.map_promises.specs.Structures.{Structure, lio, eio, bio, msi, placeOf, claimOf}
+use Rattle.map_promises.proofs.Bridges.{no-bridge, no-input}
 use Rattle.map_promises.proofs.Meetings.{of-member}
 use Rattle.map_promises.proofs.SearchNames.{search-names}
 use Rattle.map_promises.proofs.WalkKeepsBooks.{Standing}
@@ -94,18 +90,6 @@ module _ (capture : List ℕ) where
       Nowhere
       (omega arith)
 
--- 43: an LPC without a bridge is there
-bridgeless : (present : Bool) (b : Bridge) → noBridge present b ≡ true → present ≡ true
-unfolding noBridge
-bridgeless present (Is b) h = absurd (true≢false (sym h))
-bridgeless present NoBio h = h
-
--- 45: and so is one whose bridge lacks its input
-inputless : (lpc : Lpc) (b : Bridge) → noInput lpc b ≡ true → lpc .present ≡ true
-unfolding noInput
-inputless lpc (Is b) h = both-left (lpc .present) (leb (b .pins) (lpc .cascade)) h
-inputless lpc NoBio h = absurd (true≢false (sym h))
-
 -- 40: there is a LIO
 lio-there : (said : Said) (madt : ℕ) → rule40 said madt ≡ Sound → said .lio .present ≡ true
 lio-there said madt h =
@@ -148,15 +132,9 @@ module _ (capture : List ℕ) {next : ℕ} {map : Map} {places : Places} (b : St
       (λ l. (omega (arith, at, claim-at (says map) places (w .0)), claims-before x m))
       (b .behind (w .0) (w .1))
 
-  lpc-inside : noBridge (says map .lpc .present) (bridge (says map .bios)) ≡ true → Inside capture (places .lpc)
-  lpc-inside h =
-      let there = sym (lpc-present (map .lpc)) ∙ bridgeless (says map .lpc .present) (bridge (says map .bios)) h in
-      (b .lpcbehind there, omega (arith, b .lpcbefore))
-
-  input-inside : noInput (says map .lpc) (bridge (says map .bios)) ≡ true → Inside capture (places .lpc)
-  input-inside h =
-      let there = sym (lpc-present (map .lpc)) ∙ inputless (says map .lpc) (bridge (says map .bios)) h in
-      (b .lpcbehind there, omega (arith, b .lpcbefore))
+  -- 43 and 45: an LPC that lacks a bridge or an input is there
+  lpc-inside : says map .lpc .present ≡ true → Inside capture (places .lpc)
+  lpc-inside h = (b .lpcbehind (sym (lpc-present (map .lpc)) ∙ h), omega (arith, b .lpcbefore))
 
   -- 40 to 54
   pub map-told : (madt fadt : ℕ) → Inside capture madt → Inside capture fadt → Told isFrom40 capture (firstRefusal (mapRules (says map) places madt fadt))
@@ -169,8 +147,8 @@ module _ (capture : List ℕ) {next : ℕ} {map : Map} {places : Places} (b : St
       let clash = clash-told capture all (claims-inside present) in
       more-told isFrom40 capture _ _ (later-told capture 41 (firstClash 41 all) (refl, refl, refl, refl) (clash 41))
       (λ z. more-told isFrom40 capture _ _ (spotted-told capture 42 (firstLone all) (refl, refl, refl, refl) (lone-told capture all (lone-inside all)))
-      (λ z. more-told isFrom40 capture _ _ (broken-told capture 43 _ (places .lpc) (refl, refl, refl, refl) lpc-inside)
-      (λ z. more-told isFrom40 capture _ _ (broken-told capture 45 _ (places .lpc) (refl, refl, refl, refl) input-inside)
+      (λ z. more-told isFrom40 capture _ _ (broken-told capture 43 _ (places .lpc) (refl, refl, refl, refl) (λ h. lpc-inside (no-bridge (says map) h .0)))
+      (λ z. more-told isFrom40 capture _ _ (broken-told capture 45 _ (places .lpc) (refl, refl, refl, refl) (λ h. lpc-inside (no-input (says map) h .0)))
       (λ z. more-told isFrom40 capture _ _ (both-told capture 51 (firstClash 51 all) (refl, refl, refl, refl) (clash 51))
       (λ z. more-told isFrom40 capture _ _ (both-told capture 52 (firstClash 52 all) (refl, refl, refl, refl) (clash 52))
       (λ z. more-told isFrom40 capture _ _ (both-told capture 53 (firstClash 53 all) (refl, refl, refl, refl) (clash 53))

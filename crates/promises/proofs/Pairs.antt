@@ -35,7 +35,6 @@ use Rattle.tables.proofs.Inside.{survey-told, kept-inside, tables-inside}
 use Rattle.tables.specs.declared.Tables.{Tables}
 use Rattle.kinds.specs.declared.Bio.{Bio}
 use Rattle.lines.specs.Says.{Said, says}
-use Rattle.lines.specs.Routes.{bridge}
 use Rattle.lines.specs.Rules.{noInput, rangesKept, rulesTo45, rulesFrom51, mapRules}
 use Rattle.madt.specs.Walk.{walkRules, walked}
 use Rattle.madt.proofs.Accepted.{walk-verdict}
@@ -45,8 +44,7 @@ use Rattle.processors.specs.declared.Repeat.{Repeat}
 use Rattle.processors.specs.declared.Repeat.the-variants.{At, Nowhere}
 use Rattle.map_promises.specs.Sources.{bioAt}
 use Rattle.map_promises.specs.Clashing.{OnePlace, Exactly}
-use Rattle.map_promises.proofs.Bridges.{bridge-one}
-use Rattle.map_promises.proofs.Clashing.{no-input}
+use Rattle.map_promises.proofs.Bridges.{no-input}
 use Rattle.map_promises.proofs.OnlyItsBridges.{only-its-bridges}
 use Rattle.map_promises.proofs.Ranged.{lpc-fits}
 use Rattle.map_promises.proofs.Verdicts.{rule-read, told-at}
@@ -338,12 +336,8 @@ of-pairs strictness capture h =
 
 -- ---- 45 in version 1
 -- where every bridge has 64 inputs, the LPC has one
-has-input : (said : Said) → rangesKept said ≡ true → ((j : ℕ) → j < length (said .bios) → bioAt said j .pins ≡ 64) → noInput (said .lpc) (bridge (said .bios)) ≡ true → ⊥
-has-input said ranged pins h =
-    let w = no-input (said .lpc) (bridge (said .bios)) h in
-    let one = bridge-one (said .bios) (w .1) (w .2) in
-    let own : bioAt said (one .0) .pins ≡ w .1 .pins = ap (λ (b : Bio). b .pins) (one .2) in
-    omega (arith, own, pins (one .0) (one .1), w .3, lpc-fits said ranged)
+has-input : (said : Said) → rangesKept said ≡ true → ((j : ℕ) → j < length (said .bios) → bioAt said j .pins ≡ 64) → noInput (said .lpc) (said .bios) ≡ true → ⊥
+has-input said ranged pins h = let w = no-input said h in omega (arith, pins (w .1) (w .2), w .4, lpc-fits said ranged)
 
 first-or-later : (v : Verdict) (later : List Verdict) {r : Refusal} → firstRefusal (v ∷ later) ≡ Refused r
     → (v ≡ Refused r) ⊎ (firstRefusal later ≡ Refused r)
@@ -369,7 +363,7 @@ module _ (strictness : Strictness) (capture : List ℕ) (one : version capture �
       let found = walkOf capture t .found in
       let said = says (found .map) in
       let kept = walk-keeps-books _ _ _ _ (pins-in-range capture (tables-inside strictness capture t tables .sound)) sound .0 in
-      let broken = rule-read (noInput (said .lpc) (bridge (said .bios))) 45 (found .places .lpc) 45 p q (told-at said (found .places) (t .madt .place) (t .fadt .place) 45 p q h .0) .3 in
+      let broken = rule-read (noInput (said .lpc) (said .bios)) 45 (found .places .lpc) 45 p q (told-at said (found .places) (t .madt .place) (t .fadt .place) 45 p q h .0) .3 in
       has-input said (kept .ranges) (λ j l. walk-counts _ _ _ _ sound j l ∙ unheard capture _ (λ k g. given-none k _ g)) broken
 
   not-45 : (p q : ℕ) → scan strictness capture .verdict ≡ Refused (refusedWith 45 p q) → ⊥

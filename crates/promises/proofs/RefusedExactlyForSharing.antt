@@ -1,5 +1,5 @@
--- A capture that breaks no earlier rule is refused with 41, 42, 51, 52 or 53 exactly where two EIO, a BIO, two sources or two
--- controllers of its map break that rule; and so is its reading.
+-- A capture that breaks no earlier rule is refused with 41 to 43, 45 or 51 to 53 exactly where two EIO, a BIO, the LPC, two sources or
+-- two controllers of its map break that rule; and so is its reading.
 use Prim.Native.Nat.{ℕ, _<_}
 use native.Mathlib.Omega.{arith}
 use mathlib.Core.Path.{_≡_, sym, _∙_, ap}
@@ -21,9 +21,9 @@ use Rattle.lines.specs.declared.Places.{Places}
 use Rattle.madt.specs.Walk.{walkRules}
 use Rattle.madt.proofs.Accepted.{walk-verdict}
 use Rattle.processors.specs.Listing.{count}
-use Rattle.map_promises.specs.Clashing.{KeepsTo40, KeepsTo43, KeepsTo45, RefusedWith, Exactly}
+use Rattle.map_promises.specs.Clashing.{KeepsTo40, KeepsTo42, KeepsTo43, KeepsTo45, RefusedWith, Exactly}
 use Rattle.map_promises.specs.Walks.{WellKept}
-use Rattle.map_promises.proofs.Clashing.{node-exactly, lone-exactly, input-exactly, number-exactly, vector-exactly, core-exactly}
+use Rattle.map_promises.proofs.Clashing.{node-exactly, lone-exactly, bridge-exactly, input-exactly, number-exactly, vector-exactly, core-exactly}
 use Rattle.map_promises.proofs.WalkKeepsBooks.{walk-keeps-books}
 use Rattle.reading.specs.Scan.{madtBytes, walkOf, processorRule, scan}
 use Rattle.reading.specs.Reading.{withoutMap, readingOf}
@@ -31,7 +31,7 @@ use Rattle.reading.specs.declared.Answer.the-variants.{Refused as NotRead}
 use Rattle.reading.specs.declared.Reading.{Reading}
 use Rattle.reading.proofs.Laws.{repeat-none, map-judged}
 use Rattle.reading.proofs.Scanned.{found-verdict}
-use Rattle.promises.specs.Captures.{NothingBefore41, NothingBefore45, NothingBefore51, RefusedExactlyForSharing, ReadRefusedExactlyForSharing}
+use Rattle.promises.specs.Captures.{NothingBefore41, NothingBefore43, NothingBefore45, NothingBefore51, RefusedExactlyForSharing, ReadRefusedExactlyForSharing}
 use Rattle.promises.proofs.WhyRefused.{why-refused}
 
 -- 40: some processor is enabled
@@ -72,8 +72,11 @@ module _ (strictness : Strictness) (capture : List ℕ) (t : Tables) where
         → Exactly (λ p q. scan strictness capture .verdict ≡ Refused (refusedWith n p q)) broken named
     of-map-told n e = ((λ p q r. e .0 p q (sym of-map ∙ r)), λ b. let w = e .1 b in (w .0, w .1, of-map ∙ w .2))
 
+  to-42 : NothingBefore43 strictness capture t → KeepsTo42 map places (t .madt .place)
+  to-42 h = record { to40 = to-40 (h .to40); r41 = h .r41; r42 = h .r42 }
+
   to-43 : NothingBefore45 strictness capture t → KeepsTo43 map places (t .madt .place)
-  to-43 h = record { to40 = to-40 (h .to40); r41 = h .r41; r42 = h .r42; r43 = h .r43 }
+  to-43 h = record { to42 = to-42 (h .to42); r43 = h .r43 }
 
   to-45 : NothingBefore51 strictness capture t → KeepsTo45 map places (t .madt .place)
   to-45 h = record { to43 = to-43 (h .to43); r45 = h .r45 }
@@ -88,10 +91,14 @@ refused-exactly-for-sharing strictness capture t =
     record {
       r41 = λ h. of-map-told strictness capture t h 41 (node-exactly m p madt fadt (kept strictness capture t h .placed) (to-40 strictness capture t h));
       r42 = λ h. of-map-told strictness capture t h 42 (lone-exactly m p madt fadt (kept strictness capture t h .placed) (to-40 strictness capture t h));
-      r45 = λ h. of-map-told strictness capture t (h .to40) 45 (input-exactly m p madt fadt (to-43 strictness capture t h));
-      r51 = λ h. of-map-told strictness capture t (h .to43 .to40) 51 (number-exactly m p madt fadt (kept strictness capture t (h .to43 .to40) .placed) (to-45 strictness capture t h));
-      r52 = λ h. of-map-told strictness capture t (h .to43 .to40) 52 (vector-exactly m p madt fadt (kept strictness capture t (h .to43 .to40) .placed) (to-45 strictness capture t h));
-      r53 = λ h. of-map-told strictness capture t (h .to43 .to40) 53 (core-exactly m p madt fadt (kept strictness capture t (h .to43 .to40) .placed) (to-45 strictness capture t h));
+      r43 = λ h. of-map-told strictness capture t (h .to40) 43 (bridge-exactly m p madt fadt (to-42 strictness capture t h));
+      r45 = λ h. of-map-told strictness capture t (h .to42 .to40) 45 (input-exactly m p madt fadt (to-43 strictness capture t h));
+      r51 = λ h. let o = h .to43 .to42 .to40 in
+          of-map-told strictness capture t o 51 (number-exactly m p madt fadt (kept strictness capture t o .placed) (to-45 strictness capture t h));
+      r52 = λ h. let o = h .to43 .to42 .to40 in
+          of-map-told strictness capture t o 52 (vector-exactly m p madt fadt (kept strictness capture t o .placed) (to-45 strictness capture t h));
+      r53 = λ h. let o = h .to43 .to42 .to40 in
+          of-map-told strictness capture t o 53 (core-exactly m p madt fadt (kept strictness capture t o .placed) (to-45 strictness capture t h));
     }
 
 -- a refusal of the reading that is not 60 is the scan's
@@ -111,6 +118,7 @@ read-refused-exactly-for-sharing strictness capture list t =
     record {
       r41 = λ h. of-scan strictness capture list 41 (omega arith) (s .r41 h);
       r42 = λ h. of-scan strictness capture list 42 (omega arith) (s .r42 h);
+      r43 = λ h. of-scan strictness capture list 43 (omega arith) (s .r43 h);
       r45 = λ h. of-scan strictness capture list 45 (omega arith) (s .r45 h);
       r51 = λ h. of-scan strictness capture list 51 (omega arith) (s .r51 h);
       r52 = λ h. of-scan strictness capture list 52 (omega arith) (s .r52 h);

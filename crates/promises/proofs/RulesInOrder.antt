@@ -54,15 +54,17 @@ module _ (strictness : Strictness) (capture : List ℕ) (t : Tables) where
       let each = each-sound afterWalk (kept .1) in
       record {
         to43 = record {
-          to40 = record {
-            tables = tables;
-            structures = walk-verdict _ _ _ _ ∙ kept .0;
-            r39 = no-repeat _ _ (each 0);
-            r40core = some-core _ _ (each 1);
-            r40 = each 2;
+          to42 = record {
+            to40 = record {
+              tables = tables;
+              structures = walk-verdict _ _ _ _ ∙ kept .0;
+              r39 = no-repeat _ _ (each 0);
+              r40core = some-core _ _ (each 1);
+              r40 = each 2;
+            };
+            r41 = each 3;
+            r42 = each 4;
           };
-          r41 = each 3;
-          r42 = each 4;
           r43 = each 5;
         };
         r45 = each 6;
@@ -71,13 +73,14 @@ module _ (strictness : Strictness) (capture : List ℕ) (t : Tables) where
   to-madt : NothingBefore51 strictness capture t → firstRefusal (madtRules capture t) ≡ Sound
   unfolding madtRules rulesTo45 firstRefusal
   to-madt h =
+      let to42 = h .to43 .to42 in
       first-joined (walkRules (madtBytes capture (t .madt)) (t .madt .place)) afterWalk
-      ∙ unless-sound _ _ _ (sym (walk-verdict _ _ _ _) ∙ h .to43 .to40 .structures)
-      ∙ unless-sound _ _ _ (repeat-none (t .madt .place) _ (h .to43 .to40 .r39))
-      ∙ unless-sound _ _ _ (enabled (t .madt .place) _ (h .to43 .to40 .r40core))
-      ∙ unless-sound _ _ _ (h .to43 .to40 .r40)
-      ∙ unless-sound _ _ _ (h .to43 .r41)
-      ∙ unless-sound _ _ _ (h .to43 .r42)
+      ∙ unless-sound _ _ _ (sym (walk-verdict _ _ _ _) ∙ to42 .to40 .structures)
+      ∙ unless-sound _ _ _ (repeat-none (t .madt .place) _ (to42 .to40 .r39))
+      ∙ unless-sound _ _ _ (enabled (t .madt .place) _ (to42 .to40 .r40core))
+      ∙ unless-sound _ _ _ (to42 .to40 .r40)
+      ∙ unless-sound _ _ _ (to42 .r41)
+      ∙ unless-sound _ _ _ (to42 .r42)
       ∙ unless-sound _ _ _ (h .to43 .r43)
       ∙ first-alone _
       ∙ h .r45
@@ -93,8 +96,8 @@ not-before : (strictness : Strictness) (capture : List ℕ) (t : Tables) → Not
 unfolding rulesBefore51
 not-before strictness capture t h =
     first-joined (surveyRules strictness capture) _
-    ∙ unless-sound _ _ _ (survey-told strictness capture (h .to43 .to40 .tables))
-    ∙ ap (λ (t : Tables). firstRefusal (madtRules capture t)) (survey-is strictness capture (h .to43 .to40 .tables))
+    ∙ unless-sound _ _ _ (survey-told strictness capture (h .to43 .to42 .to40 .tables))
+    ∙ ap (λ (t : Tables). firstRefusal (madtRules capture t)) (survey-is strictness capture (h .to43 .to42 .to40 .tables))
     ∙ to-madt strictness capture t h
 
 -- THE PROMISE

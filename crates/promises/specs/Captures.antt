@@ -23,7 +23,7 @@ use Rattle.madt.specs.Pieces.{pieces, structures}
 use Rattle.processors.specs.Listing.{count}
 use Rattle.processors.specs.Repeats.{firstRepeat}
 use Rattle.processors.specs.declared.Repeat.the-variants.{Nowhere}
-use Rattle.map_promises.specs.Clashing.{ShareNode, ShareNumber, ShareVector, ShareCore, TwoNode, LoneBio, NoInput, TwoNumber, TwoVector, TwoCore, Names, NamesLater, NamesLone, OnePlace, Exactly}
+use Rattle.map_promises.specs.Clashing.{ShareNode, ShareNumber, ShareVector, ShareCore, TwoNode, LoneBio, NoBridge, NoInput, TwoNumber, TwoVector, TwoCore, Names, NamesLater, NamesLone, OnePlace, Exactly}
 use Rattle.map_promises.specs.Routing.{RouteIsSources, UnwiredExactly, NoOwnerExactly}
 use Rattle.map_promises.specs.Statements.{NoTwoAlike, TracingNames, NothingExactly, LpcLinesShare, ThereAndBack}
 use Rattle.map_promises.specs.Walks.{Normal, InTableOrder}
@@ -95,12 +95,16 @@ pub record NothingBefore41 (strictness : Strictness) (capture : List ℕ) (t : T
   -- the rest of 40, of the map that the walk found
   pub r40 : rule40 (says (walkOf capture t .found .map)) (t .madt .place) ≡ Sound
 
--- none up to 43
-pub record NothingBefore45 (strictness : Strictness) (capture : List ℕ) (t : Tables) : Type 0 where
+-- none up to 42
+pub record NothingBefore43 (strictness : Strictness) (capture : List ℕ) (t : Tables) : Type 0 where
   pub to40 : NothingBefore41 strictness capture t
-  -- 41 to 43, of the map that the walk found
+  -- 41 and 42, of the map that the walk found
   pub r41 : rule41 (claims (says (walkOf capture t .found .map)) (walkOf capture t .found .places)) ≡ Sound
   pub r42 : rule42 (claims (says (walkOf capture t .found .map)) (walkOf capture t .found .places)) ≡ Sound
+
+-- none up to 43
+pub record NothingBefore45 (strictness : Strictness) (capture : List ℕ) (t : Tables) : Type 0 where
+  pub to42 : NothingBefore43 strictness capture t
   pub r43 : rule43 (says (walkOf capture t .found .map)) (walkOf capture t .found .places .lpc) ≡ Sound
 
 -- none up to 45
@@ -126,6 +130,8 @@ pub record EachExactly (told : ℕ → ℕ → ℕ → Type 0) (strictness : Str
   pub r41 : NothingBefore41 strictness capture t → Exactly (told 41) (TwoNode said) (OnePlace (NamesLater said places (ShareNode said)))
   -- "BIO without an EIO of its node"
   pub r42 : NothingBefore41 strictness capture t → Exactly (told 42) ((TwoNode said → ⊥) × LoneBio said) (OnePlace (NamesLone said places))
+  -- "no such BIO", at the LPC
+  pub r43 : NothingBefore43 strictness capture t → Exactly (told 43) (NoBridge said) (OnePlace (λ p. p ≡ places .lpc))
   -- "a cascade at or past its bridge's count", at the LPC
   pub r45 : NothingBefore45 strictness capture t → Exactly (told 45) (NoInput said) (OnePlace (λ p. p ≡ places .lpc))
   -- "two sources share a global number"

@@ -97,7 +97,7 @@ mapOfA =
       bios = record { node = 0; base = 64; pins = 64 } ∷ noBio ∷ noBio ∷ noBio ∷ [];
       msicount = 1;
       msis = record { start = 64; count = 192 } ∷ noMsi ∷ noMsi ∷ noMsi ∷ [];
-      lpc = record { present = true; cascade = 19 };
+      lpc = record { present = true; node = 0; cascade = 19 };
       sci = 75;
     }
 

@@ -13,8 +13,6 @@ use Rattle.kinds.specs.declared.Bio.{Bio}
 use Rattle.kinds.specs.declared.Msi.{Msi}
 use Rattle.kinds.specs.declared.Lpc.{Lpc}
 use Rattle.lines.specs.declared.Map.{Map}
-use Rattle.lines.specs.declared.Bridge.{Bridge}
-use Rattle.lines.specs.declared.Bridge.the-variants.{Is, None}
 use Rattle.lines.specs.declared.Route.{Route}
 use Rattle.lines.specs.declared.Route.the-variants.{Arrives, Unwired, NoOwner, Refused}
 use Rattle.words.proofs.Choices.{if-cases}
@@ -92,12 +90,11 @@ msi-length : (msi : Msi) → length (msiLine msi) ≤ 46
 unfolding msiLine letters
 msi-length msi = line-length (letters "msi") (_ ∷ _ ∷ [])
 
-lpc-length : (lpc : Lpc) (bridge : Bridge) → length (lpcLine lpc bridge) ≤ 46
+lpc-length : (lpc : Lpc) → length (lpcLine lpc) ≤ 46
 unfolding lpcLine letters
-lpc-length lpc None = omega arith
-lpc-length lpc (Is bio) =
+lpc-length lpc =
     if-cases (λ (l : List ℕ). length l ≤ 46) _ _ _
-    (λ t. line-length (letters "lpc") (bio .node ∷ lpc .cascade ∷ []))
+    (λ t. line-length (letters "lpc") (lpc .node ∷ lpc .cascade ∷ []))
     (λ t. omega arith)
 
 sci-length : (sci : ℕ) (route : Route) → length (sciLine sci route) ≤ 67
@@ -156,7 +153,7 @@ map-fits version list map few eios bios msis =
     (and-more _ _ (four-length eioLine 67 eio-length (map .eios) (map .eiocount) eios)
     (and-more _ _ (four-length bioLine 67 bio-length (map .bios) (map .biocount) bios)
     (and-more _ _ (four-length msiLine 46 msi-length (map .msis) (map .msicount) msis)
-    (and-more _ _ (lpc-length _ _)
+    (and-more _ _ (lpc-length _)
     (and-more _ _ (sci-length _ _) none-more))))))) in
     let most : length (mapText version list map) ≤ 12982 = all .small in
     omega arith

@@ -6,10 +6,7 @@ use Prim.Native.Nat.{ℕ}
 use borrow.Author.Tests.{eq-eqb, ne-eqb}
 use Rattle.words.proofs.Choices.{yes-if, no-if}
 use Rattle.kinds.specs.declared.Half.{Half}
-use Rattle.kinds.specs.declared.Bio.{Bio}
 use Rattle.kinds.specs.declared.Lpc.{Lpc}
-use Rattle.lines.specs.declared.Bridge.{Bridge}
-use Rattle.lines.specs.declared.Bridge.the-variants.{Is, None}
 use Rattle.text.specs.Numerals.{letters}
 use Rattle.text.specs.Lines.{line, halfLine, lpcLine, placesLine}
 
@@ -21,21 +18,13 @@ pub half-used : (half : Half) → (half .mask ≡ 0 → ⊥) → halfLine half �
 unfolding halfLine
 half-used half h = no-if _ _ _ (ne-eqb (half .mask) 0 h) refl
 
-pub lpc-alone : (lpc : Lpc) {bridge : Bridge} → bridge ≡ None → lpcLine lpc bridge ≡ []
+pub lpc-absent : (lpc : Lpc) → lpc .present ≡ false → lpcLine lpc ≡ []
 unfolding lpcLine
-lpc-alone lpc e = rw e
+lpc-absent lpc h = no-if _ _ _ h refl
 
-pub lpc-absent : (lpc : Lpc) {bridge : Bridge} {bio : Bio} → bridge ≡ Is bio → lpc .present ≡ false → lpcLine lpc bridge ≡ []
+pub lpc-present : (lpc : Lpc) → lpc .present ≡ true → lpcLine lpc ≡ line (letters "lpc") (lpc .node ∷ lpc .cascade ∷ [])
 unfolding lpcLine
-lpc-absent lpc e h = rw e (no-if _ _ _ h refl)
-
-pub lpc-present : (lpc : Lpc) {bridge : Bridge} {bio : Bio} → bridge ≡ Is bio → lpc .present ≡ true
-    → lpcLine lpc bridge ≡ line (letters "lpc") (bio .node ∷ lpc .cascade ∷ [])
-unfolding lpcLine
-lpc-present lpc e h = rw e (yes-if _ _ _ h)
-
-pub lpc-same : {lpc lpc′ : Lpc} {bridge bridge′ : Bridge} → lpc ≡ lpc′ → bridge ≡ bridge′ → lpcLine lpc bridge ≡ lpcLine lpc′ bridge′
-lpc-same e g = rw (e, g)
+lpc-present lpc h = yes-if _ _ _ h
 
 pub one-place : (place second : ℕ) → second ≡ 0 → placesLine place second ≡ line (letters " at") (place ∷ [])
 unfolding placesLine

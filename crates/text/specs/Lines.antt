@@ -12,8 +12,6 @@ use Rattle.kinds.specs.declared.Eio.{Eio}
 use Rattle.kinds.specs.declared.Bio.{Bio}
 use Rattle.kinds.specs.declared.Msi.{Msi}
 use Rattle.kinds.specs.declared.Lpc.{Lpc}
-use Rattle.lines.specs.declared.Bridge.{Bridge}
-use Rattle.lines.specs.declared.Bridge.the-variants.{Is, None}
 use Rattle.lines.specs.declared.Route.{Route}
 use Rattle.lines.specs.declared.Route.the-variants.{Arrives, Unwired, NoOwner, Refused}
 use Rattle.text.specs.Numerals.{letters, decimal}
@@ -75,10 +73,9 @@ bioLine bio = line (letters "bio") (bio .node ∷ bio .base ∷ lastOf (bio .bas
 unfoldable pub msiLine : Msi → List ℕ
 msiLine msi = line (letters "msi") (msi .start ∷ lastOf (msi .start) (msi .count) ∷ [])
 
--- "its bridge's node and input"; an LPC that is accepted has a bridge (43)
-unfoldable pub lpcLine : Lpc → Bridge → List ℕ
-lpcLine lpc (Is bio) = if (lpc .present) (line (letters "lpc") (bio .node ∷ lpc .cascade ∷ [])) []
-lpcLine lpc None = []
+-- "its bridge's node and input"; an LPC that is accepted has a bridge of its node (43)
+unfoldable pub lpcLine : Lpc → List ℕ
+lpcLine lpc = if (lpc .present) (line (letters "lpc") (lpc .node ∷ lpc .cascade ∷ [])) []
 
 -- "number, vector, arrival number"; the SCI of an accepted map arrives (54)
 unfoldable pub sciLine : ℕ → Route → List ℕ

@@ -7,7 +7,6 @@ use Rattle.capture.specs.Fields.{version}
 use Rattle.words.specs.Refusals.{unless}
 use Rattle.tables.specs.declared.Strictness.the-variants.{Strict}
 use Rattle.lines.specs.Says.{says}
-use Rattle.lines.specs.Routes.{bridge}
 use Rattle.lines.specs.Answers.{routeOf}
 use Rattle.lines.specs.declared.Map.{Map}
 use Rattle.processors.specs.Listing.{processors, hasRoom}
@@ -30,7 +29,7 @@ mapParts version list map =
     ∷ each eioLine (says map .eios)
     ∷ each bioLine (says map .bios)
     ∷ each msiLine (says map .msis)
-    ∷ lpcLine (says map .lpc) (bridge (says map .bios))
+    ∷ lpcLine (says map .lpc)
     ∷ sciLine (says map .sci) (routeOf map (says map .sci))
     ∷ []
 

@@ -48,7 +48,7 @@ fn put_map(room: &mut [u8], version: u16, list: &[u32], map: Map) -> usize
     n = tell::put_eios(room, n, eios, used(map.eiocount));
     n = tell::put_bios(room, n, bios, used(map.biocount));
     n = tell::put_msis(room, n, msis, used(map.msicount));
-    n = tell::put_lpc(room, n, lpc, map.bridge());
+    n = tell::put_lpc(room, n, lpc);
     tell::put_sci(room, n, map.sci, map.route(map.sci as u32))
 }
 

@@ -7,7 +7,6 @@ use kinds::Half;
 use kinds::Lio;
 use kinds::Lpc;
 use kinds::Msi;
-use lines::Bridge;
 use lines::Route;
 use words::Refusal;
 ghost use mathlib.Core.Path.{_≡_};
@@ -169,19 +168,16 @@ pub(crate) fn put_msis(room: &mut [u8], n: usize, msis: [Msi; 4], count: usize) 
 }
 
 // The LPC, if there is one: the node of its bridge, and the input of the bridge that its lines share.
-pub(crate) fn put_lpc(room: &mut [u8], n: usize, lpc: Lpc, bridge: Bridge) -> usize
-    requires { ⌜ Fits n (lpcLine lpc bridge) ⌝ }
-    ensures { λ r. ⌜ r ≡ n + length (lpcLine lpc bridge) ⌝ }
-    ensures { λ r. ⌜ now (room .exit) ≡ sets (now (room .entry)) n (lpcLine lpc bridge) ⌝ }
+pub(crate) fn put_lpc(room: &mut [u8], n: usize, lpc: Lpc) -> usize
+    requires { ⌜ Fits n (lpcLine lpc) ⌝ }
+    ensures { λ r. ⌜ r ≡ n + length (lpcLine lpc) ⌝ }
+    ensures { λ r. ⌜ now (room .exit) ≡ sets (now (room .entry)) n (lpcLine lpc) ⌝ }
 {
-    let Bridge::Is(bio) = bridge else {
+    if !lpc.present {
         return n;
-    };
-    if lpc.present {
-        let numbers = [bio.node as u64, lpc.cascade as u64];
-        return put_line(room, n, b"lpc", &numbers);
     }
-    n
+    let numbers = [lpc.node as u64, lpc.cascade as u64];
+    put_line(room, n, b"lpc", &numbers)
 }
 
 // The SCI, where it arrives: its global number, the core vector and the number that it has there.

@@ -7,12 +7,9 @@ use lib.ListN.{length, take, drop}
 use Rattle.clashes.proofs.Arrays.{length-mapped}
 use Rattle.lines.proofs.Counts.{take-used}
 use Rattle.lines.specs.Says.{says}
-use Rattle.lines.specs.Routes.{bridge}
-use Rattle.lines.specs.declared.Bridge.{Bridge}
 use Rattle.text.specs.Lines.{each, lioLines, eioLine, bioLine, msiLine, lpcLine, sciLine}
 use Rattle.text.specs.Text.{joined, mapParts, mapText}
 use Rattle.text.proofs.Bounds.{map-fits}
-use Rattle.text.proofs.ByCase.{lpc-same}
 use Rattle.text.proofs.Printing.{Printing, named, begin, ahead, next, over, short, joined-split, nothing-left}
 use borrow.Author.Needs.{needs}
 use Rattle.text.proofs.put_map.Statement.{statement}
@@ -41,7 +38,7 @@ abbrev from-lpc : tie.After-put-lpc-arg → tie.After-put-version-arg
 from-lpc c = from-msis (c .before .before .before .before .before)
 
 abbrev from-sci : tie.After-struct-known → tie.After-put-version-arg
-from-sci c = from-lpc (c .before .before .before .before .before .before)
+from-sci c = from-lpc (c .before .before .before .before .before)
 
 abbrev from-end : tie.After-slice-known9 → tie.After-put-version-arg
 from-end c = from-sci (c .before .before .before .before)
@@ -82,9 +79,8 @@ msis-said : (v : tie.After-put-version-arg) {n : ℕ} → n ≡ min (start v .ar
     → each msiLine (take n (start v .args .map .msis)) ≡ each msiLine (says (start v .args .map) .msis)
 msis-said v e = ap (each msiLine) (take-used (start v .args .map .msis) (start v .args .map .msicount) _ (four-msis (start v)) e)
 
-lpc-said : (v : tie.After-put-version-arg) {b : Bridge} → b ≡ bridge (says (start v .args .map) .bios)
-    → lpcLine (v .before .said-lpc .result) b ≡ lpcLine (says (start v .args .map) .lpc) (bridge (says (start v .args .map) .bios))
-lpc-said v e = lpc-same (v .before .said-lpc .ensures) e
+lpc-said : (v : tie.After-put-version-arg) → lpcLine (v .before .said-lpc .result) ≡ lpcLine (says (start v .args .map) .lpc)
+lpc-said v = ap lpcLine (v .before .said-lpc .ensures)
 
 version-told : (c : tie.After-put-cores-arg) → Told (from-cores c) 1 (c .before .before .before .put-version .last .0) (c .before .before .before .put-version .result)
 unfolding mapParts
@@ -112,7 +108,7 @@ msis-told c = next (bios-told (c .before .before .before .before .before)) (name
 
 lpc-told : (c : tie.After-struct-known) → Told (from-sci c) 7 (c .before .before .before .before .put-lpc .last .0) (c .before .before .before .before .put-lpc .result)
 unfolding mapParts
-lpc-told c = next (msis-told (c .before .before .before .before .before .before)) (named (joined-split _ _) (lpc-said (from-sci c) (c .before .before .before .before .before .bridge .ensures))) (c .before .before .before .before .put-lpc .ensures)
+lpc-told c = next (msis-told (c .before .before .before .before .before)) (named (joined-split _ _) (lpc-said (from-sci c))) (c .before .before .before .before .put-lpc .ensures)
 
 all-told : (c : tie.After-slice-known9) → Told (from-end c) 8 (c .before .before .put-sci .last .0) (c .before .before .put-sci .result)
 unfolding mapParts
@@ -158,12 +154,9 @@ put-msis-requires : tie.Need-put-msis-requires
 unfolding mapParts
 put-msis-requires c κs = (search needs, ahead (bios-told (c .before)) (named (joined-split _ _) (msis-said (from-msis (c .before)) (c .used3 .ensures .1))))
 
-bridge-requires : tie.Need-bridge-requires
-bridge-requires c κs = search needs
-
 put-lpc-requires : tie.Need-put-lpc-requires
 unfolding mapParts
-put-lpc-requires c κs = ahead (msis-told (c .before)) (named (joined-split _ _) (lpc-said (from-lpc (c .before)) (c .bridge .ensures)))
+put-lpc-requires c κs = ahead (msis-told c) (named (joined-split _ _) (lpc-said (from-lpc c)))
 
 cast-route : tie.Need-cast-route
 cast-route c = search needs
@@ -197,7 +190,6 @@ put-map-spec =
     put-bios-requires
     used-requires-3
     put-msis-requires
-    bridge-requires
     put-lpc-requires
     cast-route
     route-requires

@@ -31,14 +31,11 @@ owner-requires c κs = search needs
 enum-told : tie.Need-enum-told
 enum-told c = search needs
 
-bridge-requires : tie.Need-bridge-requires
-bridge-requires c κs = search needs
+cast-eio-arrival : tie.Need-cast-eio-arrival
+cast-eio-arrival c = search needs
 
-cast-pin-arrival : tie.Need-cast-pin-arrival
-cast-pin-arrival c = search needs
-
-pin-arrival-requires : tie.Need-pin-arrival-requires
-pin-arrival-requires c κs = search needs
+eio-arrival-requires : tie.Need-eio-arrival-requires
+eio-arrival-requires c κs = search needs
 
 enum-known-i : tie.Need-enum-known-i
 enum-known-i c = search needs
@@ -49,8 +46,8 @@ lio-arrival-requires c κs = search needs
 enum-known-node : tie.Need-enum-known-node
 enum-known-node c = search needs
 
-eio-arrival-requires : tie.Need-eio-arrival-requires
-eio-arrival-requires c κs = search needs
+eio-arrival-requires-2 : tie.Need-eio-arrival-requires-2
+eio-arrival-requires-2 c κs = search needs
 
 enum-told-2 : tie.Need-enum-told-2
 enum-told-2 c = search needs
@@ -58,12 +55,11 @@ enum-told-2 c = search needs
 returns : tie.Need-returns
 unfolding arrival arrivalOf
 returns c =
-    let o = c .before .before .before .before .before in
+    let o = c .before .before .before .before in
     rw (
       ← o .owner .ensures,
-      c .before .before .before .enum-told .given .1,
-      c .pin-arrival .ensures,
-      c .before .before .bridge .ensures,
+      c .before .before .enum-told .given .1,
+      c .eio-arrival .ensures,
       o .before .before .said-lpc .ensures,
       eios-used (o .before .before .before),
     )
@@ -78,7 +74,7 @@ returns-3 : tie.Need-returns-3
 unfolding arrival arrivalOf
 returns-3 c =
     let o = c .before .before .before .before in
-    rw (← o .owner .ensures, c .before .before .node .given .1, c .eio-arrival .ensures, eios-used (o .before .before .before))
+    rw (← o .owner .ensures, c .before .before .node .given .1, c .eio-arrival2 .ensures, eios-used (o .before .before .before))
 
 returns-4 : tie.Need-returns-4
 unfolding arrival arrivalOf
@@ -93,13 +89,12 @@ arrival-spec =
     said-lio-requires
     owner-requires
     enum-told
-    bridge-requires
-    cast-pin-arrival
-    pin-arrival-requires
+    cast-eio-arrival
+    eio-arrival-requires
     enum-known-i
     lio-arrival-requires
     enum-known-node
-    eio-arrival-requires
+    eio-arrival-requires-2
     enum-told-2
     returns
     returns-2

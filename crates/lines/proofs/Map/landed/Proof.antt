@@ -18,7 +18,7 @@ use Rattle.lines.proofs.Map.landed.Tie as tie
 abbrev Inv-loop : tie.InvT-loop
 Inv-loop self node vector bios msis n i₀ i =
     Turn bios n i
-    × Searching (hasPin node vector) (pinTold (says self) vector) (slotTold (says self .msis) node vector) (landed (says self) node vector) (drop i (take n bios))
+    × Searching (hasPin node vector) (pinTold (says self .lpc) vector) (slotTold (says self .msis) node vector) (landed (says self) node vector) (drop i (take n bios))
 
 abbrev μ-loop : tie.MeasureT-loop
 μ-loop self node vector bios msis n i₀ i = n - i
@@ -43,14 +43,17 @@ array-copy-out-b c = search needs
 has-pin-requires : tie.Need-has-pin-requires Inv-loop μ-loop
 has-pin-requires c κs = search needs
 
+said-lpc-requires : tie.Need-said-lpc-requires Inv-loop μ-loop
+said-lpc-requires c κs = search needs
+
 pin-told-requires : tie.Need-pin-told-requires Inv-loop μ-loop
-pin-told-requires c κs = pin-small _ _ _ (sym (c .before .has-pin .ensures) ∙ c .if1 .taken)
+pin-told-requires c κs = pin-small _ _ _ (sym (c .before .before .has-pin .ensures) ∙ c .before .if1 .taken)
 
 returns : tie.Need-returns Inv-loop μ-loop
 returns c =
-    let l = c .before .before .before .before .before .loop .inv in
-    c .pin-told .ensures
-    ∙ search-hit (l .1) (element (l .0) _ (omega arith)) (sym (c .before .before .has-pin .ensures) ∙ c .before .if1 .taken)
+    let l = c .before .before .before .before .before .before .loop .inv in
+    (rw (c .before .said-lpc .ensures) at (c .pin-told .ensures))
+    ∙ search-hit (l .1) (element (l .0) _ (omega arith)) (sym (c .before .before .before .has-pin .ensures) ∙ c .before .before .if1 .taken)
 
 add-i : tie.Need-add-i Inv-loop μ-loop
 add-i c = search needs
@@ -92,6 +95,7 @@ landed-spec =
     mul-b
     array-copy-out-b
     has-pin-requires
+    said-lpc-requires
     pin-told-requires
     returns
     add-i

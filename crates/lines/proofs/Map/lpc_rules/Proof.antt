@@ -1,65 +1,144 @@
--- `Map::lpc_rules` is rule 43, then 45.
-use mathlib.Core.Path.{_≡_, refl}
-use mathlib.Core.Bool.{Bool, true, false, _&&_}
-use lib.Dec.{leb}
+-- `Map::lpc_rules` searches the LPC's bridge: without one it is rule 43, with one rule 45.
+use mathlib.Core.Path.{_≡_, refl, sym, _∙_, ap}
+use mathlib.Core.Bool.{Bool, true, false, not, _&&_}
+use mathlib.Core.List.{List, [], _∷_}
+use Prim.Native.Nat.{ℕ, _-_}
+use native.Mathlib.Omega.{arith}
 use borrow.Author.Needs.{needs}
+use borrow.Author.Tests.{not-true, not-false}
+use lib.Dec.{leb}
+use lib.ListN.{length, take, drop}
 use Rattle.words.specs.Choice.{if}
-use Rattle.kinds.specs.Used.{saidLpc, noLpc}
+use Rattle.words.specs.Lists.{first, every}
+use Rattle.words.specs.Refusals.{refused, rule, unless}
+use Rattle.words.specs.declared.Verdict.{Verdict}
+use Rattle.words.specs.declared.Verdict.the-variants.{Sound, Refused}
+use Rattle.words.proofs.Searches.{Searching, search-hit, search-miss, search-over}
+use Rattle.words.proofs.Turns.{Turn, element, next-turn, no-turn}
+use Rattle.clashes.proofs.Arrays.{length-mapped}
+use Rattle.kinds.specs.declared.Bio.{Bio}
 use Rattle.kinds.specs.declared.Lpc.{Lpc}
-use Rattle.kinds.proofs.Used.{lpc-present}
-use Rattle.lines.specs.Rules.{noInput}
-use Rattle.lines.specs.declared.Bridge.{Bridge}
-use Rattle.lines.specs.declared.Bridge.the-variants.{Is, None}
+use Rattle.parts.specs.Inputs.{isBridge}
+use Rattle.lines.specs.Rules.{noBridge, noInput}
 use Rattle.lines.proofs.Map.lpc_rules.Statement.{statement}
 use Rattle.lines.proofs.Map.lpc_rules.Tie as tie
 
--- an LPC that is not there lacks no input
-said-input : (lpc : Lpc) (bridge : Bridge) → noInput (saidLpc lpc) bridge ≡ noInput lpc bridge
-unfolding noInput saidLpc if
-said-input lpc None = refl
-said-input lpc (Is b) = go (lpc .present) refl
+-- 45, of a bridge
+abbrev rule45 : Lpc → ℕ → Bio → Verdict
+rule45 lpc place bio = rule (leb (bio .pins) (lpc .cascade)) 45 place
+
+-- what the search answers
+abbrev searched : Lpc → ℕ → List Bio → Verdict
+searched lpc place bios = first (isBridge lpc) (rule45 lpc place) (Refused (refused 43 place)) bios
+
+-- it is both rules, one after the other
+both-rules : (lpc : Lpc) (place : ℕ) (bios : List Bio)
+    → searched lpc place bios
+    ≡ unless Refused (rule (every (λ b. not (isBridge lpc b)) bios) 43 place) (rule (first (isBridge lpc) (λ b. leb (b .pins) (lpc .cascade)) false bios) 45 place)
+unfolding first every unless if
+both-rules lpc place [] = refl
+both-rules lpc place (b ∷ bs) = go (isBridge lpc b) _ _ _ (both-rules lpc place bs)
   where
-    go : (there : Bool) → lpc .present ≡ there
-        → (if there lpc noLpc .present && leb (b .pins) (if there lpc noLpc .cascade)) ≡ (there && leb (b .pins) (lpc .cascade))
-    go true e = rw e
-    go false e = refl
+    go : (t none lacks : Bool) (rest : Verdict) → rest ≡ unless Refused (rule none 43 place) (rule lacks 45 place)
+        → if t (rule45 lpc place b) rest
+        ≡ unless Refused (rule (not t && none) 43 place) (rule (if t (leb (b .pins) (lpc .cascade)) lacks) 45 place)
+    go true none lacks rest e = refl
+    go false none lacks rest e = e
 
-cast-lpc-bridge : tie.Need-cast-lpc-bridge
-cast-lpc-bridge c = search needs
+-- an LPC that is not there breaks neither
+absent : (lpc : Lpc) (place : ℕ) (bios : List Bio) → lpc .present ≡ false
+    → Sound ≡ unless Refused (rule (noBridge lpc bios) 43 place) (rule (noInput lpc bios) 45 place)
+unfolding noBridge noInput unless if
+absent lpc place bios h = rw h
 
-lpc-bridge-requires : tie.Need-lpc-bridge-requires
-lpc-bridge-requires c κs = search needs
+present : (lpc : Lpc) (place : ℕ) (bios : List Bio) → lpc .present ≡ true
+    → searched lpc place bios ≡ unless Refused (rule (noBridge lpc bios) 43 place) (rule (noInput lpc bios) 45 place)
+unfolding noBridge noInput
+present lpc place bios h = rw h (both-rules lpc place bios)
 
-lacks-bridge-requires : tie.Need-lacks-bridge-requires
-lacks-bridge-requires c κs = search needs
+abbrev Inv-loop : tie.InvT-loop
+Inv-loop place bios lpc n i₀ i =
+    Turn bios n i
+    × Searching (isBridge lpc) (rule45 lpc place) (Refused (refused 43 place)) (searched lpc place (take n bios)) (drop i (take n bios))
 
-rule-of-requires : tie.Need-rule-of-requires
+abbrev μ-loop : tie.MeasureT-loop
+μ-loop place bios lpc n i₀ i = n - i
+
+said-lpc-requires : tie.Need-said-lpc-requires Inv-loop μ-loop
+said-lpc-requires c κs = search needs
+
+cast-n : tie.Need-cast-n Inv-loop μ-loop
+cast-n c = search needs
+
+returns : tie.Need-returns Inv-loop μ-loop
+returns c = rw (← c .before .before .before .said-lpc .ensures) (absent _ _ _ (not-true _ (c .if1 .taken)))
+
+four-bios : (s : tie.Start Inv-loop μ-loop) → length (s .args .self .bios) ≡ 4
+four-bios s = search (needs, length-mapped)
+
+loop-holds : tie.Need-loop-holds Inv-loop μ-loop
+loop-holds c =
+    let held = four-bios (c .before .before .before .before .before) in
+    (record { within = search needs; fits = search needs }, record { gives = refl })
+
+mul-b : tie.Need-mul-b Inv-loop μ-loop
+mul-b c = search needs
+
+array-copy-out-b : tie.Need-array-copy-out-b Inv-loop μ-loop
+array-copy-out-b c = search needs
+
+is-bridge-requires : tie.Need-is-bridge-requires Inv-loop μ-loop
+is-bridge-requires c κs = search needs
+
+rule-of-requires : tie.Need-rule-of-requires Inv-loop μ-loop
 rule-of-requires c κs = search needs
 
-lacks-input-requires : tie.Need-lacks-input-requires
-lacks-input-requires c κs = search needs
+returns-2 : tie.Need-returns-2 Inv-loop μ-loop
+returns-2 c =
+    let l = c .before .before .before .before .before .before .before in
+    let hit = sym (c .before .before .before .before .is-bridge .ensures) ∙ c .before .before .before .if2 .taken in
+    rw (← l .before .before .before .before .said-lpc .ensures)
+    (c .rule-of .ensures ∙ search-hit (l .loop .inv .1) (element (l .loop .inv .0) _ (omega arith)) hit ∙ present _ _ _ (not-false _ (l .before .if1 .left)))
 
-rule-of-requires-2 : tie.Need-rule-of-requires-2
-rule-of-requires-2 c κs = search needs
+add-i : tie.Need-add-i Inv-loop μ-loop
+add-i c = search needs
 
-or-else-requires : tie.Need-or-else-requires
-or-else-requires c κs = search needs
+loop-less : tie.Need-loop-less Inv-loop μ-loop
+loop-less c = search needs
 
-returns : tie.Need-returns
-returns c =
-    let m = c .before .before .before .before .before .before .before .before .before .args .self in
-    rw (
-      c .or-else .ensures,
-      c .before .rule-of2 .ensures,
-      c .before .before .lacks-input .ensures,
-      c .before .before .before .rule-of .ensures,
-      c .before .before .before .before .lacks-bridge .ensures,
-      c .before .before .before .before .before .lpc-bridge .ensures,
-      said-input (m .lpc),
-      lpc-present (m .lpc),
+loop-again : tie.Need-loop-again Inv-loop μ-loop
+loop-again c =
+    let l = c .before .before .before .before .loop .inv in (
+      next-turn (l .0) (omega arith),
+      search-miss (l .1) (element (l .0) _ (omega arith)) (sym (c .before .is-bridge .ensures) ∙ c .if2 .left),
     )
+
+refuse-requires : tie.Need-refuse-requires Inv-loop μ-loop
+refuse-requires c κs = search needs
+
+returns-3 : tie.Need-returns-3 Inv-loop μ-loop
+returns-3 c =
+    let l = c .before .before in
+    rw (← l .before .before .before .before .said-lpc .ensures)
+    (ap Refused (c .refuse .ensures) ∙ search-over (l .loop .inv .1) (no-turn (l .loop .inv .0) (omega arith)) ∙ present _ _ _ (not-false _ (l .before .if1 .left)))
 
 pub lpc-rules-spec : {M : Type 1} → statement M
 lpc-rules-spec =
     tie.close
-    (tie.spec cast-lpc-bridge lpc-bridge-requires lacks-bridge-requires rule-of-requires lacks-input-requires rule-of-requires-2 or-else-requires returns)
+    (tie.spec
+    Inv-loop
+    μ-loop
+    said-lpc-requires
+    cast-n
+    returns
+    loop-holds
+    mul-b
+    array-copy-out-b
+    is-bridge-requires
+    rule-of-requires
+    returns-2
+    add-i
+    loop-less
+    loop-again
+    refuse-requires
+    returns-3)

@@ -1,10 +1,10 @@
--- `Map::pin_told` never tells the LPC's input as a BIO's.
+-- `traces::pin_told` never tells the LPC's input as a BIO's.
 use mathlib.Core.Path.{sym, refl}
 use borrow.Author.Needs.{needs}
 use Rattle.words.proofs.Choices.{yes-if, no-if}
 use Rattle.lines.specs.Traces.{pinTold}
-use Rattle.lines.proofs.Map.pin_told.Statement.{statement}
-use Rattle.lines.proofs.Map.pin_told.Tie as tie
+use Rattle.lines.proofs.traces.pin_told.Statement.{statement}
+use Rattle.lines.proofs.traces.pin_told.Tie as tie
 
 cast-number : tie.Need-cast-number
 cast-number c = search needs
