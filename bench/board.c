@@ -127,12 +127,28 @@ struct structure make_bio(struct random *random, uint16_t hardware_id, uint16_t 
     return bio;
 }
 
-struct structure make_lpc(struct random *random, uint16_t cascade)
+struct structure make_lpc(struct random *random, uint8_t node, uint16_t cascade)
 {
     struct structure lpc = random_structure(random, LPC);
+    const uint64_t up_to_node = (UINT64_C(1) << (LPC_NODE_BIT + LPC_NODE_BITS)) - 1;
 
+    if (one_in(random, 2))
+        put_u64(lpc.bytes + LPC_BASE, get_u64(lpc.bytes + LPC_BASE) & up_to_node);
+    set_base_bits(lpc.bytes, LPC_NODE_BIT, node);
     put_u16(lpc.bytes + LPC_CASCADE, cascade);
     return lpc;
+}
+
+uint8_t node_of_lpc(const uint8_t *lpc)
+{
+    return get_u64(lpc + LPC_BASE) >> LPC_NODE_BIT & (LPC_NODES - 1);
+}
+
+void set_base_bits(uint8_t *lpc, unsigned first_bit, uint8_t number)
+{
+    uint64_t mask = (uint64_t)(LPC_NODES - 1) << first_bit;
+
+    put_u64(lpc + LPC_BASE, (get_u64(lpc + LPC_BASE) & ~mask) | (uint64_t)number << first_bit);
 }
 
 /* ---- The board ---- */

@@ -85,8 +85,12 @@ enum {
     MSI_COUNT = 15,
     BIO_HARDWARE_ID = 13,
     BIO_BASE = 15,
+    LPC_BASE = 3,
     LPC_CASCADE = 13,
 };
+
+/* Four bits of an LPC's base, from this one on, are the hardware ID of its bridge: its node (W-208). */
+enum { LPC_NODE_BIT = 44, LPC_NODE_BITS = 4, LPC_NODES = 1 << LPC_NODE_BITS };
 
 /* The bytes of one structure; a broken one may have more or fewer than its length byte says. */
 struct structure {
@@ -108,7 +112,13 @@ struct structure make_lio(struct random *random, const uint8_t cascades[2], cons
 struct structure make_eio(struct random *random, uint8_t cascade, uint8_t node, uint64_t node_map);
 struct structure make_msi(struct random *random, uint32_t start, uint32_t count);
 struct structure make_bio(struct random *random, uint16_t hardware_id, uint16_t base);
-struct structure make_lpc(struct random *random, uint16_t cascade);
+
+/* All bits of its base but those of the node are random, or those above the node are 0, as they are in addresses. */
+struct structure make_lpc(struct random *random, uint8_t node, uint16_t cascade);
+
+/* The node of an LPC. It gets another if the four bits of its base from LPC_NODE_BIT on are set; others can be set as well. */
+uint8_t node_of_lpc(const uint8_t *lpc);
+void set_base_bits(uint8_t *lpc, unsigned first_bit, uint8_t number);
 
 /* ---- The board ---- */
 

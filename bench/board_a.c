@@ -38,6 +38,14 @@ void load_board_a(const char *boards, uint8_t revision, struct capture *a)
     make_sums_good(a);
 }
 
+static struct structure make_written_lpc(struct random *random, const uint32_t field[3])
+{
+    struct structure lpc = make_lpc(random, 0, (uint16_t)field[0]);
+
+    put_u64(lpc.bytes + LPC_BASE, (uint64_t)field[1] << 32 | field[2]);
+    return lpc;
+}
+
 static struct structure make_written(const struct written *written)
 {
     const uint32_t *field = written->field;
@@ -57,7 +65,7 @@ static struct structure make_written(const struct written *written)
     case BIO:
         return make_bio(&random, (uint16_t)field[0], (uint16_t)field[1]);
     case LPC:
-        return make_lpc(&random, (uint16_t)field[0]);
+        return make_written_lpc(&random, field);
     case 0:
         return (struct structure){.length = 0};
     default:

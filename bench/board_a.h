@@ -37,7 +37,10 @@ extern const char A_READ[];
 /* Board A as it is, or with a MADT revision other than 1 and the sum made good. `boards` is the path of the folder boards/. */
 void load_board_a(const char *boards, uint8_t revision, struct capture *a);
 
-/* A structure as the documents write it: its kind, and its fields in the order of "MADT structures". Bases and sizes are free. */
+/*
+ * A structure as the documents write it: its kind, and its fields in the order of "MADT structures". Sizes are free, and bases
+ * too, except that of an LPC, which names its bridge (W-208): it stands behind the cascade, as two numbers, the high half first.
+ */
 struct written {
     uint8_t kind; /* 0: none; a type that is passed over: two bytes, the shortest that there are */
     uint32_t field[4];

@@ -374,13 +374,22 @@ static uint32_t number_near_bridge(struct random *random, const struct board *bo
     return near_edge(random, get_u16(bio + BIO_BASE), one_in(random, 3) ? PINS : pins_of_bio(board, bio));
 }
 
+/* The LPC's cascade; 0 if there is no LPC. */
+static uint32_t pin_of_lpc(const struct board *board)
+{
+    for (size_t i = 0; i < board->structures; i++)
+        if (board->structure[i].bytes[0] == LPC)
+            return get_u16(board->structure[i].bytes + LPC_CASCADE);
+    return 0;
+}
+
 /* A global number that tells readers apart. */
 static uint32_t interesting_number(struct random *random, const struct board *board)
 {
     const uint8_t *bio = some_bio(random, board);
-    uint32_t low = (uint32_t)below(random, 64); /* LPC, LIO and what lies between LIO and BIO */
+    uint32_t low = (uint32_t)below(random, BASE_MIN); /* LPC, LIO and what lies between LIO and BIO */
 
-    switch (below(random, 8)) {
+    switch (below(random, 10)) {
     case 0:
         return (uint32_t)any(random);
     case 1:
@@ -389,6 +398,10 @@ static uint32_t interesting_number(struct random *random, const struct board *bo
         return low + (one_in(random, 2) ? 256 : 65536);
     case 3: case 4: case 5:
         return bio == NULL ? low : number_near_bridge(random, board, bio);
+    case 6: /* a line of the LPC */
+        return low % LIO_FIRST;
+    case 7: /* the pin of the LPC's number, of any bridge: it is the LPC's on one of them (W-208) */
+        return bio == NULL ? low : get_u16(bio + BIO_BASE) + pin_of_lpc(board);
     default:
         return low;
     }
@@ -405,10 +418,10 @@ static struct arrival arrival_of(uint64_t answer)
     return (struct arrival){(uint32_t)(answer >> 32), (uint32_t)answer};
 }
 
-/* One near the last pin of a bridge, at the vector of its EIO if there is one. */
-static struct arrival arrival_near_pins(struct random *random, const struct board *board, const uint8_t *bio)
+/* One with a number, at the vector of a bridge's EIO if there is one. */
+static struct arrival arrival_at_bridge(const struct board *board, const uint8_t *bio, uint32_t number)
 {
-    struct arrival arrival = {CASCADE_MIN, near_edge(random, 0, pins_of_bio(board, bio))};
+    struct arrival arrival = {CASCADE_MIN, number};
 
     for (size_t i = 0; i < board->structures; i++) {
         const uint8_t *bytes = board->structure[i].bytes;
@@ -430,7 +443,7 @@ static struct arrival interesting_arrival(struct random *random, const struct bo
     for (size_t i = 0; i < board->structures; i++)
         if (board->structure[i].bytes[0] == EIO && one_in(random, 2))
             vector = board->structure[i].bytes[EIO_CASCADE];
-    switch (below(random, 8)) {
+    switch (below(random, 10)) {
     case 0:
         number = edges[below(random, sizeof edges / sizeof edges[0])];
         break;
@@ -444,9 +457,13 @@ static struct arrival interesting_arrival(struct random *random, const struct bo
         vector = one_in(random, 2) ? vector : (uint32_t)any(random);
         number = one_in(random, 2) ? UINT32_MAX : (uint32_t)any(random);
         break;
-    case 4: case 5:
+    case 4: case 5: /* near the last pin of a bridge */
         if (bio != NULL)
-            return arrival_near_pins(random, board, bio);
+            return arrival_at_bridge(board, bio, near_edge(random, 0, pins_of_bio(board, bio)));
+        break;
+    case 6: case 7: /* on the pin of the LPC's number, of any bridge */
+        if (bio != NULL)
+            return arrival_at_bridge(board, bio, pin_of_lpc(board));
         break;
     default:
         break;

@@ -1,7 +1,8 @@
 /*
  * Board A and its neighbours, the five errors that look right, the refusals of request W-202, board A with spare CORE and
- * repeated IDs for requests W-203 and W-205, cut into segments for request W-206, and as version 2 for request W-212, all of
- * it with the MADT revisions of request W-207, and the captures of boards/: see examples.h.
+ * repeated IDs for requests W-203 and W-205, cut into segments for request W-206, as version 2 for request W-212, and with
+ * other bridges for request W-208, all of it with the MADT revisions of request W-207, and the captures of boards/: see
+ * examples.h.
  */
 #define _DEFAULT_SOURCE /* opendir */
 
@@ -18,6 +19,7 @@
 
 #include "board.h"
 #include "board_a.h"
+#include "bridges.h"
 #include "files.h"
 #include "pins.h"
 #include "questions.h"
@@ -908,30 +910,32 @@ static struct revised cut_example(const char *boards, size_t number, uint8_t rev
     return (struct revised){example->what, example->printed, revision, &capture};
 }
 
-/* ---- Board A as version 2 ---- */
+/* ---- Board A as version 2, and with other bridges ---- */
 
-/* As refused_example(). */
-static struct revised pin_example(const char *boards, size_t number, uint8_t revision)
+/* As refused_example(): those of pins.c, and behind them those of bridges.c. */
+static struct revised variant_example(const char *boards, size_t number, uint8_t revision)
 {
     static struct capture capture;
-    struct pin_example example = make_pin_example(boards, number, revision, &capture);
+    size_t pins = count_pin_examples();
+    struct made_example example = number < pins ? make_pin_example(boards, number, revision, &capture)
+                                                : make_bridge_example(boards, number - pins, revision, &capture);
 
     return (struct revised){example.what, example.printed, revision, &capture};
 }
 
 /* ---- All of these, with each of the revisions ---- */
 
-enum { VERSION_1_EXAMPLES = REFUSED_EXAMPLES + CORE_EXAMPLES + FULL_EXAMPLES + CUT_EXAMPLES };
+enum { OWN_EXAMPLES = REFUSED_EXAMPLES + CORE_EXAMPLES + FULL_EXAMPLES + CUT_EXAMPLES };
 
 static size_t count_revised_examples(void)
 {
-    return VERSION_1_EXAMPLES + count_pin_examples();
+    return OWN_EXAMPLES + count_pin_examples() + count_bridge_examples();
 }
 
 static struct revised revised_example(const char *boards, size_t number, uint8_t revision)
 {
-    if (number >= VERSION_1_EXAMPLES)
-        return pin_example(boards, number - VERSION_1_EXAMPLES, revision);
+    if (number >= OWN_EXAMPLES)
+        return variant_example(boards, number - OWN_EXAMPLES, revision);
     if (number < REFUSED_EXAMPLES)
         return refused_example(boards, number, revision);
     number -= REFUSED_EXAMPLES;
@@ -1052,6 +1056,7 @@ static void ask_vectors_real_captures(const char *boards)
 
 /* ---- All of it ---- */
 
+/* The maps of this file are board A's but for the processors, which the entries for C give too. */
 void save_examples_for_map(const char *boards, const char *folder)
 {
     char name[64];
@@ -1059,7 +1064,7 @@ void save_examples_for_map(const char *boards, const char *folder)
     for (size_t i = 0; i < count_revised_examples(); i++) {
         struct revised revised = revised_example(boards, i, 1);
 
-        if (is_map(revised.printed) && i < VERSION_1_EXAMPLES)
+        if (is_map(revised.printed) && i < OWN_EXAMPLES)
             continue;
         snprintf(name, sizeof name, "example-%zu", i + 1);
         save_for_map(folder, name, revised.capture->bytes, revised.capture->length, revised.printed);
@@ -1071,6 +1076,7 @@ void ask_vectors_examples(const char *boards)
 {
     ask_vectors_revised_examples(boards);
     ask_vectors_pin_answers(boards);
+    ask_vectors_bridge_answers(boards);
     ask_vectors_reading_examples(boards);
     ask_vectors_real_captures(boards);
 }
@@ -1083,6 +1089,7 @@ struct tally ask_examples(const struct reader *reader, const char *boards)
     ask_neighbours(&tally, reader, boards);
     ask_revised_examples(&tally, reader, boards);
     ask_pin_answers(&tally, reader, boards);
+    ask_bridge_answers(&tally, reader, boards);
     ask_reading_examples(&tally, reader, boards);
     ask_real_captures(&tally, reader, boards);
     return tally;

@@ -24,7 +24,7 @@ static void append_controllers(struct random *random)
     append_structure(&board, make_eio(random, 3, 0, 1));
     append_structure(&board, make_msi(random, 64, 192));
     append_structure(&board, make_bio(random, 0, 64));
-    append_structure(&board, make_lpc(random, 19));
+    append_structure(&board, make_lpc(random, 0, 19));
     board.sci = 75;
 }
 

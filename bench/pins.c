@@ -7,32 +7,9 @@
 #include "pins.h"
 
 #include <stdbool.h>
-#include <stdio.h>
 #include <string.h>
 
 #include "board_a.h"
-#include "questions.h"
-
-/* ---- Boards ---- */
-
-/* Board A with pairs, and with other structures. */
-struct pin_board {
-    struct pair pair[PAIRS];
-    size_t place; /* not 0: from this place of board A on, which is that of version 1, it has ... */
-    struct written written[WRITTEN_MAX]; /* ... these structures in place of its own */
-    uint16_t sci; /* not 0: the SCI, which is 75 on board A */
-};
-
-static void make_pin_board(const char *boards, const struct pin_board *board, uint8_t revision, struct capture *capture)
-{
-    load_board_a(boards, revision, capture);
-    if (board->place != 0)
-        replace_structures(capture, board->place, board->written);
-    if (board->sci != 0)
-        put_u16(capture->bytes + capture->place[FADT] + FADT_SCI, board->sci);
-    make_sums_good(capture);
-    become_version_2(capture, board->pair);
-}
 
 /* ---- What is done to the header ---- */
 
@@ -144,7 +121,7 @@ static void two_segments_that_overlap(struct capture *a)
 
 struct pairs_example {
     const char *what;
-    struct pin_board board;
+    struct variant board;
     void (*edit)(struct capture *a); /* of the capture; NULL: none */
     const char *printed;
 };
@@ -171,8 +148,8 @@ static const struct pairs_example pairs_examples[] = {
      .printed = PRINTED("eio 0 3 1\neio 5 4 1\nbio 0 64 127\nmsi 64 255\nlpc 0 19\nsci 75 3 11\n")},
     {"(0, 32), no BIO, no LPC", {.pair = {{0, 32}}, A_MSI, {{MSI, {0, 256}}}, 26},
      .printed = PRINTED("eio 0 3 1\nmsi 0 255\nsci 26 2 10\n")},
-    {"(63, 5), all on node 63", {.pair = {{63, 5}}, A_EIO, {{EIO, {3, 63, 1}}, {MSI, {64, 192}}, {BIO, {63, 64}}, {LPC, {4}}}, 68},
-     .printed = PRINTED("eio 63 3 1\nbio 63 64 68\nmsi 64 255\nlpc 63 4\nsci 68 3 4\n")},
+    {"(63, 5), all on node 63, no LPC", {.pair = {{63, 5}}, A_EIO, {{EIO, {3, 63, 1}}, {MSI, {64, 192}}, {BIO, {63, 64}}}, 68},
+     .printed = PRINTED("eio 63 3 1\nbio 63 64 68\nmsi 64 255\nsci 68 3 4\n")},
     /* 7: over 64 inputs, or an ID that an earlier pair gives; pairs in turn, and the empty ones count for nothing. */
     {"(0, 65)", {.pair = {{0, 65}}}, .printed = "refused 7 at 18"},
     {"(0, 255)", {.pair = {{0, 255}}}, .printed = "refused 7 at 18"},
@@ -287,7 +264,7 @@ static const struct pairs_example pairs_examples[] = {
        {BIO, {3, 70}}, {MSI, {4, 252}}, {LPC, {0}}}, 73},
      .printed = PRINTED("eio 0 3 1\neio 1 4 1\neio 2 5 1\neio 3 6 1\nbio 0 64 64\nbio 1 65 66\nbio 2 67 69\nbio 3 70 73\n"
                         "msi 4 255\nlpc 0 0\nsci 73 6 3\n")},
-    /* 45: the LPC's cascade is at or past the count of its own bridge, the BIO with the smallest hardware ID. */
+    /* 45: the LPC's cascade is at or past the count of its own bridge, which is BIO 0 here; bridges.c has others. */
     {"(0, 19)", {.pair = {{0, 19}}}, .printed = "refused 45 at 287"},
     {"(0, 20)", {.pair = {{0, 20}}}, .printed = PRINTED_UP_TO(83)},
     {"(0, 1)", {.pair = {{0, 1}}}, .printed = "refused 45 at 287"},
@@ -415,26 +392,26 @@ size_t count_pin_examples(void)
     return PAIRS_EXAMPLES + HEADER_EXAMPLES;
 }
 
-struct pin_example make_pin_example(const char *boards, size_t number, uint8_t revision, struct capture *capture)
+struct made_example make_pin_example(const char *boards, size_t number, uint8_t revision, struct capture *capture)
 {
     if (number >= PAIRS_EXAMPLES) {
         const struct header_example *example = &header_examples[number - PAIRS_EXAMPLES];
 
         make_header_example(boards, example, revision, capture);
-        return (struct pin_example){example->what, example->printed};
+        return (struct made_example){example->what, example->printed};
     }
 
     const struct pairs_example *example = &pairs_examples[number];
 
-    make_pin_board(boards, &example->board, revision, capture);
+    make_variant(boards, &example->board, WITH_PAIRS, revision, capture);
     if (example->edit != NULL)
         example->edit(capture);
-    return (struct pin_example){example->what, example->printed};
+    return (struct made_example){example->what, example->printed};
 }
 
 /* ---- Routes and traces ---- */
 
-static const struct pin_board
+static const struct variant
     no_pairs = {.pair = {{0}}},
     short_bridge = {.pair = {{0, 32}}},
     slots_behind_pins = {.pair = {{0, 32}}, A_MSI, {{MSI, {32, 224}}, {BIO, {0, 64}}, {LPC, {19}}}},
@@ -448,23 +425,7 @@ static const struct pin_board
     lpc_past_its_bridge = {.pair = {{0, 19}}},
     slot_on_pin = {.pair = {{0, 33}}, A_MSI, {{MSI, {32, 224}}, {BIO, {0, 64}}, {LPC, {19}}}};
 
-/* Answers as `vectors` prints them. */
-#define ARRIVES(vector, number) "kind 0 " #vector " " #number
-#define NO_OWNER "kind 2 0 0"
-#define NOTHING "kind 0 0 0"
-#define BIO_INPUT(number) "kind 2 0 " #number
-#define LPC_INPUT(number) "kind 3 0 " #number
-#define SLOT(slot, node) "kind 4 " #node " " #slot
-
-struct pin_answer {
-    const char *what;
-    const struct pin_board *board;
-    enum question question;
-    uint32_t first, second;
-    const char *answer;
-};
-
-static const struct pin_answer pin_answers[] = {
+static const struct variant_answer pin_answers[] = {
     /* 64 inputs without a pair, also where there are pairs of other IDs. */
     {"no pairs, route 96", &no_pairs, ROUTE, 96, 0, ARRIVES(3, 32)},
     {"no pairs, route 127", &no_pairs, ROUTE, 127, 0, ARRIVES(3, 63)},
@@ -535,38 +496,14 @@ static const struct pin_answer pin_answers[] = {
     {"(0, 33), MSI from 32, route 72", &slot_on_pin, ROUTE, 72, 0, "refused 52 at 270"},
 };
 
-enum { PIN_ANSWERS = sizeof pin_answers / sizeof pin_answers[0] };
-
-/* The question, about a capture that the next one takes over. */
-static struct query query_of(const char *boards, const struct pin_answer *answer, enum reading reading)
-{
-    static struct capture capture;
-
-    make_pin_board(boards, answer->board, 1, &capture);
-    return (struct query){reading, answer->question, answer->first, answer->second, capture.bytes, capture.length};
-}
+static const struct variant_answers all_pin_answers = {WITH_PAIRS, pin_answers, sizeof pin_answers / sizeof pin_answers[0]};
 
 void ask_pin_answers(struct tally *tally, const struct reader *reader, const char *boards)
 {
-    char said[ANSWER_ROOM];
-
-    for (size_t i = 0; i < PIN_ANSWERS; i++) {
-        const struct pin_answer *answer = &pin_answers[i];
-        struct query query = query_of(boards, answer, reading_of(reader));
-
-        answer_query(reader, &query, said);
-        tally->asked++;
-        if (strcmp(said, answer->answer) != 0 && ++tally->wrong <= WRONG_TOLD)
-            printf("%s, version 2, %s: %s, but the documents say %s\n", reader->name, answer->what, said, answer->answer);
-    }
+    ask_variant_answers(tally, reader, boards, all_pin_answers);
 }
 
 void ask_vectors_pin_answers(const char *boards)
 {
-    for (size_t i = 0; i < PIN_ANSWERS; i++)
-        for (enum reading reading = ORDINARY; reading <= STRICT; reading++) {
-            struct query query = query_of(boards, &pin_answers[i], reading);
-
-            write_question(pin_answers[i].what, &query, pin_answers[i].answer);
-        }
+    ask_vectors_variant_answers(boards, all_pin_answers);
 }

@@ -11,16 +11,12 @@
 #include "board.h"
 #include "examples.h"
 #include "readers.h"
-
-/* A case, and what both readings print for it if its MADT has revision 1. */
-struct pin_example {
-    const char *what, *printed;
-};
+#include "variants.h"
 
 size_t count_pin_examples(void);
 
 /* Makes the capture of a number, with a MADT revision. */
-struct pin_example make_pin_example(const char *boards, size_t number, uint8_t revision, struct capture *capture);
+struct made_example make_pin_example(const char *boards, size_t number, uint8_t revision, struct capture *capture);
 
 /* Asks a reader the routes and traces, as ask_examples() does. */
 void ask_pin_answers(struct tally *tally, const struct reader *reader, const char *boards);

@@ -1,9 +1,10 @@
 /*
- * The reference: document 01 and requests W-202, W-203, W-206, W-207 and W-212 of document 02 written down in plain C, from
- * the documents alone, without a look at the proved reader, so that an error would have to be made twice to go unseen.
+ * The reference: document 01 and requests W-202, W-203, W-206, W-207, W-208 and W-212 of document 02 written down in plain C,
+ * from the documents alone, without a look at the proved reader, so that an error would have to be made twice to go unseen.
  *
  * Titles in quotation marks are sections of document 01; the numbers given to refuse() are those of its table
- * "Refusals in order", where W-202 puts 71 to 77 in the place of 36: after 35 and before 37. W-212 adds 7 and 45.
+ * "Refusals in order", where W-202 puts 71 to 77 in the place of 36: after 35 and before 37. W-212 adds 7 and 45, and
+ * W-208 gives 43 another meaning.
  */
 #include "reference.h"
 
@@ -424,6 +425,7 @@ struct bio {
 
 struct lpc {
     uint64_t place;
+    uint16_t node; /* the hardware ID of its BIO */
     uint16_t cascade;
 };
 
@@ -537,10 +539,18 @@ static uint64_t take_bio(struct board *board, const uint8_t *bytes, uint64_t pla
     return 0;
 }
 
-/* Its range is that of all pins that a bridge can have: 77. Whether its own has so many is asked later: 45. */
+/* W-208: four bits of the LPC's base are its node. The others, above and below them, are not looked at. */
+static uint16_t node_in_base(uint64_t base)
+{
+    enum { FIRST_BIT = 44, NODES_IN_FOUR_BITS = 16 };
+
+    return base >> FIRST_BIT & (NODES_IN_FOUR_BITS - 1);
+}
+
+/* Its range is that of all pins that a bridge can have: 77. Whether its own is there, and has so many, is asked later: 43, 45. */
 static uint64_t take_lpc(struct board *board, const uint8_t *bytes, uint64_t place)
 {
-    struct lpc lpc = {place, u16(bytes + 13)};
+    struct lpc lpc = {place, node_in_base(u64(bytes + 3)), u16(bytes + 13)};
 
     if (lpc.cascade >= PINS_MAX)
         return refuse(77, place);
@@ -644,20 +654,19 @@ static const struct eio *eio_of_node(const struct board *board, uint16_t node)
     return NULL;
 }
 
-/* The LPC's BIO: the smallest hardware ID, the earliest of equals. */
+/* W-208: the BIO whose hardware ID is the LPC's node, the earliest of equals; NULL if there is none. */
 static const struct bio *bridge_of_lpc(const struct board *board)
 {
-    const struct bio *bridge = &board->bio[0];
-
-    for (size_t i = 1; i < board->bios; i++)
-        if (board->bio[i].node < bridge->node)
-            bridge = &board->bio[i];
-    return bridge;
+    for (size_t i = 0; i < board->bios; i++)
+        if (board->bio[i].node == board->lpc.node)
+            return &board->bio[i];
+    return NULL;
 }
 
-static uint64_t route_pin(const struct board *board, const struct bio *bio, uint32_t pin)
+/* The input of a BIO arrives through the EIO whose node is the BIO's hardware ID. */
+static uint64_t route_pin(const struct board *board, uint16_t hardware_id, uint32_t pin)
 {
-    return arrives(eio_of_node(board, bio->node)->cascade, pin);
+    return arrives(eio_of_node(board, hardware_id)->cascade, pin);
 }
 
 /* The half that a LIO input is wired to, if any. */
@@ -672,7 +681,7 @@ static const struct half *half_of_input(const struct lio *lio, uint32_t input)
 static uint64_t route(const struct board *board, uint32_t number)
 {
     if (number < LPC_INPUTS)
-        return board->lpcs == 0 ? NO_OWNER : route_pin(board, bridge_of_lpc(board), board->lpc.cascade);
+        return board->lpcs == 0 ? NO_OWNER : route_pin(board, board->lpc.node, board->lpc.cascade);
     if (number < LIO_FIRST + LIO_INPUTS) {
         uint32_t input = number - LIO_FIRST;
         const struct half *half = half_of_input(&board->lio, input);
@@ -683,12 +692,15 @@ static uint64_t route(const struct board *board, uint32_t number)
         const struct bio *bio = &board->bio[i];
 
         if (number >= bio->base && number - bio->base < bio->pins)
-            return route_pin(board, bio, number - bio->base);
+            return route_pin(board, bio->node, number - bio->base);
     }
     return NO_OWNER;
 }
 
-/* What arrives through one EIO with a number, its extended vector. */
+/*
+ * What arrives through one EIO with a number, its extended vector. BIO of one hardware ID have equally many inputs, so the
+ * first that has this one is the earliest of its equals: if the LPC has their node, it is the LPC's.
+ */
 static uint64_t trace_eio(const struct board *board, const struct eio *eio, uint32_t number)
 {
     for (size_t i = 0; i < board->bios; i++) {
@@ -696,7 +708,7 @@ static uint64_t trace_eio(const struct board *board, const struct eio *eio, uint
 
         if (bio->node != eio->node || number >= bio->pins)
             continue;
-        if (board->lpcs == 1 && bio == bridge_of_lpc(board) && number == board->lpc.cascade)
+        if (board->lpcs == 1 && bio->node == board->lpc.node && number == board->lpc.cascade)
             return traced(LPC_CASCADE, 0, bio->base + number);
         return traced(BIO_INPUT, 0, bio->base + number);
     }
@@ -754,6 +766,21 @@ static uint64_t check_ids(const struct board *board)
     return 0;
 }
 
+/* Rules 43 and 45, about the LPC if there is one. */
+static uint64_t check_lpc(const struct board *board)
+{
+    if (board->lpcs == 0)
+        return 0;
+
+    const struct bio *bridge = bridge_of_lpc(board);
+
+    if (bridge == NULL)
+        return refuse(43, board->lpc.place);
+    if (board->lpc.cascade >= bridge->pins)
+        return refuse(45, board->lpc.place);
+    return 0;
+}
+
 /* Rules 40 to 45; 44 is about HT boards, which are refused with 34. */
 static uint64_t check_parts(const struct board *board)
 {
@@ -766,11 +793,7 @@ static uint64_t check_parts(const struct board *board)
     for (size_t i = 0; i < board->bios; i++)
         if (eio_of_node(board, board->bio[i].node) == NULL)
             return refuse(42, board->bio[i].place);
-    if (board->lpcs == 1 && board->bios == 0)
-        return refuse(43, board->lpc.place);
-    if (board->lpcs == 1 && board->lpc.cascade >= bridge_of_lpc(board)->pins)
-        return refuse(45, board->lpc.place);
-    return 0;
+    return check_lpc(board);
 }
 
 static bool numbers_meet(const struct bio *a, const struct bio *b)

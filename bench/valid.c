@@ -1,7 +1,8 @@
 /*
  * Random boards that keep every rule of document 01: see valid.h. They are varied on purpose in what the rules do not
  * fix: the order of structures and tables, the order of UIDs and of physical IDs, the IDs of disabled CORE, the pairs of
- * version 2, what is passed over, the segments, what runs across segments that touch, the free bytes.
+ * version 2, which bridge the LPC is behind, what is passed over, the segments, what runs across segments that touch, the
+ * free bytes.
  */
 #include "valid.h"
 
@@ -266,7 +267,7 @@ static uint16_t hardware_id_of(const uint8_t *bio)
     return get_u16(bio + BIO_HARDWARE_ID);
 }
 
-static bool has_bio(const struct board *board, uint16_t hardware_id)
+bool has_bio(const struct board *board, uint16_t hardware_id)
 {
     for (size_t i = 0; i < board->structures; i++)
         if (board->structure[i].bytes[0] == BIO && hardware_id_of(board->structure[i].bytes) == hardware_id)
@@ -297,27 +298,92 @@ void give_pair(struct random *random, struct board *board, uint8_t hardware_id, 
     *pair = (struct pair){hardware_id, number};
 }
 
-const uint8_t *some_bio(struct random *random, const struct board *board)
+/* Some BIO with a hardware ID below a limit; NULL if there is none. */
+static const uint8_t *some_bio_below(struct random *random, const struct board *board, uint32_t limit)
 {
     const uint8_t *bio = NULL;
-
-    for (size_t i = 0; i < board->structures; i++)
-        if (board->structure[i].bytes[0] == BIO && (bio == NULL || one_in(random, 2)))
-            bio = board->structure[i].bytes;
-    return bio;
-}
-
-const uint8_t *bridge_of_lpc(const struct board *board)
-{
-    const uint8_t *bridge = NULL;
 
     for (size_t i = 0; i < board->structures; i++) {
         const uint8_t *bytes = board->structure[i].bytes;
 
-        if (bytes[0] == BIO && (bridge == NULL || hardware_id_of(bytes) < hardware_id_of(bridge)))
-            bridge = bytes;
+        if (bytes[0] == BIO && hardware_id_of(bytes) < limit && (bio == NULL || one_in(random, 2)))
+            bio = bytes;
     }
-    return bridge;
+    return bio;
+}
+
+const uint8_t *some_bio(struct random *random, const struct board *board)
+{
+    return some_bio_below(random, board, UINT16_MAX + 1);
+}
+
+const uint8_t *some_bridge_for_lpc(struct random *random, const struct board *board)
+{
+    return some_bio_below(random, board, LPC_NODES);
+}
+
+const uint8_t *bridge_of_lpc(const struct board *board)
+{
+    const uint8_t *lpc = NULL;
+
+    for (size_t i = 0; i < board->structures && lpc == NULL; i++)
+        if (board->structure[i].bytes[0] == LPC)
+            lpc = board->structure[i].bytes;
+    for (size_t i = 0; i < board->structures && lpc != NULL; i++) {
+        const uint8_t *bytes = board->structure[i].bytes;
+
+        if (bytes[0] == BIO && hardware_id_of(bytes) == node_of_lpc(lpc))
+            return bytes;
+    }
+    return NULL;
+}
+
+void name_bridge_beside_node(struct random *random, const struct board *board, uint8_t *lpc)
+{
+    const uint8_t *bridge = some_bridge_for_lpc(random, board);
+    unsigned bit = one_in(random, 2) ? LPC_NODE_BIT - LPC_NODE_BITS : LPC_NODE_BIT + LPC_NODE_BITS;
+
+    if (bridge != NULL)
+        set_base_bits(lpc, bit, (uint8_t)hardware_id_of(bridge));
+}
+
+bool has_eio(const struct board *board, uint8_t node)
+{
+    for (size_t i = 0; i < board->structures; i++)
+        if (board->structure[i].bytes[0] == EIO && board->structure[i].bytes[EIO_NODE] == node)
+            return true;
+    return false;
+}
+
+/* A node whose low four bits, which are all that an LPC's base can hold, are those of an EIO's node; of any, if there is none. */
+static uint8_t node_like_another(struct random *random, const struct board *board)
+{
+    uint8_t low = (uint8_t)below(random, LPC_NODES);
+
+    for (size_t i = 0; i < board->structures; i++)
+        if (board->structure[i].bytes[0] == EIO && one_in(random, 2))
+            low = board->structure[i].bytes[EIO_NODE] % LPC_NODES;
+    return (uint8_t)(low + LPC_NODES * below(random, NODES / LPC_NODES));
+}
+
+uint8_t unused_node(struct random *random, const struct board *board)
+{
+    uint8_t node;
+
+    do {
+        switch (below(random, 8)) {
+        case 0:
+            node = (uint8_t)below(random, NODES);
+            break;
+        case 1: case 2:
+            node = node_like_another(random, board);
+            break;
+        default:
+            node = (uint8_t)below(random, LPC_NODES);
+            break;
+        }
+    } while (has_eio(board, node));
+    return node;
 }
 
 uint8_t most_pins(const struct board *board)
@@ -446,23 +512,36 @@ static void add_bio(struct random *random, struct board *board, uint8_t hardware
     append_structure(board, make_bio(random, hardware_id, base));
 }
 
-/* EIOs of different nodes, and a BIO on some of them; gives the number of BIOs. */
+/* EIOs of different nodes, and on most boards a BIO on each or on some of them; gives the number of BIOs. */
 static size_t add_hubs(struct random *random, struct board *board, struct lines *lines)
 {
-    size_t eios = between(random, 1, EIOS_MAX);
-    size_t first_bio = below(random, eios + 1);
-    uint8_t node = (uint8_t)below(random, NODES), step = (uint8_t)(any(random) | 1);
-    size_t bios = 0;
+    size_t eios = between(random, 1, EIOS_MAX), sure_bio = below(random, eios);
+    bool bridges = !one_in(random, 4);
 
     for (size_t i = 0; i < eios; i++) {
+        uint8_t node = unused_node(random, board);
+
         append_structure(board, make_eio(random, lines->line[lines->taken++], node, node_map(random)));
-        if (i >= first_bio && (i == first_bio || !one_in(random, 4))) {
+        if (bridges && (i == sure_bio || !one_in(random, 4)))
             add_bio(random, board, node);
-            bios++;
-        }
-        node = (uint8_t)((node + step) % NODES);
     }
-    return bios;
+    return count_kind(board, BIO);
+}
+
+/* Behind any bridge that its base can name, on one of this bridge's pins: others may lack it. Many boards have none. */
+static void add_lpc(struct random *random, struct board *board)
+{
+    const uint8_t *bridge = some_bridge_for_lpc(random, board);
+
+    if (bridge == NULL || one_in(random, 4))
+        return;
+
+    uint16_t cascade = random_pin(random, pins_of_bio(board, bridge));
+    struct structure lpc = make_lpc(random, (uint8_t)hardware_id_of(bridge), cascade);
+
+    if (one_in(random, 2))
+        name_bridge_beside_node(random, board, lpc.bytes);
+    append_structure(board, lpc);
 }
 
 /* MSIs with slots of their own: behind the pins of all BIOs, from 0 if there is none. */
@@ -551,11 +630,7 @@ static void add_structures(struct random *random, struct board *board)
         masks[any(random) & 1] = 1;
     add_lio(random, board, &lines, masks);
     add_msis(random, board);
-    if (bios != 0 && !one_in(random, 3)) {
-        uint16_t cascade = random_pin(random, pins_of_bio(board, bridge_of_lpc(board)));
-
-        append_structure(board, make_lpc(random, cascade));
-    }
+    add_lpc(random, board);
     if (board->version == WITH_PAIRS)
         fill_other_pairs(random, board);
     if (!one_in(random, 3))

@@ -1,8 +1,8 @@
 /*
  * Random boards that keep every rule of document 01, with the meaning that W-206 gives to a stretch that is present. W-203
  * leaves the IDs of disabled CORE free, and theirs often repeat others. A third of them have capture version 2, and many of
- * these keep the rules only because their bridges have fewer pins (W-212). Their MADT has revision 1, which both readings of
- * W-207 take.
+ * these keep the rules only because their bridges have fewer pins (W-212). Their LPC is behind any of their bridges that its
+ * base can name (W-208). Their MADT has revision 1, which both readings of W-207 take.
  */
 #ifndef VALID_H
 #define VALID_H
@@ -30,11 +30,24 @@ void make_version_2(struct random *random, struct board *board);
 /* Gives a number of inputs to the bridges of a hardware ID. Other bridges keep their pairs, unless they have all four. */
 void give_pair(struct random *random, struct board *board, uint8_t hardware_id, uint8_t number);
 
+/* A node that no EIO has. Most are 0 to 15, which an LPC's base can name; some are 16, 32 or 48 apart from an EIO's (W-208). */
+uint8_t unused_node(struct random *random, const struct board *board);
+
+/* Whether some EIO has this node, and some BIO this hardware ID. */
+bool has_eio(const struct board *board, uint8_t node);
+bool has_bio(const struct board *board, uint16_t hardware_id);
+
 /* Some BIO; NULL if there is none. */
 const uint8_t *some_bio(struct random *random, const struct board *board);
 
-/* The LPC's bridge, the BIO with the smallest hardware ID; NULL if there is none. */
+/* Some BIO that an LPC's base can name, with a hardware ID of 0 to 15 (W-208); NULL if there is none. */
+const uint8_t *some_bridge_for_lpc(struct random *random, const struct board *board);
+
+/* The LPC's bridge, the earliest BIO whose hardware ID is the LPC's node (W-208); NULL if there is none, or no LPC. */
 const uint8_t *bridge_of_lpc(const struct board *board);
+
+/* The bits just below the LPC's node, or those just above it, which mean nothing, become the hardware ID of a bridge, if any can. */
+void name_bridge_beside_node(struct random *random, const struct board *board, uint8_t *lpc);
 
 /* How many pins the bridge with the most has; 0 if there is none. */
 uint8_t most_pins(const struct board *board);

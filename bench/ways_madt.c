@@ -10,14 +10,11 @@
 
 /* ---- Structures in range, to break one of or to have one too many of ---- */
 
-static bool has_value(const struct board *board, enum kind kind, size_t field, uint32_t value)
+static bool has_core(const struct board *board, size_t field, uint32_t id)
 {
-    for (size_t i = 0; i < board->structures; i++) {
-        const uint8_t *bytes = board->structure[i].bytes;
-
-        if (bytes[0] == kind && (kind == EIO ? bytes[field] : get_u32(bytes + field)) == value)
+    for (size_t i = 0; i < board->structures; i++)
+        if (board->structure[i].bytes[0] == CORE && get_u32(board->structure[i].bytes + field) == id)
             return true;
-    }
     return false;
 }
 
@@ -27,18 +24,8 @@ static uint32_t unused_id(struct random *random, const struct board *board, size
 
     do
         id = (uint32_t)any(random);
-    while (has_value(board, CORE, field, id));
+    while (has_core(board, field, id));
     return id;
-}
-
-static uint8_t unused_node(struct random *random, const struct board *board)
-{
-    uint8_t node;
-
-    do
-        node = (uint8_t)below(random, NODES);
-    while (has_value(board, EIO, EIO_NODE, node));
-    return node;
 }
 
 static uint8_t cascade_in_range(struct random *random)
@@ -99,6 +86,15 @@ static struct structure fresh_bio(struct random *random, const struct board *boa
     return make_bio(random, node, free_base(random, board, pins_of(board, node)));
 }
 
+/* Behind a bridge that is there, if its base can name one. */
+static struct structure fresh_lpc(struct random *random, const struct board *board)
+{
+    const uint8_t *bridge = some_bridge_for_lpc(random, board);
+    uint8_t node = bridge == NULL ? (uint8_t)below(random, LPC_NODES) : bridge[BIO_HARDWARE_ID];
+
+    return make_lpc(random, node, (uint16_t)below(random, PINS));
+}
+
 static struct structure fresh(struct random *random, const struct board *board, enum kind kind)
 {
     switch (kind) {
@@ -113,7 +109,7 @@ static struct structure fresh(struct random *random, const struct board *board, 
     case BIO:
         return fresh_bio(random, board);
     case LPC:
-        return make_lpc(random, (uint16_t)below(random, PINS));
+        return fresh_lpc(random, board);
     default: /* HT */
         return random_structure(random, kind);
     }
@@ -198,20 +194,59 @@ static void insert_spares(struct random *random, struct board *board, size_t fie
     }
 }
 
-/* ---- Bridges, whose pins depend on their hardware ID (W-212) ---- */
+/* ---- Bridges: their hardware IDs decide on their pins (W-212), and on which is the LPC's (W-208) ---- */
 
-/* New bridges, or new hardware IDs, may put the LPC on a bridge without its pin: then it gets one that is there. */
+/* A bridge that has got shorter may lack the LPC's pin: then the LPC gets one that is there. */
 static void put_lpc_on_a_pin(struct random *random, struct board *board)
 {
     const uint8_t *bridge = bridge_of_lpc(board);
-    uint8_t pins = bridge == NULL ? PINS : pins_of_bio(board, bridge);
 
+    if (bridge == NULL)
+        return;
+
+    uint8_t pins = pins_of_bio(board, bridge), *lpc = nth_of_kind(board, LPC, 0);
+
+    if (get_u16(lpc + LPC_CASCADE) >= pins)
+        put_u16(lpc + LPC_CASCADE, (uint16_t)below(random, pins));
+}
+
+/* Bridges may have got new hardware IDs. An LPC that has lost its own goes behind another, or away if its base can name none. */
+static void put_lpc_behind_a_bridge(struct random *random, struct board *board)
+{
+    const uint8_t *bridge = some_bridge_for_lpc(random, board);
+
+    if (bridge == NULL)
+        remove_kind(board, LPC);
+    else if (count_kind(board, LPC) != 0 && bridge_of_lpc(board) == NULL)
+        set_base_bits(nth_of_kind(board, LPC, 0), LPC_NODE_BIT, bridge[BIO_HARDWARE_ID]);
+    put_lpc_on_a_pin(random, board);
+}
+
+/* The EIO of a node, with its bridges, gets another node. */
+static void move_node(struct board *board, uint16_t from, uint8_t to)
+{
     for (size_t i = 0; i < board->structures; i++) {
         uint8_t *bytes = board->structure[i].bytes;
 
-        if (bytes[0] == LPC && get_u16(bytes + LPC_CASCADE) >= pins)
-            put_u16(bytes + LPC_CASCADE, (uint16_t)below(random, pins));
+        if (bytes[0] == EIO && bytes[EIO_NODE] == from)
+            bytes[EIO_NODE] = to;
+        if (bytes[0] == BIO && get_u16(bytes + BIO_HARDWARE_ID) == from)
+            put_u16(bytes + BIO_HARDWARE_ID, to);
     }
+}
+
+/* Makes sure of a bridge that an LPC's base can name: if there is none, one gets a node from 0 to 15 that no EIO has. */
+static void have_bridge_for_lpc(struct random *random, struct board *board)
+{
+    uint8_t *bio = some(random, board, BIO);
+    uint8_t node;
+
+    if (some_bridge_for_lpc(random, board) != NULL)
+        return;
+    do
+        node = (uint8_t)below(random, LPC_NODES);
+    while (has_eio(board, node));
+    move_node(board, get_u16(bio + BIO_HARDWARE_ID), node);
 }
 
 /* Bridges with new hardware IDs may have more pins than before: all get bases at which they own no number in common. */
@@ -561,7 +596,7 @@ static void surplus_base(struct random *random, struct board *board)
 static void surplus_lpc_cascade(struct random *random, struct board *board)
 {
     have(random, board, LPC, 1);
-    append_structure(board, make_lpc(random, PINS));
+    append_structure(board, make_lpc(random, 0, PINS));
 }
 
 static void surplus_lio_with_shared_bit(struct random *random, struct board *board)
@@ -780,19 +815,81 @@ static void lpc_without_bio(struct random *random, struct board *board)
     (void)some(random, board, LPC);
 }
 
-/* Other bridges may have the pin. */
-static void lpc_past_its_bridge(struct random *random, struct board *board)
+/* W-208: there are bridges, and the LPC is behind none of them. What the bits beside its node name does not matter. */
+
+/* A node that the LPC's base can name, and that no bridge has: this one or the next. */
+static uint8_t node_without_bio(const struct board *board, uint8_t node, int step)
+{
+    while (has_bio(board, node))
+        node = (uint8_t)(node + LPC_NODES + step) % LPC_NODES;
+    return node;
+}
+
+static void lpc_of_no_bridge(struct random *random, struct board *board)
+{
+    have_bridge_for_lpc(random, board);
+
+    uint8_t *lpc = some(random, board, LPC);
+
+    set_base_bits(lpc, LPC_NODE_BIT, node_without_bio(board, (uint8_t)below(random, LPC_NODES), 1));
+    name_bridge_beside_node(random, board, lpc);
+}
+
+/* The bridge's hardware ID has the LPC's node in its low four bits, and more above them. */
+static void lpc_16_below_a_bridge(struct random *random, struct board *board)
 {
     have(random, board, BIO, 1);
     have(random, board, LPC, 1);
 
-    uint8_t pins = shorten(random, board, bridge_of_lpc(board));
-    uint8_t *lpc = some(random, board, LPC);
+    uint16_t hardware_id = get_u16(some(random, board, BIO) + BIO_HARDWARE_ID);
+    uint8_t node, above;
 
-    put_u16(lpc + LPC_CASCADE, missing_pin(random, pins));
+    do {
+        node = node_without_bio(board, (uint8_t)below(random, LPC_NODES), 1);
+        above = (uint8_t)(node + LPC_NODES * between(random, 1, NODES / LPC_NODES - 1));
+    } while (has_eio(board, above));
+    move_node(board, hardware_id, above);
+    set_base_bits(some(random, board, LPC), LPC_NODE_BIT, node);
 }
 
-/* 42 comes before 45. */
+static void lpc_next_to_a_bridge(struct random *random, struct board *board)
+{
+    have_bridge_for_lpc(random, board);
+
+    uint8_t *lpc = some(random, board, LPC);
+    uint8_t bridge = some_bridge_for_lpc(random, board)[BIO_HARDWARE_ID];
+
+    set_base_bits(lpc, LPC_NODE_BIT, node_without_bio(board, bridge, one_in(random, 2) ? 1 : -1));
+}
+
+/* Every bridge has a higher hardware ID. */
+static void lpc_of_node_0_without_bio(struct random *random, struct board *board)
+{
+    have(random, board, BIO, 1);
+    if (has_bio(board, 0))
+        move_node(board, 0, unused_node(random, board));
+    set_base_bits(some(random, board, LPC), LPC_NODE_BIT, 0);
+}
+
+/* The LPC is behind a bridge, and on a pin that this one lacks. Other bridges may have the pin. */
+static void lpc_past_its_bridge(struct random *random, struct board *board)
+{
+    have_bridge_for_lpc(random, board);
+    have(random, board, LPC, 1);
+    put_lpc_behind_a_bridge(random, board);
+
+    uint8_t pins = shorten(random, board, bridge_of_lpc(board));
+
+    put_u16(nth_of_kind(board, LPC, 0) + LPC_CASCADE, missing_pin(random, pins));
+}
+
+/* 42 comes before 43 and 45. */
+static void bio_without_eio_and_lpc_of_no_bridge(struct random *random, struct board *board)
+{
+    bio_without_eio(random, board);
+    lpc_of_no_bridge(random, board);
+}
+
 static void bio_without_eio_and_lpc_past_its_bridge(struct random *random, struct board *board)
 {
     bio_without_eio(random, board);
@@ -808,7 +905,6 @@ static void bases_too_close(struct random *random, struct board *board)
     int distance = one_in(random, 2) ? pins - 1 : (int)below(random, pins);
     int base = get_u16(bios.first + BIO_BASE) + (behind ? distance : -distance);
 
-    put_lpc_on_a_pin(random, board);
     if (base < BASE_MIN)
         base = BASE_MIN;
     if (base > BASE_MAX)
@@ -828,7 +924,6 @@ static void base_between_two(struct random *random, struct board *board)
 
     if (pins_of_bio(board, third) == 1)
         give_pair(random, board, (uint8_t)get_u16(third + BIO_HARDWARE_ID), (uint8_t)between(random, 2, PINS));
-    put_lpc_on_a_pin(random, board);
 
     uint32_t pins = pins_of_bio(board, third), gap = (uint32_t)below(random, pins - 1);
     uint32_t low_base = (uint32_t)between(random, BASE_MIN + PINS, BASE_MAX - 2 * PINS);
@@ -845,7 +940,7 @@ static void two_bios_of_a_node(struct random *random, struct board *board)
 
     memcpy(bios.second + BIO_HARDWARE_ID, bios.first + BIO_HARDWARE_ID, 2);
     part_bridges(random, board);
-    put_lpc_on_a_pin(random, board);
+    put_lpc_behind_a_bridge(random, board);
 }
 
 static void set_slots(struct random *random, uint8_t *msi, uint32_t start)
@@ -881,6 +976,17 @@ static void bases_too_close_and_slots_on_pins(struct random *random, struct boar
     slots_on_pins(random, board);
 }
 
+/* 43 comes before 45, 51 and 52. On half of the boards the bridges lack the LPC's pin too. */
+static void lpc_of_no_bridge_and_clashes(struct random *random, struct board *board)
+{
+    if (one_in(random, 2))
+        for (size_t i = 0; i < count_kind(board, BIO); i++)
+            (void)shorten(random, board, nth_of_kind(board, BIO, i));
+    bases_too_close_and_slots_on_pins(random, board);
+    lpc_of_no_bridge(random, board);
+    put_u16(nth_of_kind(board, LPC, 0) + LPC_CASCADE, PINS - 1);
+}
+
 /* 45 comes before 51 and 52. */
 static void lpc_past_its_bridge_and_clashes(struct random *random, struct board *board)
 {
@@ -906,7 +1012,7 @@ static void bio_behind_several_msis(struct random *random, struct board *board)
     have(random, board, MSI, between(random, 2, MSIS_MAX));
     remove_kind(board, BIO);
     append_structure(board, fresh_bio(random, board));
-    put_lpc_on_a_pin(random, board);
+    put_lpc_behind_a_bridge(random, board);
 
     uint32_t pins = most_pins(board), share = pins < MSIS_MAX ? 1 : pins / MSIS_MAX, first = 0;
 
@@ -935,7 +1041,7 @@ static void crowded_vectors(struct random *random, struct board *board)
         }
     }
     part_bridges(random, board);
-    put_lpc_on_a_pin(random, board);
+    put_lpc_behind_a_bridge(random, board);
     slots_on_slots(random, board);
 }
 
@@ -1104,8 +1210,14 @@ const struct way madt_ways[] = {
     {40, "no EIO", .in_board = no_eio},
     {41, "repeated node", .in_board = repeated_node},
     {42, "BIO without its EIO", .in_board = bio_without_eio},
+    {42, "BIO without its EIO, LPC of no bridge", .in_board = bio_without_eio_and_lpc_of_no_bridge},
     {42, "BIO without its EIO, LPC past its bridge", .in_board = bio_without_eio_and_lpc_past_its_bridge},
     {43, "LPC without a BIO", .in_board = lpc_without_bio},
+    {43, "LPC of no bridge, bits beside its node name one", .in_board = lpc_of_no_bridge},
+    {43, "LPC of no bridge, 16 or more below one", .in_board = lpc_16_below_a_bridge},
+    {43, "LPC of no bridge, next to one", .in_board = lpc_next_to_a_bridge},
+    {43, "LPC of node 0, all bridges above it", .in_board = lpc_of_node_0_without_bio},
+    {43, "LPC of no bridge, bases too close, slots on pins", .in_board = lpc_of_no_bridge_and_clashes},
     {45, "LPC past its bridge", .in_board = lpc_past_its_bridge},
     {45, "LPC past its bridge, bases too close, slots on pins", .in_board = lpc_past_its_bridge_and_clashes},
     {51, "bases too close", .in_board = bases_too_close},

@@ -1,5 +1,5 @@
 -- Each of 41 to 43, 45 and 51 to 53 is told of a map exactly where it is the first that is broken, and names what the documents name.
-use Prim.Native.Nat.{ℕ, zero, suc, _<_, _≤_}
+use Prim.Native.Nat.{ℕ, zero, suc, _<_}
 use native.Mathlib.Omega.{arith}
 use mathlib.Core.Path.{_≡_, refl, sym, _∙_}
 use mathlib.Core.Logic.{inr}

@@ -4,8 +4,8 @@ use native.Mathlib.Omega.{arith}
 use mathlib.Core.Path.{_≡_, refl, sym, _∙_}
 use mathlib.Core.Logic.{⊎-elim}
 use mathlib.Core.List.{_∷_}
-use mathlib.Core.Bool.{true, false, not, _&&_, true≢false}
-use borrow.Author.Tests.{eqb-true, leb-false, not-true, not-false}
+use mathlib.Core.Bool.{true, not, _&&_}
+use borrow.Author.Tests.{eqb-true, not-true, not-false}
 use lib.Bits.{bitAnd}
 use lib.Dec.{eqb}
 use lib.ListN.{length}
@@ -13,7 +13,6 @@ use Rattle.words.specs.Refusals.{rule, isSound}
 use Rattle.words.specs.declared.Verdict.the-variants.{Sound}
 use Rattle.words.proofs.Verdicts.{is-sound, rule-kept, each-sound}
 use Rattle.kinds.specs.Ranges.{bitInBoth}
-use Rattle.kinds.specs.declared.Bio.{Bio}
 use Rattle.clashes.specs.Search.{firstClash, firstLone}
 use Rattle.clashes.specs.declared.Pair.the-variants.{None as NoPair}
 use Rattle.clashes.proofs.Logic.{and-left, and-right}

@@ -1,8 +1,8 @@
 -- The node of an LPC is the upper half of byte 8 of its structure.
-use Prim.Native.Nat.{ℕ, _/_, _%_}
+use Prim.Native.Nat.{ℕ}
 use native.Mathlib.Omega.{arith}
 use mathlib.Core.List.{List}
-use Rattle.words.specs.Bytes.{byteAt, numberAt}
+use Rattle.words.specs.Bytes.{numberAt}
 use Rattle.kinds.specs.Makers.{lpcOf}
 use Rattle.map_promises.specs.Walks.{NodeOfBase}
 

@@ -95,7 +95,7 @@ module _ (map : Map) (kept : keepsRules map ≡ true) where
       let same : 16 + i - 16 ≡ i = add-sub-cancel-left 16 i in
       routed map kept (16 + i) ∙ rw (owner-lio said (16 + i) (omega arith) (omega arith), same)
 
-  pub pin-routed : (j v : ℕ) → j < length (said .bios) → v < bioAt said j .pins
+  pin-routed : (j v : ℕ) → j < length (said .bios) → v < bioAt said j .pins
       → routeOf map (bioAt said j .base + v) ≡ through (said .eios) (bioAt said j .node) v
   unfolding arrivalOf
   pin-routed j v k l =

@@ -33,7 +33,6 @@ use Rattle.tables.specs.declared.Survey.{Survey}
 use Rattle.tables.specs.declared.Survey.the-variants as surveys
 use Rattle.tables.proofs.Inside.{survey-told, kept-inside, tables-inside}
 use Rattle.tables.specs.declared.Tables.{Tables}
-use Rattle.kinds.specs.declared.Bio.{Bio}
 use Rattle.lines.specs.Says.{Said, says}
 use Rattle.lines.specs.Rules.{noInput, rangesKept, rulesTo45, rulesFrom51, mapRules}
 use Rattle.madt.specs.Walk.{walkRules, walked}
