@@ -1,5 +1,5 @@
 -- The rules that a map must keep: document 01, "Refusals in order", 71 to 77 (36 before W-202 of document 02), 37, 38 and 40 to 54,
--- with 45 of W-212, and their order.
+-- with 43 as W-208 has it, 45 of W-212, and their order.
 use Prim.Native.Nat.{ℕ}
 use mathlib.Core.Bool.{Bool, true, false, not, _&&_, _||_}
 use mathlib.Core.List.{List, [], _∷_, _++_}

@@ -85,7 +85,7 @@ impl Map {
         ensures { λ r. ⌜ r ≡ unless Refused (rule43 (says self) place) (rule45 (says self) place) ⌝ }
     {
         let bios = self.bios;
-        let lpc = kinds::said_lpc(self.lpc);
+        let lpc = self.lpc;
         let n = self.biocount as usize;
         if !lpc.present {
             return Verdict::Sound;

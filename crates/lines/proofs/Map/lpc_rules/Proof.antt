@@ -13,11 +13,14 @@ use Rattle.words.specs.Lists.{first, every}
 use Rattle.words.specs.Refusals.{refused, rule, unless}
 use Rattle.words.specs.declared.Verdict.{Verdict}
 use Rattle.words.specs.declared.Verdict.the-variants.{Sound, Refused}
+use Rattle.words.proofs.Choices.{yes-if}
 use Rattle.words.proofs.Searches.{Searching, search-hit, search-miss, search-over}
 use Rattle.words.proofs.Turns.{Turn, element, next-turn, no-turn}
 use Rattle.clashes.proofs.Arrays.{length-mapped}
+use Rattle.kinds.specs.Used.{saidLpc}
 use Rattle.kinds.specs.declared.Bio.{Bio}
 use Rattle.kinds.specs.declared.Lpc.{Lpc}
+use Rattle.kinds.proofs.Used.{lpc-present}
 use Rattle.parts.specs.Inputs.{isBridge}
 use Rattle.lines.specs.Rules.{noBridge, noInput}
 use Rattle.lines.proofs.Map.lpc_rules.Statement.{statement}
@@ -45,16 +48,19 @@ both-rules lpc place (b ∷ bs) = go (isBridge lpc b) _ _ _ (both-rules lpc plac
     go true none lacks rest e = refl
     go false none lacks rest e = e
 
--- an LPC that is not there breaks neither
-absent : (lpc : Lpc) (place : ℕ) (bios : List Bio) → lpc .present ≡ false
-    → Sound ≡ unless Refused (rule (noBridge lpc bios) 43 place) (rule (noInput lpc bios) 45 place)
-unfolding noBridge noInput unless if
-absent lpc place bios h = rw h
+-- both of what is said of an LPC: one that is not there breaks neither
+abbrev said : Lpc → ℕ → List Bio → Verdict
+said lpc place bios = unless Refused (rule (noBridge (saidLpc lpc) bios) 43 place) (rule (noInput (saidLpc lpc) bios) 45 place)
 
-present : (lpc : Lpc) (place : ℕ) (bios : List Bio) → lpc .present ≡ true
-    → searched lpc place bios ≡ unless Refused (rule (noBridge lpc bios) 43 place) (rule (noInput lpc bios) 45 place)
-unfolding noBridge noInput
-present lpc place bios h = rw h (both-rules lpc place bios)
+absent : (lpc : Lpc) (place : ℕ) (bios : List Bio) → lpc .present ≡ false → Sound ≡ said lpc place bios
+unfolding noBridge noInput unless if
+absent lpc place bios h = rw (lpc-present lpc, h)
+
+present : (lpc : Lpc) (place : ℕ) (bios : List Bio) → lpc .present ≡ true → searched lpc place bios ≡ said lpc place bios
+unfolding noBridge noInput saidLpc
+present lpc place bios h =
+    let e : saidLpc lpc ≡ lpc = yes-if _ _ _ h in
+    rw (e, h) (both-rules lpc place bios)
 
 abbrev Inv-loop : tie.InvT-loop
 Inv-loop place bios lpc n i₀ i =
@@ -64,14 +70,11 @@ Inv-loop place bios lpc n i₀ i =
 abbrev μ-loop : tie.MeasureT-loop
 μ-loop place bios lpc n i₀ i = n - i
 
-said-lpc-requires : tie.Need-said-lpc-requires Inv-loop μ-loop
-said-lpc-requires c κs = search needs
-
 cast-n : tie.Need-cast-n Inv-loop μ-loop
 cast-n c = search needs
 
 returns : tie.Need-returns Inv-loop μ-loop
-returns c = rw (← c .before .before .before .said-lpc .ensures) (absent _ _ _ (not-true _ (c .if1 .taken)))
+returns c = absent _ _ _ (not-true _ (c .if1 .taken))
 
 four-bios : (s : tie.Start Inv-loop μ-loop) → length (s .args .self .bios) ≡ 4
 four-bios s = search (needs, length-mapped)
@@ -97,8 +100,7 @@ returns-2 : tie.Need-returns-2 Inv-loop μ-loop
 returns-2 c =
     let l = c .before .before .before .before .before .before .before in
     let hit = sym (c .before .before .before .before .is-bridge .ensures) ∙ c .before .before .before .if2 .taken in
-    rw (← l .before .before .before .before .said-lpc .ensures)
-    (c .rule-of .ensures ∙ search-hit (l .loop .inv .1) (element (l .loop .inv .0) _ (omega arith)) hit ∙ present _ _ _ (not-false _ (l .before .if1 .left)))
+    c .rule-of .ensures ∙ search-hit (l .loop .inv .1) (element (l .loop .inv .0) _ (omega arith)) hit ∙ present _ _ _ (not-false _ (l .before .if1 .left))
 
 add-i : tie.Need-add-i Inv-loop μ-loop
 add-i c = search needs
@@ -119,8 +121,7 @@ refuse-requires c κs = search needs
 returns-3 : tie.Need-returns-3 Inv-loop μ-loop
 returns-3 c =
     let l = c .before .before in
-    rw (← l .before .before .before .before .said-lpc .ensures)
-    (ap Refused (c .refuse .ensures) ∙ search-over (l .loop .inv .1) (no-turn (l .loop .inv .0) (omega arith)) ∙ present _ _ _ (not-false _ (l .before .if1 .left)))
+    ap Refused (c .refuse .ensures) ∙ search-over (l .loop .inv .1) (no-turn (l .loop .inv .0) (omega arith)) ∙ present _ _ _ (not-false _ (l .before .if1 .left))
 
 pub lpc-rules-spec : {M : Type 1} → statement M
 lpc-rules-spec =
@@ -128,7 +129,6 @@ lpc-rules-spec =
     (tie.spec
     Inv-loop
     μ-loop
-    said-lpc-requires
     cast-n
     returns
     loop-holds
