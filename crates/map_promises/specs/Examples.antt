@@ -51,6 +51,7 @@ lpcOn node cascade = record { present = true; node = node; cascade = cascade }
 abbrev pub lpc : ℕ → Lpc
 lpc = lpcOn 0
 
+-- one that is not there, with a node and a cascade left over
 abbrev pub absentLpc : ℕ → Lpc
 absentLpc cascade = record { present = false; node = 9; cascade = cascade }
 
