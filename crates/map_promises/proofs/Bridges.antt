@@ -1,12 +1,13 @@
 -- The LPC's bridge, by its place: there is one, or 43 is broken, and then its input is one that it has, or 45 is.
-use Prim.Native.Nat.{ℕ, _<_}
+use Prim.Native.Nat.{ℕ, zero, suc, _<_}
 use native.Mathlib.Omega.{arith}
-use mathlib.Core.Path.{_≡_, refl, sym, _∙_}
+use mathlib.Core.Path.{_≡_, refl, sym, _∙_, ap}
 use mathlib.Core.Logic.{_⊎_, inl, inr, ⊎-elim}
-use mathlib.Core.Bool.{Bool, true, false, not, true≢false}
+use mathlib.Core.Bool.{Bool, true, false, not, _&&_, true≢false}
 use borrow.Author.Tests.{eqb-true, eq-eqb, ne-eqb, leb-true, leb-false, le-leb}
-use lib.Dec.{leb}
-use lib.ListN.{length, take}
+use lib.Dec.{eqb, leb}
+use lib.ListN.{length, take, getD, length-take}
+use lib.Seq.{getD-take}
 use Rattle.words.specs.Lists.{first, every}
 use Rattle.kinds.specs.Used.{noBio}
 use Rattle.kinds.specs.declared.Bio.{Bio}
@@ -16,8 +17,7 @@ use Rattle.lines.specs.Says.{Said}
 use Rattle.lines.specs.Rules.{noBridge, noInput}
 use Rattle.map_promises.specs.Sources.{bioAt, isLpcBridge, IsBehind}
 use Rattle.map_promises.specs.Clashing.{NoBridge, NoInput}
-use Rattle.map_promises.specs.Statements.{OneNodeAsBefore}
-use Rattle.map_promises.proofs.Logic.{neq, order}
+use Rattle.map_promises.proofs.Logic.{same-bool, neq, order}
 use Rattle.map_promises.proofs.Members.{every-at, at-every, finds-first, finds-none, first-or-none}
 
 module _ (said : Said) where
@@ -95,10 +95,35 @@ module _ (said : Said) where
       (λ n. absurd (true≢false (sym (bridge-gone (p, n)) ∙ has43)))
       bridge-or-none
 
--- THE PROMISE
-pub one-node-as-before : (said : Said) → OneNodeAsBefore said
-unfolding every
-one-node-as-before said h = (
-  (λ some. both-true (isBridge (said .lpc) (bioAt said 0)) _ (eq-eqb _ _ (h 0 some)) refl),
-  λ w. ⊎-elim (λ some. absurd (w .1 0 some (h 0 some))) (λ none. ⊎-elim (λ e. omega arith) (λ l. omega arith) none) (order 0 (length (said .bios))),
-)
+  -- ---- where all bridges have the LPC's node, the first is the LPC's
+  module _ (alike : (j : ℕ) → j < length (said .bios) → bioAt said j .node ≡ said .lpc .node) where
+    first-bridge : 0 < length (said .bios) → isLpcBridge said 0 ≡ true
+    unfolding every
+    first-bridge some = both-true (isBridge (said .lpc) (bioAt said 0)) _ (eq-eqb _ _ (alike 0 some)) refl
+
+    -- and no other is
+    pub only-first : (j : ℕ) → j < length (said .bios) → isLpcBridge said j ≡ true → j ≡ 0
+    only-first zero l h = refl
+    only-first (suc j) l h =
+        let here = isBridge (said .lpc) (bioAt said (suc j)) in
+        let before = every (λ b. not (isBridge (said .lpc) b)) (take (suc j) (said .bios)) in
+        let few : 0 < length (take (suc j) (said .bios)) = omega (arith, length-take (suc j) (said .bios)) in
+        let own : getD (take (suc j) (said .bios)) 0 noBio ≡ bioAt said 0 = getD-take (suc j) (said .bios) 0 noBio (omega arith) in
+        let other = every-at noBio (λ b. not (isBridge (said .lpc) b)) (take (suc j) (said .bios)) (and-right here before h) 0 few in
+        absurd (neq (bioAt said 0 .node) (said .lpc .node) (rw own at other) (alike 0 (omega arith)))
+
+    -- 43 and 45
+    pub none-as-before : noBridge (said .lpc) (said .bios) ≡ (said .lpc .present && eqb (length (said .bios)) 0)
+    unfolding noBridge
+    none-as-before =
+        ap (λ (t : Bool). said .lpc .present && t)
+        (same-bool _ _
+        (λ t. eq-eqb _ _ (no-bios (λ some. neq _ _ (every-at noBio (λ b. not (isBridge (said .lpc) b)) (said .bios) t 0 some) (alike 0 some))))
+        (λ t. at-every noBio (λ b. not (isBridge (said .lpc) b)) (said .bios) (λ j l. absurd (let e : length (said .bios) ≡ 0 = eqb-true _ _ t in omega arith))))
+      where
+        no-bios : (0 < length (said .bios) → ⊥) → length (said .bios) ≡ 0
+        no-bios never = ⊎-elim (λ some. absurd (never some)) (λ none. ⊎-elim (λ e. omega arith) (λ l. omega arith) none) (order 0 (length (said .bios)))
+
+    pub input-as-before : 0 < length (said .bios) → noInput (said .lpc) (said .bios) ≡ (said .lpc .present && short (bioAt said 0))
+    unfolding noInput
+    input-as-before some = ap (λ (t : Bool). said .lpc .present && t) (of-bridge short false 0 (some, first-bridge some))

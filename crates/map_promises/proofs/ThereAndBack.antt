@@ -1,12 +1,14 @@
 -- The LPC lines arrive where the pin that they share does; and routing a number and tracing its arrival comes back to it.
 use Prim.Native.Nat.{ℕ, _+_, _-_, _<_, _≤_}
 use native.Mathlib.Omega.{arith}
-use mathlib.Core.Path.{_≡_, refl, sym, _∙_, ap}
+use mathlib.Core.Path.{_≡_, refl, sym, _∙_, ap, subst}
 use mathlib.Core.Logic.{_⊎_, inl, inr, ⊎-elim}
 use mathlib.Core.Bool.{Bool, true, false, _||_}
 use borrow.Author.Tests.{eq-eqb, leb-true, ltb-true}
 use lib.Dec.{leb, ltb}
+use lib.ListN.{length}
 use Rattle.words.specs.Choice.{if}
+use Rattle.words.specs.Refusals.{rule}
 use Rattle.words.proofs.Choices.{yes-if}
 use Rattle.kinds.specs.Used.{noBio}
 use Rattle.clashes.proofs.Logic.{and-left, and-right}
@@ -20,7 +22,8 @@ use Rattle.lines.specs.declared.Owner.the-variants.{BioInput, Nobody}
 use Rattle.lines.specs.declared.Route.the-variants.{Arrives, NoOwner, Unwired}
 use Rattle.lines.specs.declared.Trace.the-variants.{LioInput as LioTold, BioInput as BioTold, LpcCascade}
 use Rattle.map_promises.specs.Sources.{input, pin, bioAt, isShared, IsBehind, name}
-use Rattle.map_promises.specs.Statements.{LpcLinesShare, Tells, ThereAndBack}
+use Rattle.map_promises.specs.Statements.{LpcLinesShare, Tells, ThereAndBack, OneNodeAsBefore}
+use Rattle.map_promises.proofs.Bridges.{only-first, none-as-before, input-as-before}
 use Rattle.map_promises.proofs.Kept.{Good, good}
 use Rattle.map_promises.proofs.Logic.{order, is-bool}
 use Rattle.map_promises.proofs.Members.{found-or-not}
@@ -109,9 +112,29 @@ module _ (map : Map) (kept : keepsRules map ≡ true) where
     λ l. back-lpc n v k l q,
   )
 
+-- where all bridges have the LPC's node, the lines share a pin of the first
+first-shared : (map : Map) → keepsRules map ≡ true → ((j : ℕ) → j < length (says map .bios) → bioAt (says map) j .node ≡ says map .lpc .node)
+    → says map .lpc .present ≡ true → IsBehind (says map) 0
+first-shared map h alike p =
+    let w = good map h .behind p in
+    subst (IsBehind (says map)) (only-first (says map) alike (w .0) (w .1 .0 .0) (w .1 .1)) (w .1)
+
 -- THE PROMISES
 pub lpc-lines-share : (map : Map) → keepsRules map ≡ true → LpcLinesShare map
 lpc-lines-share map h = lines-share map h
 
 pub there-and-back : (map : Map) → keepsRules map ≡ true → ThereAndBack map
 there-and-back map h = there-back map h
+
+pub one-node-as-before : (map : Map) → OneNodeAsBefore map
+one-node-as-before map alike =
+    let said = says map in
+    record {
+      r43 = λ place. ap (λ (t : Bool). rule t 43 place) (none-as-before said alike);
+      r45 = λ place some. ap (λ (t : Bool). rule t 45 place) (input-as-before said alike some);
+      arriving = λ h p n l. lpc-line map h n l p 0 (first-shared map h alike p);
+      tracing = λ h p v k q.
+          let pinned = first-shared map h alike p in
+          tracing-names map h (pin 0 (said .lpc .cascade)) v k (pinned .0) .0 q
+          ∙ yes-if _ _ _ (rw (p, eq-eqb (said .lpc .cascade) (said .lpc .cascade) refl) (pinned .1));
+    }

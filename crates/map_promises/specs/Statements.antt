@@ -1,15 +1,16 @@
 -- What is promised of maps. Each statement stands alone; proofs/ has a theorem of the same name for it.
 use Prim.Native.Nat.{ℕ, _+_, _^_, _<_, _≤_}
-use mathlib.Core.Bool.{true, false}
+use mathlib.Core.Bool.{true, false, _&&_}
 use mathlib.Core.Logic.{_⊎_}
 use mathlib.Core.Path.{_≡_}
+use lib.Dec.{eqb, leb}
 use lib.ListN.{length}
-use Rattle.words.specs.Refusals.{refused}
+use Rattle.words.specs.Refusals.{refused, rule}
 use Rattle.words.specs.declared.Refusal.{Refusal}
 use Rattle.words.specs.declared.Verdict.the-variants.{Sound}
 use Rattle.kinds.specs.Ranges.{bitInBoth}
 use Rattle.lines.specs.Says.{Said, says, Same}
-use Rattle.lines.specs.Rules.{rangesKept, firstBroken, keepsRules}
+use Rattle.lines.specs.Rules.{rangesKept, rule43, rule45, firstBroken, keepsRules}
 use Rattle.lines.specs.Answers.{routeOf, traceOf, badMap, routeCode, traceCode}
 use Rattle.lines.specs.declared.Map.{Map}
 use Rattle.lines.specs.declared.Places.{Places}
@@ -17,8 +18,7 @@ use Rattle.lines.specs.declared.Route.{Route}
 use Rattle.lines.specs.declared.Route.the-variants.{Arrives, Unwired, NoOwner, Refused}
 use Rattle.lines.specs.declared.Trace.{Trace}
 use Rattle.lines.specs.declared.Trace.the-variants.{Nothing, LioInput, BioInput, LpcCascade, MsiSlot, Refused as NoTrace}
-use Rattle.map_promises.specs.Sources.{Source, pin, bioAt, IsSource, arrives, isLpcBridge, IsBehind, name}
-use Rattle.map_promises.specs.Clashing.{NoBridge}
+use Rattle.map_promises.specs.Sources.{Source, pin, bioAt, IsSource, arrives, IsBehind, name}
 use Rattle.map_promises.specs.Structures.{Placed}
 
 -- ---- demand 3: no two lines look alike
@@ -65,12 +65,22 @@ LpcLinesShare map =
     said .lpc .present ≡ true
     → (j : ℕ) × IsBehind said j × ((n : ℕ) → n < 16 → routeOf map n ≡ arrives said (pin j (said .lpc .cascade)))
 
--- W-208 of document 02 changes nothing where all bridges have the LPC's node: the first of them is the LPC's, and it lacks one only where
--- there is none at all
-abbrev pub OneNodeAsBefore : Said → Type 0
-OneNodeAsBefore said =
-    ((j : ℕ) → j < length (said .bios) → bioAt said j .node ≡ said .lpc .node)
-    → (0 < length (said .bios) → isLpcBridge said 0 ≡ true) × (NoBridge said → length (said .bios) ≡ 0)
+-- W-208 of document 02 changes nothing where all bridges have the LPC's node: the first of them is the LPC's, as it was before
+pub record AsBefore (map : Map) : Type 0 where
+  -- 43 is told of an LPC where there is no BIO at all, and 45 by the count of the first (any map)
+  pub r43 : (place : ℕ) → rule43 (says map) place ≡ rule (says map .lpc .present && eqb (length (says map .bios)) 0) 43 place
+  pub r45 : (place : ℕ) → 0 < length (says map .bios)
+      → rule45 (says map) place ≡ rule (says map .lpc .present && leb (bioAt (says map) 0 .pins) (says map .lpc .cascade)) 45 place
+  -- and of a map that keeps the rules, each LPC line arrives where the first bridge's input of the LPC's cascade does, and is traced to it
+  pub arriving : keepsRules map ≡ true → says map .lpc .present ≡ true
+      → (n : ℕ) → n < 16 → routeOf map n ≡ arrives (says map) (pin 0 (says map .lpc .cascade))
+  pub tracing : keepsRules map ≡ true → says map .lpc .present ≡ true
+      → (vector number : ℕ) → arrives (says map) (pin 0 (says map .lpc .cascade)) ≡ Arrives vector number
+      → traceOf map vector number ≡ LpcCascade (bioAt (says map) 0 .base + says map .lpc .cascade)
+
+abbrev pub OneNodeAsBefore : Map → Type 0
+OneNodeAsBefore map =
+    ((j : ℕ) → j < length (says map .bios) → bioAt (says map) j .node ≡ says map .lpc .node) → AsBefore map
 
 -- a trace tells the global number n
 abbrev pub Tells : ℕ → Trace → Type 0

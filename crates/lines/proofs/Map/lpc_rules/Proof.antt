@@ -48,15 +48,16 @@ both-rules lpc place (b ∷ bs) = go (isBridge lpc b) _ _ _ (both-rules lpc plac
     go true none lacks rest e = refl
     go false none lacks rest e = e
 
--- both of what is said of an LPC: one that is not there breaks neither
-abbrev said : Lpc → ℕ → List Bio → Verdict
-said lpc place bios = unless Refused (rule (noBridge (saidLpc lpc) bios) 43 place) (rule (noInput (saidLpc lpc) bios) 45 place)
+-- 43 and then 45, by what is said of an LPC
+abbrev judged : Lpc → ℕ → List Bio → Verdict
+judged lpc place bios = unless Refused (rule (noBridge (saidLpc lpc) bios) 43 place) (rule (noInput (saidLpc lpc) bios) 45 place)
 
-absent : (lpc : Lpc) (place : ℕ) (bios : List Bio) → lpc .present ≡ false → Sound ≡ said lpc place bios
+-- one that is not there breaks neither, and of one that is there the search tells both
+absent : (lpc : Lpc) (place : ℕ) (bios : List Bio) → lpc .present ≡ false → Sound ≡ judged lpc place bios
 unfolding noBridge noInput unless if
 absent lpc place bios h = rw (lpc-present lpc, h)
 
-present : (lpc : Lpc) (place : ℕ) (bios : List Bio) → lpc .present ≡ true → searched lpc place bios ≡ said lpc place bios
+present : (lpc : Lpc) (place : ℕ) (bios : List Bio) → lpc .present ≡ true → searched lpc place bios ≡ judged lpc place bios
 unfolding noBridge noInput saidLpc
 present lpc place bios h =
     let e : saidLpc lpc ≡ lpc = yes-if _ _ _ h in
