@@ -94,10 +94,10 @@ unfolding firstClash partner nearer
 quiet rule l h = none-pair (λ x. partner rule x l) l (λ x mx. none-spot (hits rule x) l (λ y my. h x y mx my))
 
 -- 42
-pub none-lone : (l : List Claim) → firstLone l ≡ Nowhere → (x : Claim) → List·Memᴰ x l → lone l x ≡ false
+pub none-lone : (nodes : List ℕ) (l : List Claim) → firstLone nodes l ≡ Nowhere → (x : Claim) → List·Memᴰ x l → lone nodes x ≡ false
 unfolding firstLone lonelier
-none-lone l h = spot-none (lone l) l Nowhere h .1
+none-lone nodes l h = spot-none (lone nodes) l Nowhere h .1
 
-pub lone-none : (l : List Claim) → ((x : Claim) → List·Memᴰ x l → lone l x ≡ false) → firstLone l ≡ Nowhere
+pub lone-none : (nodes : List ℕ) (l : List Claim) → ((x : Claim) → List·Memᴰ x l → lone nodes x ≡ false) → firstLone nodes l ≡ Nowhere
 unfolding firstLone lonelier
-lone-none l h = none-spot (lone l) l h
+lone-none nodes l h = none-spot (lone nodes) l h

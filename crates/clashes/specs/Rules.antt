@@ -24,7 +24,8 @@ repeatsNode x y = not (eqb (x .node) noNode) && eqb (x .node) (y .node)
 abbrev pub sharesNumber : Claim → Claim → Bool
 sharesNumber x y = meet (x .numbers) (y .numbers)
 
--- 52: two sources share an extended vector of one EIO; a hub without a node is every EIO
+-- 52: two sources share a vector of one hub: "Demand 3 and 52 read HT vectors beside extended ones" (W-201 of document 02); a hub
+-- without a node is every hub
 abbrev pub sharesVector : Claim → Claim → Bool
 sharesVector x y = (eqb (x .hub) (y .hub) || eqb (x .hub) noNode || eqb (y .hub) noNode) && meet (x .vectors) (y .vectors)
 
@@ -44,10 +45,10 @@ clash rule x y =
     (if (eqb rule 52) (sharesVector x y)
     (sharesCore x y)))
 
--- no claim is that of the EIO of a node
-abbrev pub noEio : ℕ → List Claim → Bool
-noEio node claims = every (λ y. not (eqb (y .node) node)) claims
+-- none of some nodes is this one
+abbrev pub isMissing : ℕ → List ℕ → Bool
+isMissing node nodes = every (λ n. not (eqb n node)) nodes
 
--- 42: "BIO without an EIO of its node"
-abbrev pub lone : List Claim → Claim → Bool
-lone claims x = not (eqb (x .hub) noNode) && noEio (x .hub) claims
+-- 42: "BIO without an EIO of its node", and "with HT, for a hardware ID other than 0": the hubs have some nodes, and none has the claim's
+abbrev pub lone : List ℕ → Claim → Bool
+lone nodes x = not (eqb (x .hub) noNode) && isMissing (x .hub) nodes

@@ -36,10 +36,10 @@ better (Two o w) p (At q) = if (ltb p o) (Two p q) (Two o w)
 unfoldable pub firstClash : ℕ → List Claim → Pair
 firstClash rule claims = fold (λ best x. better best (x .place) (partner rule x claims)) None claims
 
--- x stands alone: its place, if it is the first so far
-unfoldable pub lonelier : List Claim → Spot → Claim → Spot
-lonelier claims best x = if (lone claims x) (sooner best (x .place)) best
+-- x stands alone among hubs with some nodes: its place, if it is the first so far
+unfoldable pub lonelier : List ℕ → Spot → Claim → Spot
+lonelier nodes best x = if (lone nodes x) (sooner best (x .place)) best
 
 -- the first structure of the table that stands alone
-unfoldable pub firstLone : List Claim → Spot
-firstLone claims = fold (lonelier claims) Nowhere claims
+unfoldable pub firstLone : List ℕ → List Claim → Spot
+firstLone nodes claims = fold (lonelier nodes) Nowhere claims

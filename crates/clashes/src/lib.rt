@@ -15,9 +15,9 @@ pub struct Run {
     pub count: u32,
 }
 
-// What one structure claims: the node that it is the EIO of, global numbers, extended vectors of the EIO of `hub`, and up
-// to two core vectors to enter by. Without a node `node` and `hub` are 65,535, and a hub without a node is every EIO; a
-// core vector that is not used is 0.
+// What one structure claims: the node that it is the EIO of, global numbers, vectors of the hub of node `hub`, and up to two core
+// vectors to enter by. Without a node `node` and `hub` are 65,535, and a hub without a node is every hub; a core vector that is not
+// used is 0.
 pub struct Claim {
     pub place: u32,
     pub numbers: Run,
@@ -43,8 +43,8 @@ pub enum Pair {
 // `node` and `hub` of a claim that names no node.
 pub const NO_NODE: u16 = 65535;
 
-// `hub` of a claim that is on every EIO: it names none.
-pub const EVERY_EIO: u16 = NO_NODE;
+// `hub` of a claim that is on every hub: it names none.
+pub const EVERY_HUB: u16 = NO_NODE;
 
 // ---- the rules, each a test of two claims
 
@@ -73,7 +73,7 @@ fn shares_number(x: Claim, y: Claim) -> bool
     meets(a, b)
 }
 
-// 52: an extended vector of both, on one EIO.
+// 52: a vector of both, on one hub.
 fn shares_vector(x: Claim, y: Claim) -> bool
     ensures { λ r. ⌜ r ≡ sharesVector x y ⌝ }
 {

@@ -3,12 +3,12 @@
 -- base 16"; the LPC's cascade is 16 bits, every other cascade and the node of an EIO a byte.
 use Prim.Native.Nat.{ℕ, _/_, _%_, _^_}
 use mathlib.Core.Bool.{Bool, true}
-use mathlib.Core.List.{List}
+use mathlib.Core.List.{List, [], _∷_}
 use lib.Dec.{eqb, ltb}
 use Rattle.words.specs.Bytes.{byteAt, numberAt}
 use Rattle.kinds.specs.declared.makers.Core.{Core}
-use Rattle.kinds.specs.declared.makers.Ht.{Ht}
 use Rattle.kinds.specs.declared.Lio.{Lio}
+use Rattle.kinds.specs.declared.Ht.{Ht}
 use Rattle.kinds.specs.declared.Eio.{Eio}
 use Rattle.kinds.specs.declared.Msi.{Msi}
 use Rattle.kinds.specs.declared.Bio.{Bio}
@@ -27,9 +27,13 @@ lioOf s =
       high = record { cascade = byteAt s 14; mask = numberAt 4 s 19 };
     }
 
--- HT: "refused here", its fields unread; the eight cascade bytes at 13, as one number
+-- HT: "base at 3, size at 11, eight cascade bytes at 13" (W-201 of document 02)
 unfoldable pub htOf : List ℕ → Ht
-htOf s = record { cascades = numberAt 8 s 13 }
+htOf s =
+    record {
+      present = true;
+      bytes = byteAt s 13 ∷ byteAt s 14 ∷ byteAt s 15 ∷ byteAt s 16 ∷ byteAt s 17 ∷ byteAt s 18 ∷ byteAt s 19 ∷ byteAt s 20 ∷ [];
+    }
 
 -- EIO: "cascade 3, node 4, node map 5 (64 bits)"
 unfoldable pub eioOf : List ℕ → Eio

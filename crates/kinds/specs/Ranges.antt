@@ -5,8 +5,10 @@ use mathlib.Core.Bool.{Bool, not, _&&_, _||_}
 use lib.Bits.{bitAnd}
 use lib.Dec.{eqb, leb}
 use Rattle.words.specs.Choice.{if}
+use Rattle.words.specs.Lists.{every}
 use Rattle.kinds.specs.declared.Half.{Half}
 use Rattle.kinds.specs.declared.Lio.{Lio}
+use Rattle.kinds.specs.declared.Ht.{Ht}
 use Rattle.kinds.specs.declared.Eio.{Eio}
 use Rattle.kinds.specs.declared.Bio.{Bio}
 use Rattle.kinds.specs.declared.Msi.{Msi}
@@ -45,6 +47,10 @@ pinsFit pins = leb 1 pins && leb pins 64
 abbrev pub inputFits : ℕ → Bool
 inputFits cascade = leb cascade 63
 
+-- W-201 of document 02: a byte of the HT names "a wired LIO input, 0 to 31"; whether that input is wired is 44's question
+abbrev pub byteFits : ℕ → Bool
+byteFits byte = leb byte 31
+
 -- "a half with mask 0 is unused and its byte is free"
 abbrev pub halfFits : Half → Bool
 halfFits half = eqb (half .mask) 0 || cascadeFits (half .cascade)
@@ -53,9 +59,12 @@ abbrev pub halvesFit : Lio → Bool
 halvesFit lio = halfFits (lio .low) && halfFits (lio .high)
 
 -- ---- the first field of a structure that is out of its range, by the number that refuses it: "71 cascade of EIO or LIO, 72 node
--- or hardware ID, 73 node map, 74 MSI count, 75 MSI end, 76 GSI base, 77 LPC cascade"; 0 where every field is in its range
+-- or hardware ID, 73 node map, 74 MSI count, 75 MSI end, 76 GSI base, 77 LPC cascade, 78 HT byte"; 0 where every field is in its range
 unfoldable pub lioField : Lio → ℕ
 lioField lio = if (halvesFit lio) 0 71
+
+unfoldable pub htField : Ht → ℕ
+htField ht = if (every byteFits (ht .bytes)) 0 78
 
 unfoldable pub eioField : Eio → ℕ
 eioField eio =

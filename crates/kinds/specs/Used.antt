@@ -2,9 +2,11 @@
 -- them, hold 0".
 use mathlib.Core.Bool.{true, false}
 use lib.Dec.{eqb}
+use lib.ListN.{replicate}
 use Rattle.words.specs.Choice.{if}
 use Rattle.kinds.specs.declared.Half.{Half}
 use Rattle.kinds.specs.declared.Lio.{Lio}
+use Rattle.kinds.specs.declared.Ht.{Ht}
 use Rattle.kinds.specs.declared.Eio.{Eio}
 use Rattle.kinds.specs.declared.Bio.{Bio}
 use Rattle.kinds.specs.declared.Msi.{Msi}
@@ -17,6 +19,9 @@ noHalf = record { cascade = 0; mask = 0 }
 -- a structure that is not there
 abbrev pub noLio : Lio
 noLio = record { present = false; low = noHalf; high = noHalf }
+
+abbrev pub noHt : Ht
+noHt = record { present = false; bytes = replicate 8 0 }
 
 abbrev pub noEio : Eio
 noEio = record { cascade = 0; node = 0; nodes = 0 }
@@ -40,6 +45,10 @@ saidLio lio =
     if (lio .present)
     (record { present = true; low = usedHalf (lio .low); high = usedHalf (lio .high) })
     noLio
+
+-- what is said of an HT: nothing where it is absent
+unfoldable pub saidHt : Ht → Ht
+saidHt ht = if (ht .present) ht noHt
 
 -- what is said of an LPC: nothing where it is absent
 unfoldable pub saidLpc : Lpc → Lpc

@@ -1,9 +1,9 @@
 // The kinds of structures that a map is made of: the used fields of each, their ranges, and what of them is unused
 // (document 01, "MADT structures").
 ghost use mathlib.Core.Path.{_≡_};
-ghost use Rattle.kinds.specs.Used.{usedHalf, saidLio, saidLpc};
+ghost use Rattle.kinds.specs.Used.{usedHalf, saidLio, saidHt, saidLpc};
 
-pub mod ranges; // 71 to 77 and 37: the range of each field, and the first that is broken
+pub mod ranges; // 71 to 78 and 37: the range of each field, and the first that is broken
 pub mod makers; // type, length and maker of each of the seven kinds
 
 // One half of the LIO: a bit for each input that it leads to a core vector, and the vector. With mask 0 it is unused and its
@@ -20,6 +20,12 @@ pub struct Lio {
     pub high: Half,
 }
 
+// The controller of older boards: a byte for each 32 of its vectors, which names the LIO input that they go to.
+pub struct Ht {
+    pub present: bool,
+    pub bytes: [u8; 8],
+}
+
 // An extended controller: the core vector that it enters by, its node, and its node map.
 pub struct Eio {
     pub cascade: u8,
@@ -27,7 +33,7 @@ pub struct Eio {
     pub nodes: u64,
 }
 
-// A bridge: its hardware ID, which is the node of its EIO, its first global number, and how many inputs it has.
+// A bridge: its hardware ID, which is the node of its hub, its first global number, and how many inputs it has.
 pub struct Bio {
     pub node: u16,
     pub base: u16,
@@ -83,6 +89,20 @@ pub fn said_lio(lio: Lio) -> Lio
         present: false,
         low: none,
         high: none,
+    }
+}
+
+// The HT without what is unused in it.
+pub fn said_ht(ht: Ht) -> Ht
+    ensures { λ r. ⌜ r ≡ saidHt ht ⌝ }
+{
+    if ht.present {
+        return ht;
+    }
+    let bytes = [0u8; 8];
+    Ht {
+        present: false,
+        bytes,
     }
 }
 

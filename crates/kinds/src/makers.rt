@@ -3,6 +3,7 @@
 use crate::Bio;
 use crate::Eio;
 use crate::Half;
+use crate::Ht;
 use crate::Lio;
 use crate::Lpc;
 use crate::Msi;
@@ -71,11 +72,6 @@ impl Lio {
     }
 }
 
-// A controller of the HT model, which is refused: its eight cascade bytes, as one number.
-pub struct Ht {
-    pub cascades: u64,
-}
-
 impl Ht {
     pub const TYPE: u8 = 19;
 
@@ -84,8 +80,19 @@ impl Ht {
     pub fn from_bytes(structure: &[u8]) -> Ht
         ensures { λ r. ⌜ r ≡ htOf (now (structure .entry)) ⌝ }
     {
+        let bytes = [
+            words::byte_at(structure, 13),
+            words::byte_at(structure, 14),
+            words::byte_at(structure, 15),
+            words::byte_at(structure, 16),
+            words::byte_at(structure, 17),
+            words::byte_at(structure, 18),
+            words::byte_at(structure, 19),
+            words::byte_at(structure, 20),
+        ];
         Ht {
-            cascades: words::u64_at(structure, 13),
+            present: true,
+            bytes,
         }
     }
 }

@@ -3,11 +3,13 @@
 use crate::Bio;
 use crate::Eio;
 use crate::Half;
+use crate::Ht;
 use crate::Lio;
 use crate::Lpc;
 use crate::Msi;
 ghost use mathlib.Core.Path.{_≡_};
-ghost use Rattle.kinds.specs.Ranges.{cascadeFits, nodeFits, nodesFit, countFits, endFits, baseFits, pinsFit, inputFits, halfFits, lioField, eioField, msiField, bioField, lpcField, bitInBoth};
+ghost use Rattle.words.specs.Lists.{every};
+ghost use Rattle.kinds.specs.Ranges.{cascadeFits, nodeFits, nodesFit, countFits, endFits, baseFits, pinsFit, inputFits, byteFits, halfFits, lioField, htField, eioField, msiField, bioField, lpcField, bitInBoth};
 
 // The ends of the ranges.
 const LINE_FIRST: u8 = 2;
@@ -26,6 +28,8 @@ const PINS_MOST: u16 = 64;
 
 const INPUT_LAST: u16 = 63;
 
+const LIO_INPUT_LAST: u8 = 31;
+
 // The fields by the numbers that refuse them. CASCADE is that of an EIO or of a used half of the LIO, NODE that of an EIO or the
 // hardware ID of a BIO.
 const CASCADE: u8 = 71;
@@ -41,6 +45,8 @@ const MSI_END: u8 = 75;
 const GSI_BASE: u8 = 76;
 
 const LPC_CASCADE: u8 = 77;
+
+const HT_BYTE: u8 = 78;
 
 // The cascade of an EIO or of a used half of the LIO: one of the core's hardware lines.
 pub fn cascade_fits(cascade: u8) -> bool
@@ -98,6 +104,27 @@ pub fn input_fits(cascade: u16) -> bool
     cascade <= INPUT_LAST
 }
 
+// A byte of the HT: it names a LIO input.
+pub fn byte_fits(byte: u8) -> bool
+    ensures { λ r. ⌜ r ≡ byteFits byte ⌝ }
+{
+    byte <= LIO_INPUT_LAST
+}
+
+// All bytes of the HT.
+fn bytes_fit(bytes: [u8; 8]) -> bool
+    ensures { λ r. ⌜ r ≡ every byteFits bytes ⌝ }
+{
+    let mut fit = true;
+    let mut i = 0;
+    while i < 8 {
+        let b = bytes[i];
+        fit = fit & byte_fits(b);
+        i += 1;
+    }
+    fit
+}
+
 // A half of the LIO: unused, or its cascade fits.
 pub fn half_fits(half: Half) -> bool
     ensures { λ r. ⌜ r ≡ halfFits half ⌝ }
@@ -116,6 +143,14 @@ pub fn lio_field(lio: Lio) -> u8
     } else {
         CASCADE
     }
+}
+
+// The first field of an HT that is out of its range.
+pub fn ht_field(ht: Ht) -> u8
+    ensures { λ r. ⌜ r ≡ htField ht ⌝ }
+{
+    let bytes = ht.bytes;
+    if bytes_fit(bytes) { 0 } else { HT_BYTE }
 }
 
 // The first field of an EIO that is out of its range.

@@ -13,7 +13,7 @@ use Rattle.words.proofs.Verdicts.{first-broken}
 use Rattle.kinds.specs.Ranges.{bitInBoth}
 use Rattle.clashes.proofs.Logic.{and-right, or-neither}
 use Rattle.lines.specs.Says.{says}
-use Rattle.lines.specs.Rules.{tooMany, firstBroken, slotPlaces, rangesKept, keepsRules}
+use Rattle.lines.specs.Rules.{tooMany, bothKinds, firstBroken, slotPlaces, rangesKept, keepsRules}
 use Rattle.lines.specs.declared.Map.{Map}
 use Rattle.lines.specs.declared.Places.{Places}
 
@@ -38,7 +38,7 @@ few-of-kept map h = go (tooMany map) refl
     go true e =
         absurd
         (true≢false
-        (sym (and-right (rangesKept (says map) && not (bitInBoth (says map .lio))) (isSound (firstBroken map slotPlaces 0 0)) h)
+        (sym (and-right (rangesKept (says map) && not (bitInBoth (says map .lio)) && not (bothKinds (says map))) (isSound (firstBroken map slotPlaces 0 0)) h)
         ∙ many-broken map slotPlaces 0 0 e))
 
 -- a count that is cut to the array's length uses the same entries

@@ -1,4 +1,5 @@
 pub mod Counts
+pub mod Landing
 pub mod Stilling
 pub mod NoClash
 pub mod Entries

@@ -1,6 +1,5 @@
 -- A map that passes the quick test breaks none of 41, 42 and 51 to 53, wherever its structures stand.
-use Prim.Native.Nat.{ℕ, _≤_}
-use native.Mathlib.Nat.{le-of-suc-le-suc, not-suc-le-zero}
+use Prim.Native.Nat.{ℕ}
 use native.Mathlib.Omega.{arith}
 use mathlib.Core.Path.{_≡_, refl, sym, _∙_}
 use mathlib.Core.Logic.{_⊎_, inl, inr, ⊎-elim}
@@ -8,12 +7,10 @@ use mathlib.Core.List.{List, [], _∷_, _++_, List·Memᴰ, List·Memᴰ·head, 
 use mathlib.Core.Bool.{Bool, true, false, not, _&&_, _||_, and-false, and-assoc, true≢false}
 use borrow.Author.Tests.{le-ltb, not-true}
 use lib.Dec.{eqb}
-use lib.ListN.{length}
 use Rattle.words.specs.Lists.{every}
 use Rattle.words.specs.Refusals.{unless, firstRefusal}
-use Rattle.kinds.specs.declared.Eio.{Eio}
 use Rattle.kinds.specs.declared.Bio.{Bio}
-use Rattle.clashes.specs.Rules.{noNode, clash, noEio, lone}
+use Rattle.clashes.specs.Rules.{noNode, clash, isMissing, lone}
 use Rattle.clashes.specs.Apart.{apart}
 use Rattle.clashes.specs.Search.{firstClash}
 use Rattle.clashes.specs.Told.{atLater, atBoth, spotted}
@@ -25,8 +22,9 @@ use Rattle.clashes.proofs.Searched.{hits, quiet as none-hits, lone-none}
 use Rattle.parts.specs.Claims.{noRun, lioClaim, eioClaim, bioClaim, msiClaim}
 use Rattle.lines.specs.Says.{Said}
 use Rattle.lines.specs.Claims.{placed, claims}
-use Rattle.lines.specs.Quiet.{farFrom, stillEach, noEioOf, eiosQuiet, biosQuiet, msisQuiet, quiet}
-use Rattle.lines.specs.Rules.{rule40, rule43, rule45, rule54, rulesTo45, rulesFrom51, mapRules}
+use Rattle.lines.specs.Hubs.{nodes}
+use Rattle.lines.specs.Quiet.{farFrom, stillEach, eiosQuiet, biosQuiet, msisQuiet, quiet}
+use Rattle.lines.specs.Rules.{rule40, rule43, rule44, rule45, rule54, rulesTo45, rulesFrom51, mapRules}
 use Rattle.lines.specs.declared.Places.{Places}
 
 -- ---- lists of claims without a clash
@@ -138,20 +136,8 @@ sides x y a b n l h =
       never-entered (eqb (x .high) 0),
     )
 
--- ---- 42
-every-append : {A : Type 0} (f : A → Bool) (s t : List A) → every f (s ++ t) ≡ (every f s && every f t)
-unfolding every
-every-append f [] t = refl
-every-append f (x ∷ s) t = rw (every-append f s t) (sym (and-assoc (f x) (every f s) (every f t)))
-
--- the EIO of a node are among the claims
-eios-told : (node : ℕ) (eios : List Eio) (ps : List ℕ) → length eios ≤ length ps → noEio node (placed eioClaim eios ps) ≡ noEioOf node eios
-unfolding every placed noEioOf
-eios-told node [] ps h = refl
-eios-told node (e ∷ eios) [] h = absurd (not-suc-le-zero h)
-eios-told node (e ∷ eios) (p ∷ ps) h = rw (eios-told node eios ps (le-of-suc-le-suc h))
-
-module _ (said : Said) (places : Places) (room : length (said .eios) ≤ length (places .eios)) (still : quiet said ≡ true) where
+-- ---- all claims of a map
+module _ (said : Said) (places : Places) (still : quiet said ≡ true) where
   abbrev ls : List Claim
   ls = lioClaim (said .lio) (places .lio) ∷ []
 
@@ -168,27 +154,27 @@ module _ (said : Said) (places : Places) (room : length (said .eios) ≤ length 
   lio0 = lioClaim (said .lio) 0
 
   abbrev bioAlone : Bio → Bool
-  bioAlone b = not (noEioOf (b .node) (said .eios)) && farFrom msiClaim (bioClaim b 0) (said .msis)
+  bioAlone b = not (isMissing (b .node) (nodes said)) && farFrom msiClaim (bioClaim b 0) (said .msis)
 
   eios-still : stillEach eioClaim (λ e. apart lio0 (eioClaim e 0)) (said .eios) ≡ true
   unfolding quiet eiosQuiet
   eios-still =
       let e = eiosQuiet lio0 (said .eios) in
-      let b = biosQuiet (said .eios) (said .msis) (said .bios) in
+      let b = biosQuiet (nodes said) (said .msis) (said .bios) in
       and-left e b (and-left (e && b) (msisQuiet (said .msis)) still)
 
   bios-still : stillEach bioClaim bioAlone (said .bios) ≡ true
   unfolding quiet biosQuiet
   bios-still =
       let e = eiosQuiet lio0 (said .eios) in
-      let b = biosQuiet (said .eios) (said .msis) (said .bios) in
+      let b = biosQuiet (nodes said) (said .msis) (said .bios) in
       and-right e b (and-left (e && b) (msisQuiet (said .msis)) still)
 
   msis-still : stillEach msiClaim (λ m. true) (said .msis) ≡ true
   unfolding quiet msisQuiet
   msis-still =
       let e = eiosQuiet lio0 (said .eios) in
-      let b = biosQuiet (said .eios) (said .msis) (said .bios) in
+      let b = biosQuiet (nodes said) (said .msis) (said .bios) in
       and-right (e && b) (msisQuiet (said .msis)) still
 
   module _ (rule : ℕ) where
@@ -204,7 +190,7 @@ module _ (said : Said) (places : Places) (room : length (said .eios) ≤ length 
         each-placed bioClaim bioAlone (λ x. (d : Claim) → List·Memᴰ d ms → Neither rule x d)
         (λ b p t d md.
         far-strangers msiClaim rule (bioClaim b 0) (bioClaim b p) (λ y q. refl) (said .msis) (places .msis)
-        (and-right (not (noEioOf (b .node) (said .eios))) (farFrom msiClaim (bioClaim b 0) (said .msis)) t) (bioClaim b p) d
+        (and-right (not (isMissing (b .node) (nodes said))) (farFrom msiClaim (bioClaim b 0) (said .msis)) t) (bioClaim b p) d
         (List·Memᴰ·head refl) md)
         (said .bios) (places .bios) (still-alone bioClaim bioAlone (said .bios) bios-still) x mx y my
 
@@ -238,21 +224,9 @@ module _ (said : Said) (places : Places) (room : length (said .eios) ≤ length 
     no-clash : firstClash rule (claims said places) ≡ None
     no-clash = none-hits rule (claims said places) all-clear
 
-  -- 42: a BIO finds its EIO among the claims
-  eio-claimed : (node : ℕ) → not (noEioOf node (said .eios)) ≡ true → noEio node (claims said places) ≡ false
-  unfolding claims
-  eio-claimed node h = is-false (noEio node (ls ++ es ++ bs ++ ms)) (λ t. true≢false (sym (told t) ∙ not-true (noEioOf node (said .eios)) h))
-    where
-      told : noEio node (ls ++ es ++ bs ++ ms) ≡ true → noEioOf node (said .eios) ≡ true
-      told t =
-          let f : Claim → Bool = λ y. not (eqb (y .node) node) in
-          let three = and-left (every f (ls ++ es ++ bs)) (every f ms) (sym (every-append f (ls ++ es ++ bs) ms) ∙ t) in
-          let two = and-left (every f (ls ++ es)) (every f bs) (sym (every-append f (ls ++ es) bs) ∙ three) in
-          let one = and-right (every f ls) (every f es) (sym (every-append f ls es) ∙ two) in
-          sym (eios-told node (said .eios) (places .eios) room) ∙ one
-
+  -- 42: no claim stands alone
   abbrev Housed : Claim → Type 0
-  Housed x = lone (claims said places) x ≡ false
+  Housed x = lone (nodes said) x ≡ false
 
   hubless : (x : Claim) → x .hub ≡ noNode → Housed x
   hubless x h = rw h
@@ -270,15 +244,15 @@ module _ (said : Said) (places : Places) (room : length (said .eios) ≤ length 
       (List·Memᴰ·append-cases ls j))
       (each-placed bioClaim bioAlone Housed
       (λ b p t.
-      rw (eio-claimed (b .node) (and-left (not (noEioOf (b .node) (said .eios))) (farFrom msiClaim (bioClaim b 0) (said .msis)) t), and-false))
+      rw (not-true (isMissing (b .node) (nodes said)) (and-left (not (isMissing (b .node) (nodes said))) (farFrom msiClaim (bioClaim b 0) (said .msis)) t), and-false))
       (said .bios) (places .bios) (still-alone bioClaim bioAlone (said .bios) bios-still) x)
       (List·Memᴰ·append-cases (ls ++ es) k))
       (λ k. hubless x (all-placed msiClaim (λ y. y .hub ≡ noNode) (λ e p. refl) (said .msis) (places .msis) x k))
       (List·Memᴰ·append-cases (ls ++ es ++ bs) m)
 
-  -- only 40, 43, 45 and 54 are left
+  -- only 40, 43 to 45 and 54 are left
   pub quiet-first : (madt fadt : ℕ)
       → firstRefusal (mapRules said places madt fadt)
-      ≡ firstRefusal (rule40 said madt ∷ rule43 said (places .lpc) ∷ rule45 said (places .lpc) ∷ rule54 said fadt ∷ [])
+      ≡ firstRefusal (rule40 said madt ∷ rule43 said (places .lpc) ∷ rule44 said (places .ht) ∷ rule45 said (places .lpc) ∷ rule54 said fadt ∷ [])
   unfolding firstRefusal mapRules rulesTo45 rulesFrom51 unless atLater atBoth spotted
-  quiet-first madt fadt = rw (no-clash 41, lone-none (claims said places) housed, no-clash 51, no-clash 52, no-clash 53)
+  quiet-first madt fadt = rw (no-clash 41, lone-none (nodes said) (claims said places) housed, no-clash 51, no-clash 52, no-clash 53)

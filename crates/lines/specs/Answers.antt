@@ -13,7 +13,8 @@ use Rattle.lines.specs.declared.Route.the-variants.{Arrives, Unwired, No
 use Rattle.lines.specs.declared.Trace.{Trace}
 use Rattle.lines.specs.declared.Trace.the-variants.{Nothing, LioInput, BioInput, LpcCascade, MsiSlot, Refused as NoTrace}
 
--- 61: "a map asked about breaks 36 to 38 or 40 to 54 (of 40, only LIO and EIO)", where 71 to 77 took 36's place; at place 0
+-- 61: "a map asked about breaks 36 to 38 or 40 to 54 (of 40, only LIO and EIO)", where 71 to 78 took 36's place and 34 is "read by 61"
+-- too; at place 0
 abbrev pub badMap : Refusal
 badMap = refused 61 0
 

@@ -1,4 +1,5 @@
 pub mod Says
+pub mod Hubs
 pub mod Routes
 pub mod Traces
 pub mod Claims

@@ -4,15 +4,16 @@
 use Prim.Native.Nat.{ℕ}
 use mathlib.Core.List.{List, [], _∷_}
 use mathlib.Core.Bool.{Bool, true, not, _&&_}
-use lib.Dec.{eqb}
 use Rattle.words.specs.Lists.{every}
 use Rattle.kinds.specs.declared.Eio.{Eio}
 use Rattle.kinds.specs.declared.Bio.{Bio}
 use Rattle.kinds.specs.declared.Msi.{Msi}
+use Rattle.clashes.specs.Rules.{isMissing}
 use Rattle.clashes.specs.Apart.{apart}
 use Rattle.clashes.specs.declared.Claim.{Claim}
 use Rattle.parts.specs.Claims.{lioClaim, eioClaim, bioClaim, msiClaim}
 use Rattle.lines.specs.Says.{Said}
+use Rattle.lines.specs.Hubs.{nodes}
 
 -- a claim is apart from that of each structure of a kind, wherever it stands
 unfoldable pub farFrom : {A : Type 0} → (A → ℕ → Claim) → Claim → List A → Bool
@@ -23,18 +24,14 @@ unfoldable pub stillEach : {A : Type 0} → (A → ℕ → Claim) → (A → Boo
 stillEach claim alone [] = true
 stillEach claim alone (x ∷ xs) = (alone x && farFrom claim (claim x 0) xs) && stillEach claim alone xs
 
--- 42: no EIO has this node
-unfoldable pub noEioOf : ℕ → List Eio → Bool
-noEioOf node eios = every (λ e. not (eqb (e .node) node)) eios
-
 -- the EIO among themselves, and with the LIO
 unfoldable pub eiosQuiet : Claim → List Eio → Bool
 eiosQuiet lio eios = stillEach eioClaim (λ e. apart lio (eioClaim e 0)) eios
 
--- the BIO among themselves, with the EIO that they stand on, and with the MSI
-unfoldable pub biosQuiet : List Eio → List Msi → List Bio → Bool
-biosQuiet eios msis bios =
-    stillEach bioClaim (λ b. not (noEioOf (b .node) eios) && farFrom msiClaim (bioClaim b 0) msis) bios
+-- the BIO among themselves, with the nodes of the hubs that they stand on, and with the MSI
+unfoldable pub biosQuiet : List ℕ → List Msi → List Bio → Bool
+biosQuiet nodes msis bios =
+    stillEach bioClaim (λ b. not (isMissing (b .node) nodes) && farFrom msiClaim (bioClaim b 0) msis) bios
 
 -- the MSI among themselves
 unfoldable pub msisQuiet : List Msi → Bool
@@ -44,5 +41,5 @@ msisQuiet msis = stillEach msiClaim (λ m. true) msis
 unfoldable pub quiet : Said → Bool
 quiet said =
     eiosQuiet (lioClaim (said .lio) 0) (said .eios)
-    && biosQuiet (said .eios) (said .msis) (said .bios)
+    && biosQuiet (nodes said) (said .msis) (said .bios)
     && msisQuiet (said .msis)

@@ -4,8 +4,9 @@ use Prim.Native.Nat.{ℕ}
 use mathlib.Core.List.{List}
 use mathlib.Core.Path.{_≡_}
 use lib.ListN.{take}
-use Rattle.kinds.specs.Used.{saidLio, saidLpc}
+use Rattle.kinds.specs.Used.{saidLio, saidHt, saidLpc}
 use Rattle.kinds.specs.declared.Lio.{Lio}
+use Rattle.kinds.specs.declared.Ht.{Ht}
 use Rattle.kinds.specs.declared.Eio.{Eio}
 use Rattle.kinds.specs.declared.Bio.{Bio}
 use Rattle.kinds.specs.declared.Msi.{Msi}
@@ -15,6 +16,7 @@ use Rattle.lines.specs.declared.Map.{Map}
 -- the used fields, in table order
 pub record Said : Type 0 where
   pub lio : Lio
+  pub ht : Ht
   pub eios : List Eio
   pub bios : List Bio
   pub msis : List Msi
@@ -26,6 +28,7 @@ abbrev pub says : Map → Said
 says map =
     record {
       lio = saidLio (map .lio);
+      ht = saidHt (map .ht);
       eios = take (map .eiocount) (map .eios);
       bios = take (map .biocount) (map .bios);
       msis = take (map .msicount) (map .msis);

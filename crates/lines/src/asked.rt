@@ -9,6 +9,7 @@ use kinds::Msi;
 use kinds::ranges::bio_field;
 use kinds::ranges::bit_in_both;
 use kinds::ranges::eio_field;
+use kinds::ranges::ht_field;
 use kinds::ranges::lio_field;
 use kinds::ranges::lpc_field;
 use kinds::ranges::msi_field;
@@ -66,7 +67,7 @@ fn msis_fit(msis: [Msi; 4], n: usize) -> bool
 }
 
 impl Map {
-    // 71 to 77 and the number of inputs, of every structure.
+    // 71 to 78 and the number of inputs, of every structure.
     fn ranges_kept(self) -> bool
         requires { ⌜ (self .eiocount ≤ 4) × (self .biocount ≤ 4) × (self .msicount ≤ 4) ⌝ }
         ensures { λ r. ⌜ r ≡ rangesKept (says self) ⌝ }
@@ -75,14 +76,15 @@ impl Map {
         let bios = self.bios;
         let msis = self.msis;
         let lio = lio_field(kinds::said_lio(self.lio));
+        let ht = ht_field(kinds::said_ht(self.ht));
         let lpc = lpc_field(kinds::said_lpc(self.lpc));
         let e = eios_fit(eios, self.eiocount as usize);
         let b = bios_fit(bios, self.biocount as usize);
         let m = msis_fit(msis, self.msicount as usize);
-        (lio == 0) & e & b & m & (lpc == 0)
+        (lio == 0) & (ht == 0) & e & b & m & (lpc == 0)
     }
 
-    // Whether a map breaks none of 71 to 77, 37, 38 and 40 to 54: of 40, only LIO and EIO. And each BIO has 1 to 64 inputs.
+    // Whether a map breaks none of 71 to 78, 37, 38, 34 and 40 to 54: of 40, only LIO and hubs. And each BIO has 1 to 64 inputs.
     pub fn keeps_rules(self) -> bool
         ensures { λ r. ⌜ r ≡ keepsRules self ⌝ }
     {
@@ -92,6 +94,7 @@ impl Map {
         let verdict = self.first_broken(crate::rules::slot_places(), 0, 0);
         self.ranges_kept()
             & !bit_in_both(kinds::said_lio(self.lio))
+            & !self.both_kinds()
             & crate::rules::is_sound(verdict)
     }
 

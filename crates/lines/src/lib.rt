@@ -2,26 +2,29 @@
 // core vector with a number (document 01, "Where a line arrives" and "What comes back").
 use kinds::Bio;
 use kinds::Eio;
+use kinds::Ht;
 use kinds::Lio;
 use kinds::Lpc;
 use kinds::Msi;
 use words::Refusal;
 
+mod hubs; // what bridges and slots land on: the HT, or the EIO
 pub mod routes; // where a global number arrives
 mod traces; // what arrives at a core vector with a number
 mod quiet; // that a map breaks none of 41, 42 and 51 to 53, without a search
 mod search; // where two structures clash, or one stands alone
-mod rules; // 38 to 54: the first rule that a map breaks
+mod rules; // 38, 34 and 40 to 54: the first rule that a map breaks
 mod asked; // 61, and the two questions
 pub mod codes; // answers as plain numbers
 
-// "At most 1 LIO, 4 EIO, 4 BIO, 4 MSI, 1 LPC": four of each kind that may repeat.
+// "At most 1 LIO, 4 EIO, 4 BIO, 4 MSI, 1 LPC", and one HT: four of each kind that may repeat.
 pub const MOST: u8 = 4;
 
 // A map: the used fields of each structure in table order, and the SCI number. Entries from the count on are unused, and so
-// is what an absent LIO or LPC or an unused half holds: nothing looks at them.
+// is what an absent LIO, HT or LPC or an unused half holds: nothing looks at them.
 pub struct Map {
     pub lio: Lio,
+    pub ht: Ht,
     pub lpc: Lpc,
     pub sci: u16,
     pub eiocount: u8,
@@ -55,13 +58,14 @@ pub enum Trace {
 pub enum Owner {
     LpcInput,
     LioInput(u32),
-    BioInput(u16, u32),
+    BioInput(u16, u16),
     Nobody,
 }
 
 // Where each structure of a map stands in the capture, in the same arrangement as the map.
 pub struct Places {
     pub lio: u32,
+    pub ht: u32,
     pub eios: [u32; 4],
     pub bios: [u32; 4],
     pub msis: [u32; 4],

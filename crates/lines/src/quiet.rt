@@ -2,6 +2,7 @@
 // together. Only where it finds something need the search say which rule is broken, and where (proofs/NoClash). A LIO or an
 // EIO has nothing that a BIO or an MSI has too, so those pairs are not looked at.
 use crate::Map;
+use crate::hubs::no_hub_of;
 use clashes::Claim;
 use kinds::Bio;
 use kinds::Eio;
@@ -11,7 +12,8 @@ ghost use Prim.Native.Nat.{_≤_};
 ghost use lib.ListN.{take, drop};
 ghost use Rattle.lines.specs.Says.{says};
 ghost use Rattle.parts.specs.Claims.{eioClaim, bioClaim, msiClaim};
-ghost use Rattle.lines.specs.Quiet.{farFrom, noEioOf, eiosQuiet, biosQuiet, msisQuiet, quiet};
+ghost use Rattle.lines.specs.Hubs.{nodesOf};
+ghost use Rattle.lines.specs.Quiet.{farFrom, eiosQuiet, biosQuiet, msisQuiet, quiet};
 
 // ---- one claim against the structures of a kind, from one of them on
 
@@ -57,21 +59,6 @@ fn far_from_msis(x: Claim, msis: [Msi; 4], n: usize, from: usize) -> bool
     far
 }
 
-// 42: whether no EIO has this node.
-fn no_eio_of(eios: [Eio; 4], n: usize, node: u16) -> bool
-    requires { ⌜ n ≤ 4 ⌝ }
-    ensures { λ r. ⌜ r ≡ noEioOf node (take n eios) ⌝ }
-{
-    let mut none = true;
-    let mut i = 0;
-    while i < n {
-        let e = eios[i];
-        none = none & (e.node as u16 != node);
-        i += 1;
-    }
-    none
-}
-
 // ---- the structures of a kind among themselves, and against those of other kinds. The last of a kind has none behind it: the
 // array is not handed on for it, since handing it on is a copy.
 
@@ -94,17 +81,25 @@ fn eios_quiet(lio: Claim, eios: [Eio; 4], n: usize) -> bool
     still
 }
 
-// The BIO, with the EIO that they stand on and the MSI whose slots land there too.
-fn bios_quiet(eios: [Eio; 4], e: usize, bios: [Bio; 4], n: usize, msis: [Msi; 4], m: usize) -> bool
+// The BIO, with the hubs that they stand on, which are the EIO unless there is an HT, and the MSI whose slots land there too.
+fn bios_quiet(
+    ht: bool,
+    eios: [Eio; 4],
+    e: usize,
+    bios: [Bio; 4],
+    n: usize,
+    msis: [Msi; 4],
+    m: usize,
+) -> bool
     requires { ⌜ (e ≤ 4) × (n ≤ 4) × (m ≤ 4) ⌝ }
-    ensures { λ r. ⌜ r ≡ biosQuiet (take e eios) (take m msis) (take n bios) ⌝ }
+    ensures { λ r. ⌜ r ≡ biosQuiet (nodesOf ht (take e eios)) (take m msis) (take n bios) ⌝ }
 {
     let mut still = true;
     let mut i = 0;
     while i < n {
         let b = bios[i];
         let x = parts::bio_claim(b, 0);
-        still = still & (!no_eio_of(eios, e, b.node) & far_from_msis(x, msis, m, 0));
+        still = still & (!no_hub_of(ht, eios, e, b.node) & far_from_msis(x, msis, m, 0));
         i += 1;
         if i < n {
             still = still & far_from_bios(x, bios, n, i);
@@ -131,7 +126,7 @@ fn msis_quiet(msis: [Msi; 4], n: usize) -> bool
 }
 
 impl Map {
-    // Whether no two structures clash by 41 or 51 to 53, and no BIO is without an EIO.
+    // Whether no two structures clash by 41 or 51 to 53, and no BIO is without a hub.
     pub(crate) fn is_quiet(self) -> bool
         requires { ⌜ (self .eiocount ≤ 4) × (self .biocount ≤ 4) × (self .msicount ≤ 4) ⌝ }
         ensures { λ r. ⌜ r ≡ quiet (says self) ⌝ }
@@ -142,7 +137,10 @@ impl Map {
         let e = self.eiocount as usize;
         let b = self.biocount as usize;
         let m = self.msicount as usize;
+        let ht = self.ht;
         let lio = parts::lio_claim(kinds::said_lio(self.lio), 0);
-        eios_quiet(lio, eios, e) & bios_quiet(eios, e, bios, b, msis, m) & msis_quiet(msis, m)
+        eios_quiet(lio, eios, e)
+            & bios_quiet(ht.present, eios, e, bios, b, msis, m)
+            & msis_quiet(msis, m)
     }
 }

@@ -6,13 +6,14 @@ use crate::Map;
 use crate::Owner;
 use crate::Route;
 use kinds::Bio;
-use kinds::Eio;
 use kinds::Lio;
 ghost use mathlib.Core.Path.{_≡_};
-ghost use Prim.Native.Nat.{_≤_, min};
+ghost use mathlib.Core.Bool.{true};
+ghost use Prim.Native.Nat.{_-_, _≤_, min};
 ghost use lib.ListN.{take};
+ghost use Rattle.parts.specs.Inputs.{owns};
 ghost use Rattle.lines.specs.Says.{says};
-ghost use Rattle.lines.specs.Routes.{lioArrival, through, bioOwner, owner, arrival};
+ghost use Rattle.lines.specs.Routes.{lioArrival, bioOwner, owner, arrival};
 
 // The first global number of the LIO: those below are the LPC's.
 pub(crate) const LIO_FIRST: u32 = 16;
@@ -24,31 +25,18 @@ const LIO_END: u32 = 48;
 fn lio_arrival(lio: Lio, i: u32) -> Route
     ensures { λ r. ⌜ r ≡ lioArrival lio i ⌝ }
 {
-    let low = lio.low;
-    let high = lio.high;
-    if parts::bit(low.mask, i) {
-        return Route::Arrives(low.cascade, i);
-    }
-    if parts::bit(high.mask, i) {
-        return Route::Arrives(high.cascade, i);
+    if parts::is_wired(lio, i) {
+        return Route::Arrives(parts::core_of(lio, i), i);
     }
     Route::Unwired
 }
 
-// Where an extended vector of the EIO of a node arrives.
-fn eio_arrival(eios: [Eio; 4], n: usize, node: u16, vector: u32) -> Route
-    requires { ⌜ n ≤ 4 ⌝ }
-    ensures { λ r. ⌜ r ≡ through (take n eios) node vector ⌝ }
+// Which input of the BIO that owns it a global number is. A BIO has no more inputs than 16 bits count.
+fn input_of(bio: Bio, number: u32) -> u16
+    requires { ⌜ owns number bio ≡ true ⌝ }
+    ensures { λ r. ⌜ r ≡ number - bio .base ⌝ }
 {
-    let mut i = 0;
-    while i < n {
-        let e = eios[i];
-        if e.node as u16 == node {
-            return Route::Arrives(e.cascade, vector);
-        }
-        i += 1;
-    }
-    Route::NoOwner
+    (number - bio.base as u32) as u16
 }
 
 // The input of a BIO that a global number is.
@@ -60,7 +48,7 @@ fn bio_owner(bios: [Bio; 4], n: usize, number: u32) -> Owner
     while i < n {
         let b = bios[i];
         if parts::owns_number(b, number) {
-            return Owner::BioInput(b.node, number - (b.base as u32));
+            return Owner::BioInput(b.node, input_of(b, number));
         }
         i += 1;
     }
@@ -93,7 +81,11 @@ impl Map {
             return Owner::Nobody;
         }
         if number < LIO_END {
-            return Owner::LioInput(number - LIO_FIRST);
+            let i = number - LIO_FIRST;
+            if parts::is_named(kinds::said_ht(self.ht), i) {
+                return Owner::Nobody;
+            }
+            return Owner::LioInput(i);
         }
         bio_owner(bios, used(self.biocount), number)
     }
@@ -102,14 +94,12 @@ impl Map {
     pub fn arrival(self, number: u32) -> Route
         ensures { λ r. ⌜ r ≡ arrival (says self) number ⌝ }
     {
-        let eios = self.eios;
-        let n = used(self.eiocount);
         let lpc = kinds::said_lpc(self.lpc);
         let lio = kinds::said_lio(self.lio);
         match self.owner(number) {
-            Owner::LpcInput => eio_arrival(eios, n, lpc.node, lpc.cascade as u32),
+            Owner::LpcInput => self.hub_arrival(lpc.node, lpc.cascade),
             Owner::LioInput(i) => lio_arrival(lio, i),
-            Owner::BioInput(node, v) => eio_arrival(eios, n, node, v),
+            Owner::BioInput(node, v) => self.hub_arrival(node, v),
             Owner::Nobody => Route::NoOwner,
         }
     }

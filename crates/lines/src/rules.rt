@@ -1,4 +1,4 @@
-// The rules that a map must keep from 38 on, each in document 01's words, and their order: the lowest line that applies wins.
+// The rules that a map must keep from 38 on, 34 among them, each in document 01's words, and their order: the lowest line that applies wins.
 // A map comes with the places of its structures in the table; one that has none is given places of its own, since whether a
 // rule is broken does not hang on them.
 use crate::MOST;
@@ -12,7 +12,7 @@ ghost use Prim.Native.Nat.{ℕ, _≤_};
 ghost use Rattle.words.specs.Refusals.{rule, unless, firstRefusal, isSound};
 ghost use Rattle.words.specs.declared.Verdict.the-variants.{Refused};
 ghost use Rattle.lines.specs.Says.{says};
-ghost use Rattle.lines.specs.Rules.{tooMany, rule40, rule43, rule45, rule54, mapRules, firstBroken, slotPlaces};
+ghost use Rattle.lines.specs.Rules.{tooMany, bothKinds, rule40, rule43, rule44, rule45, rule54, mapRules, firstBroken, slotPlaces};
 
 // ---- verdicts
 
@@ -55,6 +55,7 @@ pub(crate) fn slot_places() -> Places
     let msis = [10, 11, 12, 13];
     Places {
         lio: 1,
+        ht: 15,
         eios,
         bios,
         msis,
@@ -70,31 +71,53 @@ impl Map {
         (MOST < self.eiocount) | (MOST < self.biocount) | (MOST < self.msicount)
     }
 
-    // 40: no LIO or no EIO. (No enabled CORE is the reading's.)
+    // 34: both an HT and an EIO.
+    pub(crate) fn both_kinds(self) -> bool
+        requires { ⌜ self .eiocount ≤ 4 ⌝ }
+        ensures { λ r. ⌜ r ≡ bothKinds (says self) ⌝ }
+    {
+        let ht = self.ht;
+        ht.present & (self.eiocount != 0)
+    }
+
+    // 40: no LIO, or neither EIO nor HT. (No enabled CORE is the reading's.)
     fn rule_40(self, madt: u32) -> Verdict
         requires { ⌜ self .eiocount ≤ 4 ⌝ }
         ensures { λ r. ⌜ r ≡ rule40 (says self) madt ⌝ }
     {
         let lio = self.lio;
-        rule_of(!lio.present | (self.eiocount == 0), 40, madt)
+        let ht = self.ht;
+        rule_of(
+            !lio.present | (!ht.present & (self.eiocount == 0)),
+            40,
+            madt,
+        )
     }
 
-    // 43: no BIO is the LPC's bridge. 45: its bridge has no input of its cascade.
-    fn lpc_rules(self, place: u32) -> Verdict
+    // 44: the HT names an input that is not wired.
+    fn rule_44(self, place: u32) -> Verdict
+        ensures { λ r. ⌜ r ≡ rule44 (says self) place ⌝ }
+    {
+        let broken = parts::names_unwired(kinds::said_lio(self.lio), kinds::said_ht(self.ht));
+        rule_of(broken, 44, place)
+    }
+
+    // 43: no BIO is the LPC's bridge. 45: its bridge has no input of its cascade. What 44 says, which stands between them, is known.
+    fn lpc_rules(self, place: u32, from44: Verdict) -> Verdict
         requires { ⌜ self .biocount ≤ 4 ⌝ }
-        ensures { λ r. ⌜ r ≡ unless Refused (rule43 (says self) place) (rule45 (says self) place) ⌝ }
+        ensures { λ r. ⌜ r ≡ unless Refused (rule43 (says self) place) (unless Refused from44 (rule45 (says self) place)) ⌝ }
     {
         let bios = self.bios;
         let lpc = self.lpc;
         let n = self.biocount as usize;
         if !lpc.present {
-            return Verdict::Sound;
+            return from44;
         }
         let mut i = 0;
         while i < n {
             let b = bios[i];
             if parts::is_bridge(lpc, b) {
-                return rule_of(b.pins <= lpc.cascade, 45, place);
+                return or_else(from44, rule_of(b.pins <= lpc.cascade, 45, place));
             }
             i += 1;
         }
@@ -112,11 +135,11 @@ impl Map {
     }
 
     // The first broken rule from 40 on, of a map that breaks none of 41, 42 and 51 to 53. What 54 says is known.
-    fn first_of_quiet(self, lpc: u32, madt: u32, from54: Verdict) -> Verdict
+    fn first_of_quiet(self, lpc: u32, ht: u32, madt: u32, from54: Verdict) -> Verdict
         requires { ⌜ (self .eiocount ≤ 4) × (self .biocount ≤ 4) ⌝ }
-        ensures { λ r. ⌜ r ≡ firstRefusal (rule40 (says self) madt ∷ rule43 (says self) lpc ∷ rule45 (says self) lpc ∷ from54 ∷ []) ⌝ }
+        ensures { λ r. ⌜ r ≡ firstRefusal (rule40 (says self) madt ∷ rule43 (says self) lpc ∷ rule44 (says self) ht ∷ rule45 (says self) lpc ∷ from54 ∷ []) ⌝ }
     {
-        let from43 = or_else(self.lpc_rules(lpc), from54);
+        let from43 = or_else(self.lpc_rules(lpc, self.rule_44(ht)), from54);
         or_else(self.rule_40(madt), from43)
     }
 
@@ -128,7 +151,7 @@ impl Map {
         let from53 = or_else(clashes::at_both(53, self.first_clash(places, 53)), from54);
         let from52 = or_else(clashes::at_both(52, self.first_clash(places, 52)), from53);
         let from51 = or_else(clashes::at_both(51, self.first_clash(places, 51)), from52);
-        let from43 = or_else(self.lpc_rules(places.lpc), from51);
+        let from43 = or_else(self.lpc_rules(places.lpc, self.rule_44(places.ht)), from51);
         let from42 = or_else(clashes::at_spot(42, self.first_lone(places)), from43);
         let from41 = or_else(clashes::at_later(41, self.first_clash(places, 41)), from42);
         or_else(self.rule_40(madt), from41)
@@ -141,7 +164,7 @@ impl Map {
     {
         let from54 = self.rule_54(fadt);
         if self.is_quiet() {
-            return self.first_of_quiet(places.lpc, madt, from54);
+            return self.first_of_quiet(places.lpc, places.ht, madt, from54);
         }
         self.first_by_search(places, madt, from54)
     }

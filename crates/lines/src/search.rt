@@ -2,6 +2,7 @@
 // of them would take more of the stack than all the rest of a reading.
 use crate::Map;
 use crate::Places;
+use crate::hubs::no_hub_of;
 use clashes::Claim;
 use clashes::NO_NODE;
 use clashes::Pair;
@@ -13,10 +14,10 @@ ghost use mathlib.Core.Path.{_≡_};
 ghost use mathlib.Core.List.{_∷_};
 ghost use Prim.Native.Nat.{_+_, _≤_, _<_};
 ghost use lib.ListN.{take, drop};
-ghost use Rattle.clashes.specs.Rules.{noEio};
 ghost use Rattle.clashes.specs.Search.{partner, firstClash, lonelier, firstLone};
 ghost use Rattle.parts.specs.Claims.{eioClaim, bioClaim, msiClaim};
 ghost use Rattle.lines.specs.Says.{says};
+ghost use Rattle.lines.specs.Hubs.{nodes};
 ghost use Rattle.lines.specs.Claims.{placed, claims};
 
 // ---- a claim of each kind
@@ -112,43 +113,29 @@ impl Map {
         best
     }
 
-    // 42: whether no claim is that of the EIO of a node.
-    fn no_eio(self, places: Places, node: u16) -> bool
-        requires { ⌜ (self .eiocount ≤ 4) × (self .biocount ≤ 4) × (self .msicount ≤ 4) ⌝ }
-        ensures { λ r. ⌜ r ≡ noEio node (claims (says self) places) ⌝ }
+    // 42: one structure more that names a hub which is not there: the first in the table counts.
+    fn lonelier_of(self, best: Spot, x: Claim) -> Spot
+        requires { ⌜ self .eiocount ≤ 4 ⌝ }
+        ensures { λ r. ⌜ r ≡ lonelier (nodes (says self)) best x ⌝ }
     {
-        let n = self.claimants();
-        let mut none = true;
-        let mut i = 0;
-        while i < n {
-            let y = self.claim_at(places, i);
-            none = none & (y.node != node);
-            i += 1;
-        }
-        none
-    }
-
-    // One structure more whose hub has no EIO: the first in the table counts.
-    fn lonelier_of(self, places: Places, best: Spot, x: Claim) -> Spot
-        requires { ⌜ (self .eiocount ≤ 4) × (self .biocount ≤ 4) × (self .msicount ≤ 4) ⌝ }
-        ensures { λ r. ⌜ r ≡ lonelier (claims (says self) places) best x ⌝ }
-    {
-        if (x.hub != NO_NODE) & self.no_eio(places, x.hub) {
+        let ht = self.ht;
+        let eios = self.eios;
+        if (x.hub != NO_NODE) & no_hub_of(ht.present, eios, self.eiocount as usize, x.hub) {
             return clashes::sooner_of(best, x.place);
         }
         best
     }
 
-    // The first structure of the table whose hub is a node without an EIO.
+    // The first structure of the table that names a hub which is not there.
     pub(crate) fn first_lone(self, places: Places) -> Spot
         requires { ⌜ (self .eiocount ≤ 4) × (self .biocount ≤ 4) × (self .msicount ≤ 4) ⌝ }
-        ensures { λ r. ⌜ r ≡ firstLone (claims (says self) places) ⌝ }
+        ensures { λ r. ⌜ r ≡ firstLone (nodes (says self)) (claims (says self) places) ⌝ }
     {
         let n = self.claimants();
         let mut best = Spot::Nowhere;
         let mut i = 0;
         while i < n {
-            best = self.lonelier_of(places, best, self.claim_at(places, i));
+            best = self.lonelier_of(best, self.claim_at(places, i));
             i += 1;
         }
         best

@@ -1,4 +1,5 @@
--- What each structure of a map claims for itself; what it does not claim is empty. The LPC claims nothing.
+-- What each structure of a map claims for itself; what it does not claim is empty. The LPC claims nothing; nor does the HT, which "enters
+-- the LIO and no core vector itself" (W-201 of document 02), and whose vectors are its sources'.
 use Prim.Native.Nat.{ℕ}
 use Rattle.kinds.specs.declared.Lio.{Lio}
 use Rattle.kinds.specs.declared.Eio.{Eio}
@@ -38,7 +39,7 @@ eioClaim eio place =
       high = 0;
     }
 
--- the global numbers of its inputs from b on, and as many extended vectors from 0 on of the EIO of its node
+-- the global numbers of its inputs from b on, and as many vectors from 0 on of the hub of its node
 abbrev pub bioClaim : Bio → ℕ → Claim
 bioClaim bio place =
     record {
@@ -51,7 +52,7 @@ bioClaim bio place =
       high = 0;
     }
 
--- "slot s, from start to start + count - 1, is a source on every EIO, with number s"
+-- "slot s, from start to start + count - 1, is a source on every EIO", or on the HT
 abbrev pub msiClaim : Msi → ℕ → Claim
 msiClaim msi place =
     record {

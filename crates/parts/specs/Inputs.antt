@@ -1,9 +1,13 @@
 -- Which inputs, pins and slots a structure has: document 01, "Where a line arrives".
 use Prim.Native.Nat.{ℕ, _+_, _/_, _%_, _^_}
-use mathlib.Core.Bool.{Bool, _&&_, _||_}
+use mathlib.Core.Bool.{Bool, not, _&&_, _||_}
 use lib.Dec.{eqb, leb, ltb}
+use lib.ListN.{getD}
+use Rattle.words.specs.Choice.{if}
+use Rattle.words.specs.Lists.{every}
 use Rattle.kinds.specs.declared.Half.{Half}
 use Rattle.kinds.specs.declared.Lio.{Lio}
+use Rattle.kinds.specs.declared.Ht.{Ht}
 use Rattle.kinds.specs.declared.Bio.{Bio}
 use Rattle.kinds.specs.declared.Msi.{Msi}
 use Rattle.kinds.specs.declared.Lpc.{Lpc}
@@ -20,6 +24,26 @@ wired lio i = hasBit (lio .low .mask) i || hasBit (lio .high .mask) i
 abbrev pub leads : Half → ℕ → ℕ → Bool
 leads half vector i = eqb (half .cascade) vector && hasBit (half .mask) i
 
+-- the core vector of LIO input i: "the cascade of the half whose mask has bit i"; 0 where it is not wired
+unfoldable pub coreOf : Lio → ℕ → ℕ
+coreOf lio i =
+    if (hasBit (lio .low .mask) i) (lio .low .cascade)
+    (if (hasBit (lio .high .mask) i) (lio .high .cascade)
+    0)
+
+-- ---- W-201 of document 02: the HT
+-- "byte n names the LIO input that HT vectors 32n to 32n + 31 go to"
+abbrev pub inputFor : Ht → ℕ → ℕ
+inputFor ht v = getD (ht .bytes) (v / 32) 0
+
+-- there is an HT, and one of its bytes names LIO input i
+unfoldable pub isNamed : Ht → ℕ → Bool
+isNamed ht i = ht .present && not (every (λ b. not (eqb b i)) (ht .bytes))
+
+-- there is an HT, and one of its bytes names an input that is not wired
+unfoldable pub namesUnwired : Lio → Ht → Bool
+namesUnwired lio ht = ht .present && not (every (wired lio) (ht .bytes))
+
 -- "slot s, from start to start + count - 1"
 abbrev pub hasSlot : ℕ → Msi → Bool
 hasSlot slot msi = leb (msi .start) slot && ltb slot (msi .start + msi .count)
@@ -28,7 +52,7 @@ hasSlot slot msi = leb (msi .start) slot && ltb slot (msi .start + msi .count)
 abbrev pub owns : ℕ → Bio → Bool
 owns number bio = leb (bio .base) number && ltb number (bio .base + bio .pins)
 
--- a BIO has an input v, and lands it on the EIO of a node
+-- a BIO has an input v, and lands it on the hub of a node
 unfoldable pub hasPin : ℕ → ℕ → Bio → Bool
 hasPin node v bio = eqb (bio .node) node && ltb v (bio .pins)
 

@@ -7,19 +7,21 @@ use native.Mathlib.Omega.{arith}
 use borrow.Author.Tests.{eq-eqb, ne-eqb}
 use borrow.Author.Needs.{needs}
 use Rattle.words.proofs.Searches.{Searching, search-hit, search-miss, search-over}
+use Rattle.kinds.proofs.Used.{ht-present}
 use Rattle.clashes.proofs.Arrays.{length-mapped}
 use Rattle.words.proofs.Turns.{Turn, element, next-turn, no-turn}
 use Rattle.lines.specs.Says.{says}
-use Rattle.lines.specs.Traces.{landed, eioTraced}
+use Rattle.lines.specs.Traces.{landed, hubTraced}
 use Rattle.lines.specs.declared.Trace.the-variants.{Nothing}
 use Rattle.lines.proofs.Counts.{take-used}
+use Rattle.lines.proofs.Landing.{traced-eios}
 use Rattle.lines.proofs.Map.eio_traced.Statement.{statement}
 use Rattle.lines.proofs.Map.eio_traced.Tie as tie
 
 abbrev Inv-loop : tie.InvT-loop
 Inv-loop self vector number eios n i₀ i =
     Turn eios n i
-    × Searching (λ e. eqb (e .cascade) vector) (λ e. landed (says self) (e .node) number) Nothing (eioTraced (says self) vector number) (drop i (take n eios))
+    × Searching (λ e. eqb (e .cascade) vector) (λ e. landed (says self) (e .node) number) Nothing (hubTraced (says self) vector number) (drop i (take n eios))
 
 abbrev μ-loop : tie.MeasureT-loop
 μ-loop self vector number eios n i₀ i = n - i
@@ -28,12 +30,12 @@ used-requires : tie.Need-used-requires Inv-loop μ-loop
 used-requires c κs = search needs
 
 loop-holds : tie.Need-loop-holds Inv-loop μ-loop
-unfolding eioTraced
 loop-holds c =
     let map = c .before .before .args .self in
     let held : length (map .eios) ≡ 4 = search (needs, length-mapped) in
     let used = take-used (map .eios) (map .eiocount) _ held (c .used .ensures .1) in
-    (record { within = search needs; fits = search needs }, record { gives = rw used })
+    let none = ht-present (map .ht) ∙ c .before .before .pre in
+    (record { within = search needs; fits = search needs }, record { gives = rw used (traced-eios (says map) _ _ none) })
 
 mul-e : tie.Need-mul-e Inv-loop μ-loop
 mul-e c = search needs

@@ -33,14 +33,17 @@ at-both-requires-3 c κs = search needs
 or-else-requires-3 : tie.Need-or-else-requires-3
 or-else-requires-3 c κs = search needs
 
+rule-44-requires : tie.Need-rule-44-requires
+rule-44-requires c κs = search needs
+
 lpc-rules-requires : tie.Need-lpc-rules-requires
-lpc-rules-requires c κs = c .before .before .before .before .before .before .before .before .before .pre .1
+lpc-rules-requires c κs = c .before .before .before .before .before .before .before .before .before .before .pre .1
 
 or-else-requires-4 : tie.Need-or-else-requires-4
 or-else-requires-4 c κs = search needs
 
 first-lone-requires : tie.Need-first-lone-requires
-first-lone-requires c κs = c .before .before .before .before .before .before .before .before .before .before .before .pre
+first-lone-requires c κs = c .before .before .before .before .before .before .before .before .before .before .before .before .pre
 
 at-spot-requires : tie.Need-at-spot-requires
 at-spot-requires c κs = search needs
@@ -49,7 +52,7 @@ or-else-requires-5 : tie.Need-or-else-requires-5
 or-else-requires-5 c κs = search needs
 
 first-clash-requires-4 : tie.Need-first-clash-requires-4
-first-clash-requires-4 c κs = c .before .before .before .before .before .before .before .before .before .before .before .before .before .before .pre
+first-clash-requires-4 c κs = c .before .before .before .before .before .before .before .before .before .before .before .before .before .before .before .pre
 
 at-later-requires : tie.Need-at-later-requires
 at-later-requires c κs = search needs
@@ -58,7 +61,7 @@ or-else-requires-6 : tie.Need-or-else-requires-6
 or-else-requires-6 c κs = search needs
 
 rule-40-requires : tie.Need-rule-40-requires
-rule-40-requires c κs = c .before .before .before .before .before .before .before .before .before .before .before .before .before .before .before .before .before .pre .0
+rule-40-requires c κs = c .before .before .before .before .before .before .before .before .before .before .before .before .before .before .before .before .before .before .pre .0
 
 or-else-requires-7 : tie.Need-or-else-requires-7
 or-else-requires-7 c κs = search needs
@@ -77,16 +80,18 @@ returns c fadt last =
       c .before .before .before .before .before .before .before .first-lone .ensures,
       c .before .before .before .before .before .before .before .before .or-else4 .ensures,
       c .before .before .before .before .before .before .before .before .before .lpc-rules .ensures,
-      c .before .before .before .before .before .before .before .before .before .before .or-else3 .ensures,
-      c .before .before .before .before .before .before .before .before .before .before .before .at-both3 .ensures,
-      c .before .before .before .before .before .before .before .before .before .before .before .before .first-clash3 .ensures,
-      c .before .before .before .before .before .before .before .before .before .before .before .before .before .or-else2 .ensures,
-      c .before .before .before .before .before .before .before .before .before .before .before .before .before .before .at-both2 .ensures,
-      c .before .before .before .before .before .before .before .before .before .before .before .before .before .before .before .first-clash2 .ensures,
-      c .before .before .before .before .before .before .before .before .before .before .before .before .before .before .before .before .or-else .ensures,
-      c .before .before .before .before .before .before .before .before .before .before .before .before .before .before .before .before .before .at-both .ensures,
-      c .before .before .before .before .before .before .before .before .before .before .before .before .before .before .before .before .before .before .first-clash .ensures,
+      c .before .before .before .before .before .before .before .before .before .before .rule-44 .ensures,
+      c .before .before .before .before .before .before .before .before .before .before .before .or-else3 .ensures,
+      c .before .before .before .before .before .before .before .before .before .before .before .before .at-both3 .ensures,
+      c .before .before .before .before .before .before .before .before .before .before .before .before .before .first-clash3 .ensures,
+      c .before .before .before .before .before .before .before .before .before .before .before .before .before .before .or-else2 .ensures,
+      c .before .before .before .before .before .before .before .before .before .before .before .before .before .before .before .at-both2 .ensures,
+      c .before .before .before .before .before .before .before .before .before .before .before .before .before .before .before .before .first-clash2 .ensures,
+      c .before .before .before .before .before .before .before .before .before .before .before .before .before .before .before .before .before .or-else .ensures,
+      c .before .before .before .before .before .before .before .before .before .before .before .before .before .before .before .before .before .before .at-both .ensures,
+      c .before .before .before .before .before .before .before .before .before .before .before .before .before .before .before .before .before .before .before .first-clash .ensures,
       last,
+      unless-again,
       unless-again,
       unless-last,
     )
@@ -104,6 +109,7 @@ first-by-search-spec =
     first-clash-requires-3
     at-both-requires-3
     or-else-requires-3
+    rule-44-requires
     lpc-rules-requires
     or-else-requires-4
     first-lone-requires

@@ -1,11 +1,7 @@
 -- `Map::first_from_40` asks for a quiet map first, and searches where it is none.
-use Prim.Native.Nat.{_≤_}
 use mathlib.Core.Path.{_≡_, sym, _∙_}
 use mathlib.Core.Bool.{true}
-use native.Mathlib.Omega.{arith}
-use lib.ListN.{length, take, length-take}
 use borrow.Author.Needs.{needs}
-use Rattle.clashes.proofs.Arrays.{length-mapped}
 use Rattle.lines.specs.Says.{says}
 use Rattle.lines.specs.Quiet.{quiet}
 use Rattle.lines.proofs.NoClash.{quiet-first}
@@ -25,10 +21,7 @@ returns : tie.Need-returns
 returns c =
     let a = c .before .before .before .before .args in
     let still : quiet (says (a .self)) ≡ true = sym (c .before .before .is-quiet .ensures) ∙ c .before .if1 .taken in
-    let held : length (a .places .eios) ≡ 4 = search (needs, length-mapped) in
-    let room : length (take (a .self .eiocount) (a .self .eios)) ≤ length (a .places .eios) =
-    omega (arith, held, c .before .before .before .before .pre .0, length-take (a .self .eiocount) (a .self .eios)) in
-    (rw (c .before .before .before .rule-54 .ensures) at (c .first-of-quiet .ensures)) ∙ sym (quiet-first (says (a .self)) (a .places) room still (a .madt) (a .fadt))
+    (rw (c .before .before .before .rule-54 .ensures) at (c .first-of-quiet .ensures)) ∙ sym (quiet-first (says (a .self)) (a .places) still (a .madt) (a .fadt))
 
 first-by-search-requires : tie.Need-first-by-search-requires
 first-by-search-requires c κs = search needs

@@ -7,6 +7,7 @@ use borrow.Author.Needs.{needs}
 use Rattle.clashes.specs.Search.{lonelier, firstLone}
 use Rattle.clashes.proofs.Folding.{Folding, fold-next, fold-over}
 use Rattle.lines.specs.Says.{says}
+use Rattle.lines.specs.Hubs.{nodes}
 use Rattle.lines.specs.Claims.{claims}
 use Rattle.lines.proofs.Claimed.{no-claim}
 use Rattle.lines.proofs.Map.first_lone.Statement.{statement}
@@ -14,7 +15,7 @@ use Rattle.lines.proofs.Map.first_lone.Tie as tie
 
 abbrev Inv-loop : tie.InvT-loop
 Inv-loop self places n best₀ i₀ best i =
-    (i ≤ n) × Folding (lonelier (claims (says self) places)) (firstLone (claims (says self) places)) (drop i (claims (says self) places)) best
+    (i ≤ n) × Folding (lonelier (nodes (says self))) (firstLone (nodes (says self)) (claims (says self) places)) (drop i (claims (says self) places)) best
 
 abbrev μ-loop : tie.MeasureT-loop
 μ-loop self places n best₀ i₀ best i = n - i

@@ -1,9 +1,12 @@
--- `Map::first_of_quiet` is the first broken rule of 40, 43, 45 and 54.
+-- `Map::first_of_quiet` is the first broken rule of 40, 43 to 45 and 54.
 use borrow.Author.Needs.{needs}
 use Rattle.words.specs.Refusals.{firstRefusal}
 use Rattle.words.proofs.Verdicts.{unless-again, unless-last}
 use Rattle.lines.proofs.Map.first_of_quiet.Statement.{statement}
 use Rattle.lines.proofs.Map.first_of_quiet.Tie as tie
+
+rule-44-requires : tie.Need-rule-44-requires
+rule-44-requires c κs = search needs
 
 lpc-rules-requires : tie.Need-lpc-rules-requires
 lpc-rules-requires c κs = search needs
@@ -25,6 +28,8 @@ returns c =
       c .before .rule-40 .ensures,
       c .before .before .or-else .ensures,
       c .before .before .before .lpc-rules .ensures,
+      c .before .before .before .before .rule-44 .ensures,
+      unless-again,
       unless-again,
       unless-last,
     )
@@ -33,6 +38,7 @@ pub first-of-quiet-spec : {M : Type 1} → statement M
 first-of-quiet-spec =
     tie.close
     (tie.spec
+    rule-44-requires
     lpc-rules-requires
     or-else-requires
     rule-40-requires

@@ -1,5 +1,6 @@
 -- `Map::is_quiet` tests the structures kind by kind.
 use borrow.Author.Needs.{needs}
+use Rattle.kinds.proofs.Used.{ht-present}
 use Rattle.lines.specs.Quiet.{quiet}
 use Rattle.lines.proofs.Map.is_quiet.Statement.{statement}
 use Rattle.lines.proofs.Map.is_quiet.Tie as tie
@@ -26,7 +27,7 @@ bios-quiet-requires : tie.Need-bios-quiet-requires
 bios-quiet-requires c κs = search needs
 
 msis-quiet-requires : tie.Need-msis-quiet-requires
-msis-quiet-requires c κs = search needs
+msis-quiet-requires c κs = c .before .before .before .before .before .before .before .before .before .before .before .pre .2
 
 returns : tie.Need-returns
 unfolding quiet
@@ -35,6 +36,7 @@ returns c =
       c .msis-quiet .ensures,
       c .before .bios-quiet .ensures,
       c .before .before .eios-quiet .ensures,
+      ht-present _,
       c .before .before .before .lio-claim .ensures,
       c .before .before .before .before .said-lio .ensures,
     )

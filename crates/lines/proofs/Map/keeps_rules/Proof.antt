@@ -1,4 +1,4 @@
--- `Map::keeps_rules`: none of 71 to 77, 37, 38 and 40 to 54 is broken.
+-- `Map::keeps_rules`: none of 71 to 78, 37, 38, 34 and 40 to 54 is broken.
 use mathlib.Core.Path.{sym, _∙_}
 use mathlib.Core.Bool.{and-false}
 use borrow.Author.Needs.{needs}
@@ -33,20 +33,26 @@ said-lio-requires c κs = search needs
 bit-in-both-requires : tie.Need-bit-in-both-requires
 bit-in-both-requires c κs = search needs
 
+both-kinds-requires : tie.Need-both-kinds-requires
+both-kinds-requires c κs =
+    let t = c .before .before .before .before .before in
+    counts (t .before .before .args .self) (sym (t .before .too-many .ensures) ∙ t .if1 .left) .0
+
 is-sound-requires : tie.Need-is-sound-requires
 is-sound-requires c κs = search needs
 
 returns-2 : tie.Need-returns-2
 unfolding keepsRules
 returns-2 c =
-    let f = c .before .before .before .before in
+    let f = c .before .before .before .before .before in
     rw (
       c .is-sound .ensures,
       f .first-broken .ensures,
       f .before .slot-places .ensures,
-      c .before .bit-in-both .ensures,
-      c .before .before .said-lio .ensures,
-      c .before .before .before .ranges-kept .ensures,
+      c .before .both-kinds .ensures,
+      c .before .before .bit-in-both .ensures,
+      c .before .before .before .said-lio .ensures,
+      c .before .before .before .before .ranges-kept .ensures,
     )
 
 pub keeps-rules-spec : {M : Type 1} → statement M
@@ -60,5 +66,6 @@ keeps-rules-spec =
     ranges-kept-requires
     said-lio-requires
     bit-in-both-requires
+    both-kinds-requires
     is-sound-requires
     returns-2)

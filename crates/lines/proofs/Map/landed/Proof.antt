@@ -74,11 +74,14 @@ used-requires-2 c κs = search needs
 slot-told-requires : tie.Need-slot-told-requires Inv-loop μ-loop
 slot-told-requires c κs = search needs
 
+four-msis : (s : tie.Start Inv-loop μ-loop) → length (s .args .self .msis) ≡ 4
+four-msis s = search (needs, length-mapped)
+
 returns-2 : tie.Need-returns-2 Inv-loop μ-loop
 returns-2 c =
     let l = c .before .before .before .loop .inv in
     let a = c .before .before .before .before .before .before .before .args in
-    let held : length (a .self .msis) ≡ 4 = search (needs, length-mapped) in
+    let held = four-msis (c .before .before .before .before .before .before .before) in
     let used = take-used (a .self .msis) (a .self .msicount) _ held (c .before .used2 .ensures .1) in
     c .slot-told .ensures
     ∙ ap (λ msis. slotTold msis (a .node) (a .vector)) used

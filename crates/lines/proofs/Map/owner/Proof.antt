@@ -23,11 +23,35 @@ returns-2 c =
     let a = c .before .before .before .before .args in
     rw (lt-ltb (a .number) 16 (c .before .if1 .taken), lpc-present (a .self .lpc), c .if2 .left)
 
+said-ht-requires : tie.Need-said-ht-requires
+said-ht-requires c κs = search needs
+
+is-named-requires : tie.Need-is-named-requires
+is-named-requires c κs = search needs
+
 returns-3 : tie.Need-returns-3
 unfolding owner if
 returns-3 c =
-    let a = c .before .before .before .before .args in
-    rw (le-ltb (a .number) 16 (c .before .if1 .left), lt-ltb (a .number) 48 (c .if3 .taken))
+    let s = c .before .before .before .before .before .before .before in
+    rw (
+      le-ltb (s .args .number) 16 (c .before .before .before .before .if1 .left),
+      lt-ltb (s .args .number) 48 (c .before .before .before .if3 .taken),
+      ← c .before .before .said-ht .ensures,
+      ← c .before .is-named .ensures,
+      c .if4 .taken,
+    )
+
+returns-4 : tie.Need-returns-4
+unfolding owner if
+returns-4 c =
+    let s = c .before .before .before .before .before .before .before in
+    rw (
+      le-ltb (s .args .number) 16 (c .before .before .before .before .if1 .left),
+      lt-ltb (s .args .number) 48 (c .before .before .before .if3 .taken),
+      ← c .before .before .said-ht .ensures,
+      ← c .before .is-named .ensures,
+      c .if4 .left,
+    )
 
 used-requires : tie.Need-used-requires
 used-requires c κs = search needs
@@ -35,14 +59,28 @@ used-requires c κs = search needs
 bio-owner-requires : tie.Need-bio-owner-requires
 bio-owner-requires c κs = search needs
 
-returns-4 : tie.Need-returns-4
+four-bios : (s : tie.Start) → length (s .args .self .bios) ≡ 4
+four-bios s = search (needs, length-mapped)
+
+returns-5 : tie.Need-returns-5
 unfolding owner if
-returns-4 c =
-    let a = c .before .before .before .before .before .before .args in
-    let held : length (a .self .bios) ≡ 4 = search (needs, length-mapped) in
+returns-5 c =
+    let s = c .before .before .before .before .before .before in
+    let a = s .args in
+    let held = four-bios s in
     rw (le-ltb (a .number) 16 (c .before .before .before .if1 .left), le-ltb (a .number) 48 (c .before .before .if3 .left))
     (c .bio-owner .ensures ∙ ap (λ bios. bioOwner bios (a .number)) (take-used (a .self .bios) (a .self .biocount) _ held (c .before .used .ensures .1)))
 
 pub owner-spec : {M : Type 1} → statement M
 owner-spec =
-    tie.close (tie.spec returns returns-2 returns-3 used-requires bio-owner-requires returns-4)
+    tie.close
+    (tie.spec
+    returns
+    returns-2
+    said-ht-requires
+    is-named-requires
+    returns-3
+    returns-4
+    used-requires
+    bio-owner-requires
+    returns-5)

@@ -10,6 +10,12 @@ said-lio-requires c κs = search needs
 lio-field-requires : tie.Need-lio-field-requires
 lio-field-requires c κs = search needs
 
+said-ht-requires : tie.Need-said-ht-requires
+said-ht-requires c κs = search needs
+
+ht-field-requires : tie.Need-ht-field-requires
+ht-field-requires c κs = search needs
+
 said-lpc-requires : tie.Need-said-lpc-requires
 said-lpc-requires c κs = search needs
 
@@ -26,13 +32,13 @@ cast-bios-fit : tie.Need-cast-bios-fit
 cast-bios-fit c = search needs
 
 bios-fit-requires : tie.Need-bios-fit-requires
-bios-fit-requires c κs = search needs
+bios-fit-requires c κs = c .before .before .before .before .before .before .before .before .before .before .before .before .pre .1
 
 cast-msis-fit : tie.Need-cast-msis-fit
 cast-msis-fit c = search needs
 
 msis-fit-requires : tie.Need-msis-fit-requires
-msis-fit-requires c κs = c .before .before .before .before .before .before .before .before .before .before .before .before .pre .2
+msis-fit-requires c κs = c .before .before .before .before .before .before .before .before .before .before .before .before .before .before .pre .2
 
 returns : tie.Need-returns
 unfolding rangesKept
@@ -45,8 +51,10 @@ returns c =
       e .eios-fit .ensures,
       l .lpc-field .ensures,
       l .before .said-lpc .ensures,
-      l .before .before .lio-field .ensures,
-      l .before .before .before .said-lio .ensures,
+      l .before .before .ht-field .ensures,
+      l .before .before .before .said-ht .ensures,
+      l .before .before .before .before .lio-field .ensures,
+      l .before .before .before .before .before .said-lio .ensures,
     )
 
 pub ranges-kept-spec : {M : Type 1} → statement M
@@ -55,6 +63,8 @@ ranges-kept-spec =
     (tie.spec
     said-lio-requires
     lio-field-requires
+    said-ht-requires
+    ht-field-requires
     said-lpc-requires
     lpc-field-requires
     cast-eios-fit

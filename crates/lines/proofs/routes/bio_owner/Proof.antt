@@ -3,11 +3,9 @@ use mathlib.Core.Path.{refl, sym, _∙_}
 use lib.ListN.{take, drop}
 use Prim.Native.Nat.{_-_}
 use native.Mathlib.Omega.{arith}
-use borrow.Author.Tests.{leb-true}
 use borrow.Author.Needs.{needs}
 use Rattle.words.proofs.Searches.{Searching, search-hit, search-miss, search-over}
 use Rattle.words.proofs.Turns.{Turn, element, next-turn, no-turn}
-use Rattle.clashes.proofs.Logic.{and-left}
 use Rattle.parts.specs.Inputs.{owns}
 use Rattle.lines.specs.Routes.{bioOwner}
 use Rattle.lines.specs.declared.Owner.the-variants.{BioInput, Nobody}
@@ -35,16 +33,14 @@ array-copy-out-b c = search needs
 owns-number-requires : tie.Need-owns-number-requires Inv-loop μ-loop
 owns-number-requires c κs = search needs
 
-cast-t13 : tie.Need-cast-t13 Inv-loop μ-loop
-cast-t13 c = search needs
-
-sub-t14 : tie.Need-sub-t14 Inv-loop μ-loop
-sub-t14 c = leb-true _ _ (and-left _ _ (sym (c .before .before .owns-number .ensures) ∙ c .before .if1 .taken))
+input-of-requires : tie.Need-input-of-requires Inv-loop μ-loop
+input-of-requires c κs = sym (c .before .owns-number .ensures) ∙ c .if1 .taken
 
 returns : tie.Need-returns Inv-loop μ-loop
 returns c =
     let l = c .before .before .before .before .before .loop .inv in
-    search-hit (l .1) (element (l .0) _ (omega arith)) (sym (c .before .before .owns-number .ensures) ∙ c .before .if1 .taken)
+    rw (c .input-of .ensures)
+    (search-hit (l .1) (element (l .0) _ (omega arith)) (sym (c .before .before .owns-number .ensures) ∙ c .before .if1 .taken))
 
 add-i : tie.Need-add-i Inv-loop μ-loop
 add-i c = search needs
@@ -74,8 +70,7 @@ bio-owner-spec =
     mul-b
     array-copy-out-b
     owns-number-requires
-    cast-t13
-    sub-t14
+    input-of-requires
     returns
     add-i
     loop-less

@@ -1,4 +1,4 @@
--- `routes::lio_arrival` asks the low half first, then the high one.
+-- `routes::lio_arrival`: at its core vector, if it is wired.
 use mathlib.Core.Path.{sym, refl}
 use borrow.Author.Needs.{needs}
 use Rattle.words.proofs.Choices.{yes-if, no-if}
@@ -6,23 +6,19 @@ use Rattle.lines.specs.Routes.{lioArrival}
 use Rattle.lines.proofs.routes.lio_arrival.Statement.{statement}
 use Rattle.lines.proofs.routes.lio_arrival.Tie as tie
 
-bit-requires : tie.Need-bit-requires
-bit-requires c κs = search needs
+is-wired-requires : tie.Need-is-wired-requires
+is-wired-requires c κs = search needs
+
+core-of-requires : tie.Need-core-of-requires
+core-of-requires c κs = search needs
 
 returns : tie.Need-returns
 unfolding lioArrival
-returns c = sym (yes-if _ _ _ (cc))
-
-bit-requires-2 : tie.Need-bit-requires-2
-bit-requires-2 c κs = search needs
+returns c = rw (c .core-of .ensures) (sym (yes-if _ _ _ (cc)))
 
 returns-2 : tie.Need-returns-2
 unfolding lioArrival
-returns-2 c = sym (no-if _ _ _ (cc) (yes-if _ _ _ (cc)))
-
-returns-3 : tie.Need-returns-3
-unfolding lioArrival
-returns-3 c = sym (no-if _ _ _ (cc) (no-if _ _ _ (cc) refl))
+returns-2 c = sym (no-if _ _ _ (cc) refl)
 
 pub lio-arrival-spec : {M : Type 1} → statement M
-lio-arrival-spec = tie.close (tie.spec bit-requires returns bit-requires-2 returns-2 returns-3)
+lio-arrival-spec = tie.close (tie.spec is-wired-requires core-of-requires returns returns-2)

@@ -1,27 +1,30 @@
--- `quiet::no_eio_of` tests every EIO.
+-- `hubs::no_eio_of` tests every EIO.
 use mathlib.Core.Bool.{not}
-use mathlib.Core.Path.{refl}
+use mathlib.Core.List.{map}
+use mathlib.Core.Path.{sym}
 use lib.Dec.{eqb}
 use lib.ListN.{take, drop}
 use Prim.Native.Nat.{_-_}
 use native.Mathlib.Omega.{arith}
 use borrow.Author.Needs.{needs}
 use Rattle.words.proofs.Searches.{Testing, test-next, test-over}
-use Rattle.lines.specs.Quiet.{noEioOf}
+use Rattle.kinds.specs.declared.Eio.{Eio}
+use Rattle.clashes.specs.Rules.{isMissing}
+use Rattle.lines.proofs.Landing.{every-made}
 use Rattle.words.proofs.Turns.{Turn, element, next-turn, no-turn}
-use Rattle.lines.proofs.quiet.no_eio_of.Statement.{statement}
-use Rattle.lines.proofs.quiet.no_eio_of.Tie as tie
+use Rattle.lines.proofs.hubs.no_eio_of.Statement.{statement}
+use Rattle.lines.proofs.hubs.no_eio_of.Tie as tie
 
 abbrev Inv-loop : tie.InvT-loop
 Inv-loop n node eios none₀ i₀ none i =
-    Turn eios n i × Testing (λ y. not (eqb (y .node) node)) (noEioOf node (take n eios)) (drop i (take n eios)) none
+    Turn eios n i × Testing (λ y. not (eqb (y .node) node)) (isMissing node (map (λ (e : Eio). e .node) (take n eios))) (drop i (take n eios)) none
 
 abbrev μ-loop : tie.MeasureT-loop
 μ-loop n node eios none₀ i₀ none i = n - i
 
 loop-holds : tie.Need-loop-holds Inv-loop μ-loop
-unfolding noEioOf
-loop-holds c = (record { within = search needs; fits = search needs }, record { gives = refl })
+loop-holds c =
+    (record { within = search needs; fits = search needs }, record { gives = sym (every-made (λ (e : Eio). e .node) _ _) })
 
 mul-e : tie.Need-mul-e Inv-loop μ-loop
 mul-e c = search needs

@@ -1,5 +1,6 @@
--- `routes::eio_arrival` searches the EIO of a node.
-use mathlib.Core.Path.{refl}
+-- `hubs::eio_arrival` searches the EIO of a node.
+use mathlib.Core.Path.{sym}
+use mathlib.Core.List.{map}
 use lib.Dec.{eqb}
 use lib.ListN.{take, drop}
 use Prim.Native.Nat.{_-_}
@@ -8,22 +9,23 @@ use borrow.Author.Tests.{eq-eqb, ne-eqb}
 use borrow.Author.Needs.{needs}
 use Rattle.words.proofs.Searches.{Searching, search-hit, search-miss, search-over}
 use Rattle.words.proofs.Turns.{Turn, element, next-turn, no-turn}
+use Rattle.lines.specs.Hubs.{eioHub}
 use Rattle.lines.specs.Routes.{through}
 use Rattle.lines.specs.declared.Route.the-variants.{Arrives, NoOwner}
-use Rattle.lines.proofs.routes.eio_arrival.Statement.{statement}
-use Rattle.lines.proofs.routes.eio_arrival.Tie as tie
+use Rattle.lines.proofs.Landing.{through-eios}
+use Rattle.lines.proofs.hubs.eio_arrival.Statement.{statement}
+use Rattle.lines.proofs.hubs.eio_arrival.Tie as tie
 
 abbrev Inv-loop : tie.InvT-loop
 Inv-loop n node vector eios i₀ i =
     Turn eios n i
-    × Searching (λ e. eqb (e .node) node) (λ e. Arrives (e .cascade) vector) NoOwner (through (take n eios) node vector) (drop i (take n eios))
+    × Searching (λ e. eqb (e .node) node) (λ e. Arrives (e .cascade) vector) NoOwner (through (map eioHub (take n eios)) node vector) (drop i (take n eios))
 
 abbrev μ-loop : tie.MeasureT-loop
 μ-loop n node vector eios i₀ i = n - i
 
 loop-holds : tie.Need-loop-holds Inv-loop μ-loop
-unfolding through
-loop-holds c = (record { within = search needs; fits = search needs }, record { gives = refl })
+loop-holds c = (record { within = search needs; fits = search needs }, record { gives = sym (through-eios _ _ _) })
 
 mul-e : tie.Need-mul-e Inv-loop μ-loop
 mul-e c = search needs
