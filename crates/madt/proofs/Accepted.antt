@@ -1,5 +1,5 @@
 -- What it tells that the walk of a MADT refused nothing: what it found is what the structures make, all of them are taken, each of
--- them keeps the rules, and no kind has too many.
+-- them keeps the rules, no kind has too many, and not both HT and EIO are there.
 use mathlib.Core.Path.{_≡_, refl, sym, ap, _∙_}
 use mathlib.Core.Bool.{Bool, true, false}
 use mathlib.Core.List.{List, [], _∷_, _++_, map, append-nil, append-assoc}
@@ -23,7 +23,7 @@ use Rattle.tables.specs.declared.Step.the-variants.{End, Structure, Broken}
 use Rattle.madt.specs.Pieces.{Piece, whole, cut, Whole, pieceAt, piecesFrom, pieces, structures}
 use Rattle.madt.specs.Rules.{isType, structureRules}
 use Rattle.madt.specs.Contents.{ofType, howMany, isEnabledCore, enabledCores, offsetsOf, foundIn}
-use Rattle.madt.specs.Walk.{rulesInTurn, walkRules, turnedAway, walked}
+use Rattle.madt.specs.Walk.{rulesInTurn, givesBoth, kindRules, walkRules, turnedAway, walked}
 use Rattle.madt.specs.Noting.{takenInTurn, taken}
 use Rattle.madt.specs.declared.Walked.{Walked}
 use Rattle.madt.proofs.Pieces.{step-inside, step-length}
@@ -112,9 +112,17 @@ module _ (table : List ℕ) (base : ℕ) (h : firstRefusal (walkRules table base
   abbrev all : List Whole
   all = structures (pieces table 44)
 
+  -- neither the rules in turn nor 34 refuse anything
+  pub both-sound : (firstRefusal (rulesInTurn base [] (pieces table 44)) ≡ Sound) × (firstRefusal (kindRules base [] all) ≡ Sound)
+  unfolding walkRules
+  both-sound = joined-kept (rulesInTurn base [] (pieces table 44)) _ h
+
+  in-turn-sound : firstRefusal (rulesInTurn base [] (pieces table 44)) ≡ Sound
+  in-turn-sound = both-sound .0
+
   few-of : (number most : ℕ) → ((n : ℕ) (s : List ℕ) → Kept n s → byteAt s 0 ≡ number → n < most) → howMany number all ≤ most
-  unfolding walkRules ofType those
-  few-of number most room = few-in-turn base number most room [] (pieces table 44) (omega arith) h
+  unfolding ofType those
+  few-of number most room = few-in-turn base number most room [] (pieces table 44) (omega arith) in-turn-sound
 
   pub few-cores : howMany 17 all ≤ 256
   few-cores = few-of 17 256 (λ n s k t. room-core k t)
@@ -143,13 +151,12 @@ module _ (table : List ℕ) (base : ℕ) (h : firstRefusal (walkRules table base
 
   -- each of them keeps the rules
   pub kept-at : (i : ℕ) → i < length all → (n : ℕ) × Kept n (getD all i noWhole .bytes)
-  unfolding walkRules
-  kept-at i l = each-kept base [] (pieces table 44) h i l
+  kept-at i l = each-kept base [] (pieces table 44) in-turn-sound i l
 
   -- all of them are taken
   pub taken-all : taken table base ≡ all
-  unfolding walkRules taken
-  taken-all = taken-in-turn base [] (pieces table 44) h
+  unfolding taken
+  taken-all = taken-in-turn base [] (pieces table 44) in-turn-sound
 
 -- ---- "CORE, length 15": the own bytes of the enabled CORE are the fifteen from where they stand
 module _ (table : List ℕ) where
@@ -186,5 +193,5 @@ module _ (table : List ℕ) where
     fifteen-from (suc k) before at h = fifteen-at before at (stepAt table at) _ refl (λ size later. fifteen-from k later (at + size)) h
 
     pub core-bytes : firstRefusal (walkRules table base) ≡ Sound → Fifteen (enabledCores (structures (pieces table 44)))
-    unfolding walkRules pieces
-    core-bytes h = fifteen-from (length table) [] 44 h
+    unfolding pieces
+    core-bytes h = fifteen-from (length table) [] 44 (in-turn-sound table base h)

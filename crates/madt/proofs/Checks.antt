@@ -1,4 +1,4 @@
--- What the rules say of one structure: one law for each of 32 to 34 that is the first to be broken, one for each kind, and one for
+-- What the rules say of one structure: one law for each of 32 and 33 that is the first to be broken, one for each kind, and one for
 -- a structure that keeps them all.
 use mathlib.Core.Path.{_≡_, refl, sym, _∙_}
 use mathlib.Core.Bool.{Bool, true, false, not, or-false, true≢false}
@@ -12,14 +12,15 @@ use lib.ListN.{drop}
 use borrow.Author.Tests.{eq-eqb, ne-eqb, eqb-true, not-false, le-leb, leb-true, leb-false}
 use Rattle.words.specs.Bytes.{byteAt}
 use Rattle.words.specs.Choice.{if}
+use Rattle.words.specs.Lists.{every}
 use Rattle.words.specs.Refusals.{refused, rule, unless, firstRefusal}
 use Rattle.words.specs.declared.Verdict.{Verdict}
 use Rattle.words.specs.declared.Verdict.the-variants.{Sound, Refused}
 use Rattle.words.proofs.Verdicts.{first-broken, first-kept, first-sound}
 use Rattle.words.proofs.Tests.{both-left, both-right, neither-left}
-use Rattle.kinds.specs.Makers.{reservedFlags, coreOf, lioOf, eioOf, msiOf, bioOf, lpcOf}
-use Rattle.kinds.specs.Ranges.{cascadeFits, nodeFits, nodesFit, countFits, endFits, baseFits, inputFits, halvesFit, lioField, eioField, msiField, bioField, lpcField, bitInBoth}
-use Rattle.madt.specs.Rules.{isType, byType, isKnown, lengthOf, wrongLength, wrongVersion, isHt, wrongFlags, wrongCascade, wrongNode, wrongNodes, wrongCount, wrongEnd, wrongBase, wrongInput, sharedBit, oneTooMany, structureRules}
+use Rattle.kinds.specs.Makers.{reservedFlags, coreOf, lioOf, htOf, eioOf, msiOf, bioOf, lpcOf}
+use Rattle.kinds.specs.Ranges.{cascadeFits, nodeFits, nodesFit, countFits, endFits, baseFits, inputFits, byteFits, halvesFit, lioField, htField, eioField, msiField, bioField, lpcField, bitInBoth}
+use Rattle.madt.specs.Rules.{isType, byType, isKnown, lengthOf, wrongLength, wrongVersion, wrongFlags, wrongCascade, wrongNode, wrongNodes, wrongCount, wrongEnd, wrongBase, wrongInput, wrongByte, sharedBit, oneTooMany, structureRules}
 use Rattle.madt.proofs.Types.{type-yes, type-no, of-core, of-lio, of-ht, of-eio, of-msi, of-bio, of-lpc, of-other}
 
 above : {n m : ℕ} → n ≤ m → (m ≡ n → ⊥) → suc n ≤ m
@@ -42,14 +43,6 @@ module _ (s : List ℕ) where
   pub version-right : isKnown s ≡ true → byteAt s 2 ≡ 1 → wrongVersion s ≡ false
   unfolding wrongVersion
   version-right k h = rw (k, eq-eqb (byteAt s 2) 1 h)
-
-  pub ht-yes : byteAt s 0 ≡ 19 → isHt s ≡ true
-  unfolding isHt
-  ht-yes h = type-yes 19 s h
-
-  pub ht-no : (byteAt s 0 ≡ 19 → ⊥) → isHt s ≡ false
-  unfolding isHt
-  ht-no h = type-no 19 s h
 
   -- a type that is passed over
   module _ (h : isKnown s ≡ false) where
@@ -143,63 +136,66 @@ module _ (place before : ℕ) (s : List ℕ) where
     at-33 h = first-kept _ _ _ _ a (first-broken _ _ _ _ h)
 
     module _ (b : wrongVersion s ≡ false) where
-      pub at-34 : isHt s ≡ true → firstRefusal (structureRules place before s) ≡ Refused (refused 34 place)
-      unfolding structureRules
-      at-34 h = first-kept _ _ _ _ a (first-kept _ _ _ _ b (first-broken _ _ _ _ h))
-
-      -- what is left of them where a structure is no HT: those behind 34
-      from-35 : isHt s ≡ false → {verdict : Verdict} → firstRefusal (drop 3 (structureRules place before s)) ≡ verdict
+      -- what is left of them: those behind 33
+      from-35 : {verdict : Verdict} → firstRefusal (drop 2 (structureRules place before s)) ≡ verdict
           → firstRefusal (structureRules place before s) ≡ verdict
       unfolding structureRules
-      from-35 ht e = first-kept _ _ _ _ a (first-kept _ _ _ _ b (first-kept _ _ _ _ ht e))
+      from-35 e = first-kept _ _ _ _ a (first-kept _ _ _ _ b e)
 
       -- and so of each kind
       module _ {full : Bool} (many : full ≡ oneTooMany before s) where
         pub for-core : byteAt s 0 ≡ 17
             → firstRefusal (structureRules place before s) ≡ firstRefusal (rule (reservedFlags (coreOf s)) 35 place ∷ rule full 38 place ∷ [])
-        unfolding structureRules firstRefusal unless if isType wrongFlags wrongCascade wrongNode wrongNodes wrongCount wrongEnd wrongBase wrongInput sharedBit
-        for-core t = from-35 (ht-no s (λ h. omega arith)) (rw (t, sym many))
+        unfolding structureRules firstRefusal unless if isType wrongFlags wrongCascade wrongNode wrongNodes wrongCount wrongEnd wrongBase wrongInput wrongByte sharedBit
+        for-core t = from-35 (rw (t, sym many))
 
         pub for-lio : byteAt s 0 ≡ 18
             → firstRefusal (structureRules place before s)
             ≡ firstRefusal (fieldRule (lioField (lioOf s)) place ∷ rule (bitInBoth (lioOf s)) 37 place ∷ rule full 38 place ∷ [])
-        unfolding structureRules firstRefusal unless if isType wrongFlags wrongCascade wrongNode wrongNodes wrongCount wrongEnd wrongBase wrongInput sharedBit lioField
+        unfolding structureRules firstRefusal unless if isType wrongFlags wrongCascade wrongNode wrongNodes wrongCount wrongEnd wrongBase wrongInput wrongByte sharedBit lioField
         for-lio t =
-            from-35 (ht-no s (λ h. omega arith))
+            from-35
             (rw (t, or-false, sym many) (one-field place (rule (bitInBoth (lioOf s)) 37 place ∷ rule full 38 place ∷ []) (halvesFit (lioOf s)) 71 refl))
+
+        pub for-ht : byteAt s 0 ≡ 19
+            → firstRefusal (structureRules place before s) ≡ firstRefusal (fieldRule (htField (htOf s)) place ∷ rule full 38 place ∷ [])
+        unfolding structureRules firstRefusal unless if isType wrongFlags wrongCascade wrongNode wrongNodes wrongCount wrongEnd wrongBase wrongInput wrongByte sharedBit htField
+        for-ht t =
+            from-35
+            (rw (t, sym many) (one-field place (rule full 38 place ∷ []) (every byteFits (htOf s .bytes)) 78 refl))
 
         pub for-eio : byteAt s 0 ≡ 20
             → firstRefusal (structureRules place before s) ≡ firstRefusal (fieldRule (eioField (eioOf s)) place ∷ rule full 38 place ∷ [])
-        unfolding structureRules firstRefusal unless if isType wrongFlags wrongCascade wrongNode wrongNodes wrongCount wrongEnd wrongBase wrongInput sharedBit eioField
+        unfolding structureRules firstRefusal unless if isType wrongFlags wrongCascade wrongNode wrongNodes wrongCount wrongEnd wrongBase wrongInput wrongByte sharedBit eioField
         for-eio t =
             let e = eioOf s in
-            from-35 (ht-no s (λ h. omega arith))
+            from-35
             (rw (t, or-false, sym many)
             (three-fields place (rule full 38 place ∷ []) (cascadeFits (e .cascade)) (nodeFits (e .node)) (nodesFit (e .nodes)) 71 72 73 refl refl refl))
 
         pub for-msi : byteAt s 0 ≡ 21
             → firstRefusal (structureRules place before s) ≡ firstRefusal (fieldRule (msiField (msiOf s)) place ∷ rule full 38 place ∷ [])
-        unfolding structureRules firstRefusal unless if isType wrongFlags wrongCascade wrongNode wrongNodes wrongCount wrongEnd wrongBase wrongInput sharedBit msiField
+        unfolding structureRules firstRefusal unless if isType wrongFlags wrongCascade wrongNode wrongNodes wrongCount wrongEnd wrongBase wrongInput wrongByte sharedBit msiField
         for-msi t =
             let m = msiOf s in
-            from-35 (ht-no s (λ h. omega arith))
+            from-35
             (rw (t, sym many)
             (two-fields place (rule full 38 place ∷ []) (countFits (m .count)) (endFits (m .start) (m .count)) 74 75 refl refl))
 
         pub for-bio : byteAt s 0 ≡ 22
             → firstRefusal (structureRules place before s) ≡ firstRefusal (fieldRule (bioField (bioOf s)) place ∷ rule full 38 place ∷ [])
-        unfolding structureRules firstRefusal unless if isType wrongFlags wrongCascade wrongNode wrongNodes wrongCount wrongEnd wrongBase wrongInput sharedBit bioField
+        unfolding structureRules firstRefusal unless if isType wrongFlags wrongCascade wrongNode wrongNodes wrongCount wrongEnd wrongBase wrongInput wrongByte sharedBit bioField
         for-bio t =
             let b = bioOf s in
-            from-35 (ht-no s (λ h. omega arith))
+            from-35
             (rw (t, sym many)
             (two-fields place (rule full 38 place ∷ []) (nodeFits (b .node)) (baseFits (b .base)) 72 76 refl refl))
 
         pub for-lpc : byteAt s 0 ≡ 23
             → firstRefusal (structureRules place before s) ≡ firstRefusal (fieldRule (lpcField (lpcOf s)) place ∷ rule full 38 place ∷ [])
-        unfolding structureRules firstRefusal unless if isType wrongFlags wrongCascade wrongNode wrongNodes wrongCount wrongEnd wrongBase wrongInput sharedBit lpcField
+        unfolding structureRules firstRefusal unless if isType wrongFlags wrongCascade wrongNode wrongNodes wrongCount wrongEnd wrongBase wrongInput wrongByte sharedBit lpcField
         for-lpc t =
-            from-35 (ht-no s (λ h. omega arith))
+            from-35
             (rw (t, sym many) (one-field place (rule full 38 place ∷ []) (inputFits (lpcOf s .cascade)) 77 refl))
 
   -- no rule speaks of a type that is passed over
@@ -208,9 +204,9 @@ module _ (place before : ℕ) (s : List ℕ) where
     no = no-type s h
 
     pub passed-over : firstRefusal (structureRules place before s) ≡ Sound
-    unfolding structureRules firstRefusal unless if wrongLength wrongVersion wrongFlags wrongCascade wrongNode wrongNodes wrongCount wrongEnd wrongBase wrongInput sharedBit oneTooMany
+    unfolding structureRules firstRefusal unless if wrongLength wrongVersion wrongFlags wrongCascade wrongNode wrongNodes wrongCount wrongEnd wrongBase wrongInput wrongByte sharedBit oneTooMany
     passed-over =
-        from-35 (rw h) (rw h) (ht-no s (unknown s h 19 (omega arith) (omega arith)))
+        from-35 (rw h) (rw h)
         (rw (
           no 17 (omega arith) (omega arith),
           no 18 (omega arith) (omega arith),
@@ -231,6 +227,7 @@ pub record Kept (before : ℕ) (s : List ℕ) : Type 0 where
   pub r75 : wrongEnd s ≡ false
   pub r76 : wrongBase s ≡ false
   pub r77 : wrongInput s ≡ false
+  pub r78 : wrongByte s ≡ false
   pub r37 : sharedBit s ≡ false
   pub r38 : oneTooMany before s ≡ false
 
@@ -238,7 +235,7 @@ pub all-kept : (place before : ℕ) (s : List ℕ) → firstRefusal (structureRu
 unfolding structureRules
 all-kept place before s h =
     let r32 = first-sound _ _ _ _ h in
-    let r35 = first-sound _ _ _ _ (first-sound _ _ _ _ (first-sound _ _ _ _ (r32 .1) .1) .1) in
+    let r35 = first-sound _ _ _ _ (first-sound _ _ _ _ (r32 .1) .1) in
     let r71 = first-sound _ _ _ _ (r35 .1) in
     let r72 = first-sound _ _ _ _ (r71 .1) in
     let r73 = first-sound _ _ _ _ (r72 .1) in
@@ -246,7 +243,8 @@ all-kept place before s h =
     let r75 = first-sound _ _ _ _ (r74 .1) in
     let r76 = first-sound _ _ _ _ (r75 .1) in
     let r77 = first-sound _ _ _ _ (r76 .1) in
-    let r37 = first-sound _ _ _ _ (r77 .1) in
+    let r78 = first-sound _ _ _ _ (r77 .1) in
+    let r37 = first-sound _ _ _ _ (r78 .1) in
     let r38 = first-sound _ _ _ _ (r37 .1) in
     record {
       r32 = r32 .0;
@@ -257,6 +255,7 @@ all-kept place before s h =
       r75 = r75 .0;
       r76 = r76 .0;
       r77 = r77 .0;
+      r78 = r78 .0;
       r37 = r37 .0;
       r38 = r38 .0;
     }
@@ -268,6 +267,10 @@ module _ {before : ℕ} {s : List ℕ} (k : Kept before s) where
   fits-lio t =
       let r71 = rw t at (k .r71) in
       rw (not-false (halvesFit (lioOf s)) (neither-left (not (halvesFit (lioOf s))) false r71))
+
+  pub fits-ht : byteAt s 0 ≡ 19 → eqb (htField (htOf s)) 0 ≡ true
+  unfolding isType wrongByte htField if
+  fits-ht t = rw (not-false (every byteFits (htOf s .bytes)) (rw t at (k .r78)))
 
   pub fits-eio : byteAt s 0 ≡ 20 → eqb (eioField (eioOf s)) 0 ≡ true
   unfolding isType wrongCascade wrongNode wrongNodes eioField if

@@ -10,19 +10,20 @@ use borrow.Author.Tests.{le-leb}
 use Rattle.words.specs.Bytes.{byteAt}
 use Rattle.words.specs.Choice.{if}
 use Rattle.words.proofs.Those.{those-more, those-same, map-more, length-map}
-use Rattle.kinds.specs.Makers.{coreOf, isEnabled, lioOf, eioOf, msiOf, lpcOf}
-use Rattle.kinds.specs.Used.{noLio, noEio, noBio, noMsi, noLpc, saidLio}
+use Rattle.kinds.specs.Makers.{coreOf, isEnabled, lioOf, htOf, eioOf, msiOf, lpcOf}
+use Rattle.kinds.specs.Used.{noLio, noHt, noEio, noBio, noMsi, noLpc, saidLio}
 use Rattle.lines.specs.declared.Map.{Map}
 use Rattle.lines.specs.declared.Places.{Places}
 use Rattle.madt.specs.Pieces.{Whole}
 use Rattle.madt.specs.Rules.{isType, oneTooMany}
 use Rattle.madt.specs.Contents.{ofType, howMany, made, standing, theOne, inFour, bridgeOf, mapOf, placesOf, MadeBy, isEnabledCore, enabledCores}
-use Rattle.madt.proofs.Types.{of-core, of-lio, of-eio, of-msi, of-bio, of-lpc}
+use Rattle.madt.proofs.Types.{of-core, of-lio, of-ht, of-eio, of-msi, of-bio, of-lpc}
 
 -- ---- one element more of a kind
-one-longer : {A : Type 0} (none : A) (xs : List A) (x : A) → length xs < 1 → theOne none (xs ++ (x ∷ [])) ≡ x
-one-longer none [] x l = refl
-one-longer none (a ∷ xs) x l = absurd (omega arith)
+one-longer : {A : Type 0} (none : A) (xs : List A) (x : A) → theOne none (xs ++ (x ∷ [])) ≡ x
+unfolding theOne
+one-longer none [] x = refl
+one-longer none (y ∷ xs) x = one-longer y xs x
 
 four-longer : {A : Type 0} (none : A) (xs : List A) (x : A) → length xs < 4 → inFour none (xs ++ (x ∷ [])) ≡ set (inFour none xs) (length xs) x
 four-longer none [] x l = refl
@@ -90,11 +91,11 @@ pub record Four {A : Type 0} (number : ℕ) (maker : List ℕ → A) (none : A) 
 
 module _ {A : Type 0} {number : ℕ} {maker : List ℕ → A} {none : A} {base : ℕ} {all : List Whole} (x : Whole) where
   module _ {value : A} {place : ℕ} (k : One number maker none base all value place) where
-    pub one-more : isType number (x .bytes) ≡ true → howMany number all < 1 → One number maker none base (all ++ (x ∷ [])) (maker (x .bytes)) (base + x .at)
-    one-more t free =
+    pub one-more : isType number (x .bytes) ≡ true → One number maker none base (all ++ (x ∷ [])) (maker (x .bytes)) (base + x .at)
+    one-more t =
         record {
-          held = rw (made-more number all x t maker) (sym (one-longer none (made number maker all) _ (omega (arith, made-many number maker all))));
-          stands = rw (standing-more number all x t base) (sym (one-longer 0 (standing number base all) _ (omega (arith, standing-many number base all))));
+          held = rw (made-more number all x t maker) (sym (one-longer none (made number maker all) _));
+          stands = rw (standing-more number all x t base) (sym (one-longer 0 (standing number base all) _));
         }
 
     pub one-same : isType number (x .bytes) ≡ false → One number maker none base (all ++ (x ∷ [])) value place
@@ -123,6 +124,7 @@ module _ {A : Type 0} {number : ℕ} {maker : List ℕ → A} {none : A} {base :
 -- ---- a map and its places, kind by kind
 pub record Parts (base sci : ℕ) (pins : ℕ → ℕ) (all : List Whole) (map : Map) (places : Places) : Type 0 where
   pub lio : One 18 (λ s. saidLio (lioOf s)) noLio base all (map .lio) (places .lio)
+  pub ht : One 19 htOf noHt base all (map .ht) (places .ht)
   pub eios : Four 20 eioOf noEio base all (map .eiocount) (map .eios) (places .eios)
   pub bios : Four 22 (bridgeOf pins) noBio base all (map .biocount) (map .bios) (places .bios)
   pub msis : Four 21 msiOf noMsi base all (map .msicount) (map .msis) (places .msis)
@@ -134,18 +136,23 @@ module _ {base sci : ℕ} {pins : ℕ → ℕ} {all : List Whole} {map : Map} {p
   pub map-of : map ≡ mapOf sci pins all
   unfolding mapOf
   map-of =
-      rw (sym (k .lio .held), sym (k .eios .held), sym (k .eios .counted), sym (k .bios .held), sym (k .bios .counted), sym (k .msis .held), sym (k .msis .counted), sym (k .lpc .held), sym (k .number))
+      rw (sym (k .lio .held), sym (k .ht .held), sym (k .eios .held), sym (k .eios .counted), sym (k .bios .held), sym (k .bios .counted), sym (k .msis .held), sym (k .msis .counted), sym (k .lpc .held), sym (k .number))
 
   pub places-of : places ≡ placesOf base all
   unfolding placesOf
-  places-of = rw (sym (k .lio .stands), sym (k .eios .stands), sym (k .bios .stands), sym (k .msis .stands), sym (k .lpc .stands))
+  places-of = rw (sym (k .lio .stands), sym (k .ht .stands), sym (k .eios .stands), sym (k .bios .stands), sym (k .msis .stands), sym (k .lpc .stands))
 
 -- ---- 38: one too many of its kind, by what the map has
 -- a kind that is there once or not at all is there if there is one
 there : {A : Type 0} (present : A → Bool) (none : A) (made : List ℕ → A) (xs : List Whole) → present none ≡ false
     → ((s : List ℕ) → present (made s) ≡ true) → present (theOne none (map (λ x. made (x .bytes)) xs)) ≡ leb 1 (length xs)
+unfolding theOne
 there present none made [] absent always = absent
-there present none made (x ∷ xs) absent always = always (x .bytes) ∙ sym (le-leb 1 (length (x ∷ xs)) (omega arith))
+there present none made (x ∷ xs) absent always = last x xs ∙ sym (le-leb 1 (length (x ∷ xs)) (omega arith))
+  where
+    last : (y : Whole) (ys : List Whole) → present (theOne (made (y .bytes)) (map (λ x. made (x .bytes)) ys)) ≡ true
+    last y [] = always (y .bytes)
+    last y (z ∷ zs) = last z zs
 
 -- the structures that made a map are so many of each kind
 module _ (s : List ℕ) (pins : ℕ → ℕ) (all : List Whole) {cores : ℕ} {m : Map} (by : MadeBy pins all cores m) where
@@ -159,6 +166,20 @@ module _ (s : List ℕ) (pins : ℕ → ℕ) (all : List Whole) {cores : ℕ} {m
       rw (of-lio s _ _ _ _ _ _ _ _ t, t)
       (ap (λ (x : Map). x .lio .present) (by .1)
       ∙ there (λ x. x .present) noLio (λ s. saidLio (lioOf s)) (ofType 18 all) refl (λ s. refl))
+
+  -- nor is an HT ever one too many
+  pub full-ht : byteAt s 0 ≡ 19 → false ≡ oneTooMany (howMany (byteAt s 0) all) s
+  unfolding oneTooMany
+  full-ht t = sym (of-ht s _ _ _ _ _ _ _ _ t)
+
+  -- there is an HT, and so many EIO
+  pub ht-there : m .ht .present ≡ leb 1 (howMany 19 all)
+  unfolding mapOf made htOf
+  ht-there = ap (λ (x : Map). x .ht .present) (by .1) ∙ there (λ x. x .present) noHt htOf (ofType 19 all) refl (λ s. refl)
+
+  pub eios-counted : m .eiocount ≡ howMany 20 all
+  unfolding mapOf
+  eios-counted = ap (λ (x : Map). x .eiocount) (by .1)
 
   pub full-eio : byteAt s 0 ≡ 20 → leb 4 (m .eiocount) ≡ oneTooMany (howMany (byteAt s 0) all) s
   unfolding oneTooMany mapOf

@@ -5,6 +5,7 @@ use mathlib.Core.List.{List}
 use Prim.Native.Nat.{ℕ}
 use native.Mathlib.Omega.{arith}
 use borrow.Author.Tests.{eq-eqb, ne-eqb}
+use lib.Dec.{eqb}
 use Rattle.words.specs.Bytes.{byteAt}
 use Rattle.words.proofs.Choices.{yes-if, no-if}
 use Rattle.madt.specs.Rules.{isType, byType}
@@ -17,6 +18,11 @@ type-yes number s h = eq-eqb (byteAt s 0) number h
 pub type-no : (number : ℕ) (s : List ℕ) → (byteAt s 0 ≡ number → ⊥) → isType number s ≡ false
 unfolding isType
 type-no number s h = ne-eqb (byteAt s 0) number h
+
+-- a type is no other: the two numbers are compared by computing
+pub type-other : (number : ℕ) (s : List ℕ) {own : ℕ} → byteAt s 0 ≡ own → eqb own number ≡ false → isType number s ≡ false
+unfolding isType
+type-other number s h differ = rw h differ
 
 module _ {A : Type 0} (s : List ℕ) (core lio ht eio msi bio lpc other : A) where
   pub of-core : byteAt s 0 ≡ 17 → byType s core lio ht eio msi bio lpc other ≡ core
@@ -54,5 +60,3 @@ module _ {A : Type 0} (s : List ℕ) (core lio ht eio msi bio lpc other : A) whe
   of-other a b c d e f g =
       no-if _ _ _ (type-no _ _ a) (no-if _ _ _ (type-no _ _ b) (no-if _ _ _ (type-no _ _ c) (no-if _ _ _ (type-no _ _ d)
       (no-if _ _ _ (type-no _ _ e) (no-if _ _ _ (type-no _ _ f) (no-if _ _ _ (type-no _ _ g) refl))))))
-
--- ---- a type that is passed over

@@ -1,4 +1,4 @@
--- Document 01, "What comes back": "The map holds the used fields of LIO, EIO, BIO, MSI and LPC, in table order, and the SCI
+-- Document 01, "What comes back": "The map holds the used fields of LIO, EIO, BIO, MSI and LPC" (and HT) ", in table order, and the SCI
 -- number, but no places, addresses or register sizes; its unused places, an unused half's byte among them, hold 0". Here: what
 -- some whole structures of a MADT make, and where they stand.
 use Prim.Native.Nat.{ℕ, _+_}
@@ -7,8 +7,8 @@ use mathlib.Core.List.{List, [], _∷_, map}
 use mathlib.Core.Path.{_≡_}
 use lib.ListN.{length, getD}
 use Rattle.words.specs.Lists.{those}
-use Rattle.kinds.specs.Makers.{coreOf, isEnabled, lioOf, eioOf, msiOf, bioOf, withPins, lpcOf}
-use Rattle.kinds.specs.Used.{noLio, noEio, noBio, noMsi, noLpc, saidLio}
+use Rattle.kinds.specs.Makers.{coreOf, isEnabled, lioOf, htOf, eioOf, msiOf, bioOf, withPins, lpcOf}
+use Rattle.kinds.specs.Used.{noLio, noHt, noEio, noBio, noMsi, noLpc, saidLio}
 use Rattle.kinds.specs.declared.Bio.{Bio}
 use Rattle.lines.specs.declared.Map.{Map}
 use Rattle.lines.specs.declared.Places.{Places}
@@ -32,9 +32,11 @@ made number maker all = map (λ x. maker (x .bytes)) (ofType number all)
 unfoldable pub standing : ℕ → ℕ → List Whole → List ℕ
 standing number base all = map (λ x. base + x .at) (ofType number all)
 
--- ---- a kind of which there is one at most, and a kind with four places; an unused place holds `none`
-abbrev pub theOne : {A : Type 0} → A → List A → A
-theOne none xs = getD xs 0 none
+-- ---- a kind of which there is one at most, and a kind with four places; an unused place holds `none`. (Of several it is the last: 38 or
+-- 34 refuses them.)
+unfoldable pub theOne : {A : Type 0} → A → List A → A
+theOne none [] = none
+theOne none (x ∷ xs) = theOne x xs
 
 abbrev pub inFour : {A : Type 0} → A → List A → List A
 inFour none xs = getD xs 0 none ∷ getD xs 1 none ∷ getD xs 2 none ∷ getD xs 3 none ∷ []
@@ -48,6 +50,7 @@ unfoldable pub mapOf : ℕ → (ℕ → ℕ) → List Whole → Map
 mapOf sci pins all =
     record {
       lio = theOne noLio (made 18 (λ s. saidLio (lioOf s)) all);
+      ht = theOne noHt (made 19 htOf all);
       eiocount = howMany 20 all;
       eios = inFour noEio (made 20 eioOf all);
       biocount = howMany 22 all;
@@ -63,6 +66,7 @@ unfoldable pub placesOf : ℕ → List Whole → Places
 placesOf base all =
     record {
       lio = theOne 0 (standing 18 base all);
+      ht = theOne 0 (standing 19 base all);
       eios = inFour 0 (standing 20 base all);
       bios = inFour 0 (standing 22 base all);
       msis = inFour 0 (standing 21 base all);

@@ -1,15 +1,16 @@
--- Document 01, "MADT structures" and "Refusals in order", 32 to 38, with 36 split into 71 to 77 by W-202 of document 02: the rules
--- for one structure, whose own bytes are s.
+-- Document 01, "MADT structures" and "Refusals in order", 32 to 38, with 36 split into 71 to 78 by W-202 of document 02, and 34 moved
+-- behind all of them by W-201: the rules for one structure, whose own bytes are s.
 use Prim.Native.Nat.{ℕ}
 use mathlib.Core.Bool.{Bool, false, not, _&&_, _||_}
 use mathlib.Core.List.{List, [], _∷_}
 use lib.Dec.{eqb, leb}
 use Rattle.words.specs.Bytes.{byteAt}
 use Rattle.words.specs.Choice.{if}
+use Rattle.words.specs.Lists.{every}
 use Rattle.words.specs.Refusals.{rule}
 use Rattle.words.specs.declared.Verdict.{Verdict}
-use Rattle.kinds.specs.Makers.{reservedFlags, coreOf, lioOf, eioOf, msiOf, bioOf, lpcOf}
-use Rattle.kinds.specs.Ranges.{cascadeFits, nodeFits, nodesFit, countFits, endFits, baseFits, inputFits, halvesFit, bitInBoth}
+use Rattle.kinds.specs.Makers.{reservedFlags, coreOf, lioOf, htOf, eioOf, msiOf, bioOf, lpcOf}
+use Rattle.kinds.specs.Ranges.{cascadeFits, nodeFits, nodesFit, countFits, endFits, baseFits, inputFits, byteFits, halvesFit, bitInBoth}
 
 -- "Type at 0": the structure is of the kind with a type number
 unfoldable pub isType : ℕ → List ℕ → Bool
@@ -43,10 +44,6 @@ wrongLength s = isKnown s && not (eqb (byteAt s 1) (lengthOf s))
 unfoldable pub wrongVersion : List ℕ → Bool
 wrongVersion s = isKnown s && not (eqb (byteAt s 2) 1)
 
--- 34: "HT refused here"
-unfoldable pub isHt : List ℕ → Bool
-isHt s = isType 19 s
-
 -- 35: "reserved CORE flags"
 unfoldable pub wrongFlags : List ℕ → Bool
 wrongFlags s = isType 17 s && reservedFlags (coreOf s)
@@ -79,22 +76,26 @@ wrongBase s = isType 22 s && not (baseFits (bioOf s .base))
 unfoldable pub wrongInput : List ℕ → Bool
 wrongInput s = isType 23 s && not (inputFits (lpcOf s .cascade))
 
+-- 78: "HT byte": each names a LIO input, "0 to 31"
+unfoldable pub wrongByte : List ℕ → Bool
+wrongByte s = isType 19 s && not (every byteFits (htOf s .bytes))
+
 -- 37: "a bit in both LIO masks"
 unfoldable pub sharedBit : List ℕ → Bool
 sharedBit s = isType 18 s && bitInBoth (lioOf s)
 
--- 38: "one too many of its kind", of which so many stand before it: "At most 256 CORE, 1 LIO, 4 EIO, 4 BIO, 4 MSI, 1 LPC"
+-- 38: "one too many of its kind", of which so many stand before it: "At most 256 CORE, 1 LIO, 4 EIO, 4 BIO, 4 MSI, 1 LPC" (of a second HT
+-- 34 speaks)
 unfoldable pub oneTooMany : ℕ → List ℕ → Bool
 oneTooMany before s =
     byType s (leb 256 before) (leb 1 before) false (leb 4 before) (leb 4 before) (leb 4 before) (leb 1 before) false
 
 -- their order, of a structure at a place, after so many of its kind: "36 isn't given again, and 71 to 78 take its place in the
--- order" (78 speaks of an HT, which 34 refuses)
+-- order"
 unfoldable pub structureRules : ℕ → ℕ → List ℕ → List Verdict
 structureRules place before s =
     rule (wrongLength s) 32 place
     ∷ rule (wrongVersion s) 33 place
-    ∷ rule (isHt s) 34 place
     ∷ rule (wrongFlags s) 35 place
     ∷ rule (wrongCascade s) 71 place
     ∷ rule (wrongNode s) 72 place
@@ -103,6 +104,7 @@ structureRules place before s =
     ∷ rule (wrongEnd s) 75 place
     ∷ rule (wrongBase s) 76 place
     ∷ rule (wrongInput s) 77 place
+    ∷ rule (wrongByte s) 78 place
     ∷ rule (sharedBit s) 37 place
     ∷ rule (oneTooMany before s) 38 place
     ∷ []

@@ -1,4 +1,4 @@
-// The MADT's structures in turn, from offset 44 to its end: refusals 31 to 38 and 71 to 77, and the map, the places of its structures and
+// The MADT's structures in turn, from offset 44 to its end: refusals 31 to 38 and 71 to 78, and the map, the places of its structures and
 // the number of processors that they make (document 01, "MADT structures"). All of it is defined on the MADT's own bytes.
 use lines::Map;
 use lines::Places;
@@ -6,7 +6,7 @@ use words::Verdict;
 
 pub mod steps; // from structure to structure
 pub mod walk; // the structures in turn
-mod rules; // 32 to 38 and 71 to 77 of one structure
+mod rules; // 32 to 38 and 71 to 78 of one structure
 mod nothing; // before the first structure
 
 // Where the enabled CORE stand in the MADT: room for as many as 38 lets pass.

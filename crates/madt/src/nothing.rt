@@ -3,6 +3,7 @@ use crate::Found;
 use kinds::Bio;
 use kinds::Eio;
 use kinds::Half;
+use kinds::Ht;
 use kinds::Lio;
 use kinds::Lpc;
 use kinds::Msi;
@@ -26,6 +27,11 @@ pub(crate) fn no_map(sci: u16) -> Map
         low: none,
         high: none,
     };
+    let bytes = [0u8; 8];
+    let ht = Ht {
+        present: false,
+        bytes,
+    };
     let eio = Eio {
         cascade: 0,
         node: 0,
@@ -47,6 +53,7 @@ pub(crate) fn no_map(sci: u16) -> Map
     let msis = [msi; 4];
     Map {
         lio,
+        ht,
         eiocount: 0,
         eios,
         biocount: 0,
@@ -67,6 +74,7 @@ pub(crate) fn no_places() -> Places
     let msis = [0u32; 4];
     Places {
         lio: 0,
+        ht: 0,
         eios,
         bios,
         msis,

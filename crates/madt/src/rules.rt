@@ -1,12 +1,13 @@
-// The refusals of one structure, given by its own bytes: 32 to 35, 71 to 77, 37 and 38, in this order.
+// The refusals of one structure, given by its own bytes: 32, 33, 35, 71 to 78, 37 and 38, in this order; and 34, which comes after all
+// structures.
 use crate::steps;
 use kinds::Bio;
 use kinds::Eio;
+use kinds::Ht;
 use kinds::Lio;
 use kinds::Lpc;
 use kinds::Msi;
 use kinds::makers::Core;
-use kinds::makers::Ht;
 use kinds::ranges;
 use lines::Map;
 use words::Verdict;
@@ -16,7 +17,8 @@ ghost use Prim.Native.Nat.{ℕ};
 ghost use mathlib.Core.List.{List, [], _∷_};
 ghost use lib.Dec.{eqb};
 ghost use Rattle.words.specs.Bytes.{byteAt};
-ghost use Rattle.words.specs.Refusals.{rule, firstRefusal};
+ghost use Rattle.words.specs.Refusals.{rule, unless, firstRefusal};
+ghost use Rattle.words.specs.declared.Verdict.the-variants.{Refused};
 ghost use Rattle.kinds.specs.Makers.{reservedFlags};
 ghost use Rattle.kinds.specs.Ranges.{lioField, bitInBoth};
 ghost use Rattle.madt.specs.Pieces.{Whole};
@@ -69,7 +71,7 @@ fn check_core(core: Core, full: bool, place: u32) -> Verdict
     }
 }
 
-// Refusals 71 to 77 and 38 of a kind that has ranges, by the first field that is out of its own.
+// Refusals 71 to 78 and 38 of a kind that has ranges, by the first field that is out of its own.
 fn check_field(field: u8, full: bool, place: u32) -> Verdict
     ensures { λ r. ⌜ r ≡ firstRefusal (rule (not (eqb field 0)) field place ∷ rule full 38 place ∷ []) ⌝ }
 {
@@ -121,7 +123,7 @@ pub(crate) fn check(structure: &[u8], place: u32, cores: u16, map: Map) -> Verdi
     match words::byte_at(structure, steps::TYPE) {
         Core::TYPE => check_core(Core::from_bytes(structure), MOST_CORES <= cores, place),
         Lio::TYPE => check_lio(Lio::from_bytes(structure), map.lio.present, place),
-        Ht::TYPE => Verdict::Refused(words::refuse(34, place)),
+        Ht::TYPE => check_field(ranges::ht_field(Ht::from_bytes(structure)), false, place),
         Eio::TYPE => check_field(
             ranges::eio_field(Eio::from_bytes(structure)),
             MOST_EIOS <= map.eiocount,
@@ -143,5 +145,20 @@ pub(crate) fn check(structure: &[u8], place: u32, cores: u16, map: Map) -> Verdi
             place,
         ),
         0..=16 | 24..=255 => Verdict::Sound,
+    }
+}
+
+// 34: what the structures so far say, or whether the one at a place gives the board both kinds or a second HT.
+pub(crate) fn or_both(sofar: Verdict, both: bool, place: u32) -> Verdict
+    ensures { λ r. ⌜ r ≡ unless Refused sofar (rule both 34 place) ⌝ }
+{
+    match sofar {
+        Verdict::Refused(refusal) => Verdict::Refused(refusal),
+        Verdict::Sound => {
+            if both {
+                return Verdict::Refused(words::refuse(34, place));
+            }
+            Verdict::Sound
+        }
     }
 }

@@ -1,4 +1,4 @@
-// The MADT's structures in turn, each through refusals 31 to 38, with 71 to 77 in 36's place, before the next.
+// The MADT's structures in turn, each through refusals 31 to 38, with 71 to 78 in 36's place, before the next; then 34.
 use crate::Found;
 use crate::Offsets;
 use crate::Walked;
@@ -9,11 +9,11 @@ use capture::pairs;
 use capture::pairs::Pairs;
 use kinds::Bio;
 use kinds::Eio;
+use kinds::Ht;
 use kinds::Lio;
 use kinds::Lpc;
 use kinds::Msi;
 use kinds::makers::Core;
-use kinds::makers::Ht;
 use tables::Table;
 use words::Refusal;
 use words::Verdict;
@@ -56,6 +56,7 @@ fn walk_table(table: &[u8], base: u16, sci: u16, pairs: Pairs, offsets: &mut Off
     let mut places = nothing::no_places();
     let mut enabled: u16 = 0;
     let mut cores: u16 = 0;
+    let mut mixed = Verdict::Sound;
     let mut at: usize = steps::FIRST;
     while at < table.len() {
         let place = base as u32 + at as u32;
@@ -80,7 +81,13 @@ fn walk_table(table: &[u8], base: u16, sci: u16, pairs: Pairs, offsets: &mut Off
                 map.lio = kinds::said_lio(Lio::from_bytes(structure));
                 places.lio = place;
             }
+            Ht::TYPE => {
+                mixed = rules::or_both(mixed, map.ht.present | (1 <= map.eiocount), place);
+                map.ht = Ht::from_bytes(structure);
+                places.ht = place;
+            }
             Eio::TYPE => {
+                mixed = rules::or_both(mixed, map.ht.present, place);
                 let n = map.eiocount as usize;
                 map.eios[n] = Eio::from_bytes(structure);
                 places.eios[n] = place;
@@ -102,9 +109,12 @@ fn walk_table(table: &[u8], base: u16, sci: u16, pairs: Pairs, offsets: &mut Off
                 map.lpc = Lpc::from_bytes(structure);
                 places.lpc = place;
             }
-            0..=16 | Ht::TYPE | 24..=255 => {}
+            0..=16 | 24..=255 => {}
         }
         at += size;
+    }
+    if let Verdict::Refused(refusal) = mixed {
+        return turn_away(refusal);
     }
     let found = Found {
         map,
@@ -115,7 +125,7 @@ fn walk_table(table: &[u8], base: u16, sci: u16, pairs: Pairs, offsets: &mut Off
     Walked { verdict, found }
 }
 
-// Refusals 31 to 38 and 71 to 77 of the MADT of a capture, or the map with an SCI number and with what pairs tell of its bridges,
+// Refusals 31 to 38, 71 to 78 and 34 of the MADT of a capture, or the map with an SCI number and with what pairs tell of its bridges,
 // the places of its structures, and the number of processors. Where these stand in the MADT is noted in the front of a lent room;
 // a refusal leaves there what was noted before it.
 pub fn walk_madt(
