@@ -1,21 +1,23 @@
 -- What it tells that the walk of a MADT refused nothing: what it found is what the structures make, all of them are taken, each of
 -- them keeps the rules, no kind has too many, and not both HT and EIO are there.
 use mathlib.Core.Path.{_≡_, refl, sym, ap, _∙_}
-use mathlib.Core.Bool.{Bool, true, false}
+use mathlib.Core.Bool.{Bool, true, false, _&&_, _||_}
 use mathlib.Core.List.{List, [], _∷_, _++_, map, append-nil, append-assoc}
 use Prim.Native.Nat.{ℕ, zero, suc, _+_, _≤_, _<_}
 use native.Mathlib.Omega.{arith}
 use lib.ListN.{length, getD, drop}
 use lib.Seq.{getD-take, getD-drop}
-use borrow.Author.Tests.{eqb-true}
+use borrow.Author.Tests.{eqb-true, leb-false}
+use lib.Dec.{leb}
 use Rattle.words.specs.Bytes.{byteAt, partAt}
 use Rattle.words.specs.Lists.{those}
 use Rattle.words.specs.Refusals.{unless, firstRefusal}
 use Rattle.words.specs.declared.Verdict.{Verdict}
 use Rattle.words.specs.declared.Verdict.the-variants.{Sound, Refused}
 use Rattle.words.proofs.Choices.{if-cases}
-use Rattle.words.proofs.Verdicts.{not-sound, joined-kept, unless-sound, unless-told}
+use Rattle.words.proofs.Verdicts.{not-sound, first-sound, joined-kept, unless-sound, unless-told}
 use Rattle.words.proofs.Tests.{both-left}
+use Rattle.clashes.proofs.Logic.{or-neither}
 use Rattle.words.proofs.Those.{those-narrower}
 use Rattle.tables.specs.Structures.{stepAt}
 use Rattle.tables.specs.declared.Step.{Step}
@@ -107,6 +109,44 @@ module _ (base : ℕ) where
         let t = in-turn before at s ps h in
         rw (sym (append-assoc before (x ∷ []) (structures ps))) (few-in-turn (before ++ (x ∷ [])) ps (one-more before x (t .0) few) (t .1))
 
+-- ---- "A board has either HT or EIO": at most one HT, and no EIO beside it
+abbrev pub OneKind : List Whole → Type 0
+OneKind all = (howMany 19 all ≤ 1) × (1 ≤ howMany 19 all → howMany 20 all ≡ 0)
+
+-- one structure more that does not give the board both
+kind-more : (before : List Whole) (x : Whole) → givesBoth before (x .bytes) ≡ false → OneKind before → OneKind (before ++ (x ∷ []))
+unfolding givesBoth isType
+kind-more before x h k = go (isType 19 s) (isType 20 s) refl refl h
+  where
+    s : List ℕ
+    s = x .bytes
+
+    some : Bool
+    some = leb 1 (howMany 19 before)
+
+    eios : Bool
+    eios = leb 1 (howMany 20 before)
+
+    go : (ht eio : Bool) → isType 19 s ≡ ht → isType 20 s ≡ eio → (ht && (some || eios) || eio && some) ≡ false → OneKind (before ++ (x ∷ []))
+    go true true t e h = absurd (let o : 19 ≡ 20 = sym (eqb-true (byteAt s 0) 19 t) ∙ eqb-true (byteAt s 0) 20 e in omega arith)
+    go true false t e h =
+        let none = or-neither some eios (or-neither (some || eios) false h .0) in
+        let a = leb-false 1 (howMany 19 before) (none .0) in
+        let b = leb-false 1 (howMany 20 before) (none .1) in
+        (omega (arith, count-more 19 before x t), λ l. omega (arith, count-same 20 before x e))
+    go false true t e h =
+        let a = leb-false 1 (howMany 19 before) h in
+        (omega (arith, count-same 19 before x t), λ l. absurd (omega (arith, count-same 19 before x t)))
+    go false false t e h =
+        (omega (arith, count-same 19 before x t, k .0), λ l. count-same 20 before x e ∙ k .1 (omega (arith, count-same 19 before x t)))
+
+one-kind-of : (base : ℕ) (before all : List Whole) → firstRefusal (kindRules base before all) ≡ Sound → OneKind before → OneKind (before ++ all)
+unfolding kindRules
+one-kind-of base before [] h k = rw append-nil k
+one-kind-of base before (x ∷ all) h k =
+    let here = first-sound _ _ _ _ h in
+    rw (sym (append-assoc before (x ∷ []) all)) (one-kind-of base (before ++ (x ∷ [])) all (here .1) (kind-more before x (here .0) k))
+
 -- ---- "At most 256 CORE, 1 LIO, 4 EIO, 4 BIO, 4 MSI, 1 LPC"
 module _ (table : List ℕ) (base : ℕ) (h : firstRefusal (walkRules table base) ≡ Sound) where
   abbrev all : List Whole
@@ -141,6 +181,10 @@ module _ (table : List ℕ) (base : ℕ) (h : firstRefusal (walkRules table base
 
   pub few-bios : howMany 22 all ≤ 4
   few-bios = few-of 22 4 (λ n s k t. room-bio k t)
+
+  pub one-kind : OneKind all
+  unfolding ofType those
+  one-kind = one-kind-of base [] all (both-sound .1) (omega arith, λ l. absurd (omega arith))
 
   -- enabled or not
   pub few-enabled : length (enabledCores all) ≤ 256

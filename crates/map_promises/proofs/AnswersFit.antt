@@ -1,30 +1,32 @@
--- Every answer of a map that keeps the rules fits its code: 71 to 77 bound core vectors, nodes, bases and slots.
+-- Every answer of a map that keeps the rules fits its code: 71 to 78 bound core vectors, nodes, bases and slots.
 use Prim.Native.Nat.{ℕ, zero, suc, _+_, _-_, _^_, _<_, _≤_}
 use native.Mathlib.Omega.{arith}
 use mathlib.Core.Path.{_≡_, refl, sym, subst}
 use mathlib.Core.Logic.{⊎-elim}
-use mathlib.Core.Bool.{Bool, true}
+use mathlib.Core.Bool.{Bool, true, _||_}
 use mathlib.Core.List.{List}
 use borrow.Author.Tests.{ltb-true}
 use lib.Dec.{eqb, leb, ltb}
 use lib.ListN.{length, getD}
 use Rattle.words.specs.Lists.{first}
 use Rattle.words.proofs.Choices.{if-cases}
-use Rattle.clashes.proofs.Logic.{and-right}
-use Rattle.parts.specs.Inputs.{hasPin, hasSlot, owns}
+use Rattle.clashes.proofs.Logic.{and-left, and-right}
+use Rattle.parts.specs.Inputs.{leads, coreOf, inputFor, hasPin, hasSlot, owns}
 use Rattle.parts.proofs.Inputs.{pin-small, leads-small}
 use Rattle.lines.specs.Says.{Said, says}
+use Rattle.lines.specs.Hubs.{Hub, hubs, enters}
 use Rattle.lines.specs.Routes.{lioArrival, through, bioOwner, owner, arrivalOf}
-use Rattle.lines.specs.Traces.{slotTold, pinTold, landed, eioTraced, traced}
+use Rattle.lines.specs.Traces.{slotTold, pinTold, landed, comesBy, hubTraced, ledByLio, traced}
 use Rattle.lines.specs.Rules.{rangesKept, keepsRules}
 use Rattle.lines.specs.declared.Map.{Map}
 use Rattle.lines.specs.declared.Owner.{Owner}
 use Rattle.lines.specs.declared.Owner.the-variants.{BioInput as ofBio, Nobody}
-use Rattle.lines.specs.declared.Route.the-variants.{Arrives, NoOwner}
+use Rattle.lines.specs.declared.Route.the-variants.{NoOwner}
 use Rattle.lines.specs.declared.Trace.the-variants.{Nothing, MsiSlot}
-use Rattle.kinds.specs.Used.{noEio, noBio, noMsi}
-use Rattle.map_promises.specs.Sources.{eioAt, bioAt, msiAt}
+use Rattle.kinds.specs.Used.{noBio, noMsi}
+use Rattle.map_promises.specs.Sources.{noHub, hubAt, bioAt, msiAt}
 use Rattle.map_promises.specs.Statements.{RouteFits, TraceFits, AnswersFit}
+use Rattle.map_promises.proofs.Hubs.{each-hub}
 use Rattle.map_promises.proofs.Kept.{good}
 use Rattle.map_promises.proofs.Members.{found-or-not}
 use Rattle.map_promises.proofs.Ranged.{eio-fits, bio-fits, msi-fits, low-used, high-used, lpc-fits}
@@ -56,19 +58,30 @@ module _ (map : Map) (kept : keepsRules map ≡ true) where
   high-small : said .lio .high .cascade ≤ 9
   high-small = half-small (said .lio .high .mask) _ (high-used said ranged) (lio-said (map .lio) .1)
 
+  -- ---- core vectors, and hubs
+  core-small : (i : ℕ) → coreOf (said .lio) i ≤ 9
+  unfolding coreOf
+  core-small i = if-cases (λ (c : ℕ). c ≤ 9) _ _ _ (λ t. low-small) (λ t. if-cases (λ (c : ℕ). c ≤ 9) _ _ _ (λ u. high-small) (λ u. omega arith))
+
+  abbrev HubFits : Hub → Type 0
+  HubFits h = ((v : ℕ) → h .core v ≤ 9) × (h .above ≤ 256) × (h .node ≤ 63)
+
+  hub-fits : (e : ℕ) → e < length (hubs said) → HubFits (hubAt said e)
+  hub-fits =
+      each-hub said (λ e h. HubFits h) (λ y. ((λ v. core-small (inputFor (said .ht) v)), omega arith, omega arith))
+      (λ n e l. let f = eio-fits said ranged e l in ((λ v. f .2), omega arith, f .1))
+
   -- ---- routes
-  through-fits : (node v : ℕ) → v < 64 → RouteFits (through (said .eios) node v)
+  through-fits : (node v : ℕ) → v < 64 → RouteFits (through (hubs said) node v)
   unfolding through
   through-fits node v small =
-      found-holds noEio RouteFits (λ e. eqb (e .node) node) (λ e. Arrives (e .cascade) v) NoOwner (said .eios)
-      (λ i k t. (omega (arith, eio-fits said ranged i k .2), omega arith))
+      found-holds noHub RouteFits (λ h. eqb (h .node) node) (λ h. enters h v) NoOwner (hubs said)
+      (λ i k t. let f = hub-fits i k in (omega (arith, f .0 v), omega (arith, f .1)))
       (omega arith)
 
   lio-route-fits : (i : ℕ) → i < 32 → RouteFits (lioArrival (said .lio) i)
   unfolding lioArrival
-  lio-route-fits i small =
-      if-cases RouteFits _ _ _ (λ t. (omega (arith, low-small), omega arith))
-      (λ t. if-cases RouteFits _ _ _ (λ u. (omega (arith, high-small), omega arith)) (λ u. omega arith))
+  lio-route-fits i small = if-cases RouteFits _ _ _ (λ t. (omega (arith, core-small i), omega arith)) (λ t. omega arith)
 
   bio-route-fits : (n : ℕ) → RouteFits (arrivalOf said (bioOwner (said .bios) n))
   unfolding bioOwner arrivalOf
@@ -87,7 +100,7 @@ module _ (map : Map) (kept : keepsRules map ≡ true) where
       if-cases (λ (o : Owner). RouteFits (arrivalOf said o)) _ _ _
       (λ t. if-cases (λ (o : Owner). RouteFits (arrivalOf said o)) _ _ _ (λ u. through-fits (said .lpc .node) (said .lpc .cascade) (omega (arith, lpc-fits said ranged))) (λ u. omega arith))
       (λ t. if-cases (λ (o : Owner). RouteFits (arrivalOf said o)) _ _ _
-      (λ u. lio-route-fits (n - 16) (let less = ltb-true n 48 u in omega arith))
+      (λ u. if-cases (λ (o : Owner). RouteFits (arrivalOf said o)) _ _ _ (λ w. omega arith) (λ w. lio-route-fits (n - 16) (let less = ltb-true n 48 u in omega arith)))
       (λ u. bio-route-fits n))
 
   -- ---- traces
@@ -111,21 +124,22 @@ module _ (map : Map) (kept : keepsRules map ≡ true) where
       if-cases TraceFits _ _ _ (λ u. fits) (λ u. fits))
       (slot-fits node k small)
 
-  eio-trace-fits : (v k : ℕ) → TraceFits (eioTraced said v k)
-  unfolding eioTraced
-  eio-trace-fits v k =
-      found-holds noEio TraceFits (λ e. eqb (e .cascade) v) (λ e. landed said (e .node) k) Nothing (said .eios)
-      (λ i l t. landed-fits (eioAt said i .node) k (eio-fits said ranged i l .1))
+  hub-trace-fits : (v n : ℕ) → TraceFits (hubTraced said v n)
+  unfolding hubTraced
+  hub-trace-fits v n =
+      found-holds noHub TraceFits (comesBy v n) (λ h. landed said (h .node) (n - h .above)) Nothing (hubs said)
+      (λ i l t. landed-fits (hubAt said i .node) (n - hubAt said i .above) (hub-fits i l .2))
       (omega arith)
 
   traced-fits : (v k : ℕ) → TraceFits (traced said v k)
-  unfolding traced
+  unfolding traced ledByLio
   traced-fits v k =
       if-cases TraceFits _ _ _
       (λ t.
-      let small = leads-small (said .lio .low) (said .lio .high) v k t in
+      let led = leads (said .lio .low) v k || leads (said .lio .high) v k in
+      let small = leads-small (said .lio .low) (said .lio .high) v k (and-left led _ t) in
       omega arith)
-      (λ t. eio-trace-fits v k)
+      (λ t. hub-trace-fits v k)
 
 -- THE PROMISE
 pub answers-fit : (map : Map) → AnswersFit map

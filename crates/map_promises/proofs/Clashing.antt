@@ -1,4 +1,4 @@
--- Each of 41 to 43, 45 and 51 to 53 is told of a map exactly where it is the first that is broken, and names what the documents name.
+-- Each of 41 to 45 and 51 to 53 is told of a map exactly where it is the first that is broken, and names what the documents name.
 use Prim.Native.Nat.{ℕ, zero, suc, _<_}
 use native.Mathlib.Omega.{arith}
 use mathlib.Core.Path.{_≡_, refl, sym, _∙_}
@@ -15,19 +15,22 @@ use Rattle.clashes.specs.Search.{firstClash, firstLone}
 use Rattle.clashes.specs.Told.{atLater, atBoth, spotted}
 use Rattle.clashes.specs.declared.Claim.{Claim}
 use Rattle.clashes.specs.declared.Pair.the-variants.{None as NoPair}
+use Rattle.parts.specs.Inputs.{namesUnwired}
 use Rattle.lines.specs.Says.{Said, says}
+use Rattle.lines.specs.Hubs.{nodes}
 use Rattle.lines.specs.Claims.{claims}
 use Rattle.lines.specs.Rules.{tooMany, noBridge, noInput, ruleClash, rangesKept, rule51, rule52, rule53, rule54, rulesTo45, rulesFrom51, mapRules, firstBroken}
 use Rattle.lines.specs.declared.Map.{Map}
 use Rattle.lines.specs.declared.Places.{Places}
 use Rattle.map_promises.specs.Structures.{Structure, Placed}
-use Rattle.map_promises.specs.Clashing.{ShareNode, ShareNumber, ShareVector, ShareCore, Sharing, TwoNode, LoneBio, TwoNumber, TwoVector, TwoCore, Names, NamesLater, NamesLone, OnePlace, KeepsTo40, KeepsTo42, KeepsTo43, KeepsTo45, NoBridge, NoInput, RefusedWith, OthersCarryNone, NodeExactly, LoneExactly, BridgeExactly, InputExactly, NumberExactly, VectorExactly, CoreExactly}
+use Rattle.map_promises.specs.Clashing.{ShareNode, ShareNumber, ShareVector, ShareCore, Sharing, TwoNode, LoneBio, TwoNumber, TwoVector, TwoCore, Names, NamesLater, NamesLone, OnePlace, KeepsTo40, KeepsTo42, KeepsTo43, KeepsTo44, KeepsTo45, NoBridge, NamesUnwired, NoInput, RefusedWith, OthersCarryNone, NodeExactly, LoneExactly, BridgeExactly, WiredExactly, InputExactly, NumberExactly, VectorExactly, CoreExactly}
 use Rattle.map_promises.proofs.Bridges.{no-bridge, bridge-gone, no-input, input-gone}
 use Rattle.map_promises.proofs.Hubs.{bio-hub, names-lone, finds-lone}
+use Rattle.map_promises.proofs.Kept.{unwired-named, named-unwired}
 use Rattle.map_promises.proofs.Meetings.{Agrees, names, sharing, no-sharing, finds-two, finds-nothing}
 use Rattle.map_promises.proofs.Sharing.{node-agrees, number-agrees, vector-agrees, core-agrees, number-sharing, sharing-number, vector-sharing, sharing-vector}
 use Rattle.map_promises.proofs.Unused.{lio-said}
-use Rattle.map_promises.proofs.Verdicts.{eio-there, later-kept, both-kept, spotted-kept, later-told, both-told, spotted-told, rule-read, position, Second, own, told-at}
+use Rattle.map_promises.proofs.Verdicts.{hub-there, later-kept, both-kept, spotted-kept, later-told, both-told, spotted-told, rule-read, position, Second, own, told-at}
 
 module _ (map : Map) (places : Places) (madt fadt : ℕ) where
   abbrev said : Said
@@ -65,59 +68,74 @@ module _ (map : Map) (places : Places) (madt fadt : ℕ) where
     unfolding mapRules rulesTo45 rulesFrom51 firstRefusal unless if
     bridge-tells w = (places .lpc, 0, from-40 (h .to40 .r38) ∙ rw (h .to40 .r40, h .r41, h .r42, bridge-gone said w))
 
-  -- ---- 45
+  -- ---- 44
   module _ (h : KeepsTo43 map places madt) where
+    wired-told : (p q : ℕ) → Told 44 p q → NamesUnwired said × OnePlace (λ p. p ≡ places .ht) p q
+    unfolding mapRules rulesTo45 rulesFrom51 if
+    wired-told p q t =
+        let r = told (h .to42 .to40 .r38) 44 p q t .0 in
+        let w = rule-read (namesUnwired (said .lio) (said .ht)) 44 (places .ht) 44 p q r in
+        (named-unwired said (w .3), (w .2, w .1))
+
+    wired-tells : NamesUnwired said → (p : ℕ) × (q : ℕ) × Told 44 p q
+    unfolding mapRules rulesTo45 rulesFrom51 firstRefusal unless if
+    wired-tells w =
+        let to42 = h .to42 in
+        (places .ht, 0, from-40 (to42 .to40 .r38) ∙ rw (to42 .to40 .r40, to42 .r41, to42 .r42, h .r43, unwired-named said w))
+
+  -- ---- 45
+  module _ (h : KeepsTo44 map places madt) where
     input-told : (p q : ℕ) → Told 45 p q → NoInput said × OnePlace (λ p. p ≡ places .lpc) p q
     unfolding mapRules rulesTo45 rulesFrom51 if
     input-told p q t =
-        let r = told (h .to42 .to40 .r38) 45 p q t .0 in
+        let r = told (h .to43 .to42 .to40 .r38) 45 p q t .0 in
         let w = rule-read (noInput (said .lpc) (said .bios)) 45 (places .lpc) 45 p q r in
         (no-input said (w .3), (w .2, w .1))
 
     input-tells : NoInput said → (p : ℕ) × (q : ℕ) × Told 45 p q
     unfolding mapRules rulesTo45 rulesFrom51 firstRefusal unless if
     input-tells w =
-        let to42 = h .to42 in
-        (places .lpc, 0, from-40 (to42 .to40 .r38) ∙ rw (to42 .to40 .r40, to42 .r41, to42 .r42, h .r43, input-gone said w))
+        let to42 = h .to43 .to42 in
+        (places .lpc, 0, from-40 (to42 .to40 .r38) ∙ rw (to42 .to40 .r40, to42 .r41, to42 .r42, h .to43 .r43, h .r44, input-gone said w))
 
   module _ (ok : Placed said places) where
     -- ---- 41 and 42
     module _ (h : KeepsTo40 map madt) where
-      nodes : Agrees said 41 (ShareNode said)
-      nodes = node-agrees said (h .ranges)
+      eios : Agrees said 41 (ShareNode said)
+      eios = node-agrees said (h .ranges)
 
       node-told : (p q : ℕ) → Told 41 p q → TwoNode said × OnePlace (NamesLater said places (ShareNode said)) p q
       unfolding mapRules rulesTo45 rulesFrom51 if
       node-told p q t =
           let w = later-told 41 41 p q (firstClash 41 all) (told (h .r38) 41 p q t .0) in
-          let named = names said places ok nodes p (w .2 .0) (w .2 .1) in
-          (sharing said places ok nodes p (w .2 .0) named, ((w .2 .0, named), w .1))
+          let named = names said places ok eios p (w .2 .0) (w .2 .1) in
+          (sharing said places ok eios p (w .2 .0) named, ((w .2 .0, named), w .1))
 
       node-tells : TwoNode said → (p : ℕ) × (q : ℕ) × Told 41 p q
       unfolding mapRules rulesTo45 rulesFrom51 firstRefusal unless atLater
       node-tells w =
-          let f = finds-two said places ok nodes w in
+          let f = finds-two said places ok eios w in
           (f .0, 0, from-40 (h .r38) ∙ rw (h .r40, f .2))
 
       lone-told : (p q : ℕ) → Told 42 p q → ((TwoNode said → ⊥) × LoneBio said) × OnePlace (NamesLone said places) p q
       unfolding mapRules rulesTo45 rulesFrom51 if
       lone-told p q t =
           let r = told (h .r38) 42 p q t in
-          let w = spotted-told 42 42 p q (firstLone all) (r .0) in
+          let w = spotted-told 42 42 p q (firstLone (nodes said) all) (r .0) in
           let n = names-lone said (h .ranges) places ok p (w .2) in
-          let never = no-sharing said places ok nodes (later-kept 41 (firstClash 41 all) (r .1 1 (omega arith))) in
+          let never = no-sharing said places ok eios (later-kept 41 (firstClash 41 all) (r .1 1 (omega arith))) in
           ((never, (n .j, n .lone)), (n, w .1))
 
       lone-tells : (TwoNode said → ⊥) → LoneBio said → (p : ℕ) × (q : ℕ) × Told 42 p q
       unfolding mapRules rulesTo45 rulesFrom51 firstRefusal unless atLater spotted
       lone-tells never w =
           let f = finds-lone said (h .ranges) places ok w in
-          (f .0, 0, from-40 (h .r38) ∙ rw (h .r40, finds-nothing said places ok nodes never, f .1))
+          (f .0, 0, from-40 (h .r38) ∙ rw (h .r40, finds-nothing said places ok eios never, f .1))
 
     -- ---- 51 to 53
     module _ (h : KeepsTo45 map places madt) where
       abbrev to42 : KeepsTo42 map places madt
-      to42 = h .to43 .to42
+      to42 = h .to44 .to43 .to42
 
       abbrev ranged : rangesKept said ≡ true
       ranged = to42 .to40 .ranges
@@ -129,7 +147,7 @@ module _ (map : Map) (places : Places) (madt fadt : ℕ) where
       numbers = number-agrees said ranged
 
       vectors : Agrees said 52 (ShareVector said)
-      vectors = vector-agrees said ranged (eio-there said madt (to42 .to40 .r40)) (bio-hub said ranged places ok (spotted-kept 42 (firstLone all) (to42 .r42)))
+      vectors = vector-agrees said ranged (hub-there said madt (to42 .to40 .r40)) (bio-hub said ranged places ok (spotted-kept 42 (firstLone (nodes said) all) (to42 .r42)))
 
       cores : Agrees said 53 (ShareCore said)
       cores = core-agrees said ranged (lio-said (map .lio) .0) (lio-said (map .lio) .1)
@@ -149,7 +167,7 @@ module _ (map : Map) (places : Places) (madt fadt : ℕ) where
       -- with the rules below 51 kept, the verdict is that of the rest
       from-51 : firstBroken map places madt fadt ≡ firstRefusal (rule51 all ∷ rule52 all ∷ rule53 all ∷ rule54 said fadt ∷ [])
       unfolding mapRules rulesTo45 rulesFrom51 firstRefusal unless
-      from-51 = from-40 few ∙ rw (to42 .to40 .r40, to42 .r41, to42 .r42, h .to43 .r43, h .r45)
+      from-51 = from-40 few ∙ rw (to42 .to40 .r40, to42 .r41, to42 .r42, h .to44 .to43 .r43, h .to44 .r44, h .r45)
 
       no-number : (TwoNumber said → ⊥) → firstClash 51 all ≡ NoPair
       no-number never = finds-nothing said places ok numbers (λ w. never (sharing-number said w))
@@ -179,7 +197,7 @@ module _ (map : Map) (places : Places) (madt fadt : ℕ) where
       unfolding mapRules rulesTo45 rulesFrom51 if
       vector-told p q t =
           let w = clash-told vectors refl p q t in
-          let never = number-none (clash-none 5 51 52 refl (omega arith) p q t) in
+          let never = number-none (clash-none 6 51 52 refl (omega arith) p q t) in
           ((never, sharing-vector said (w .0)), w .1)
 
       vector-tells : (TwoNumber said → ⊥) → TwoVector said → (p : ℕ) × (q : ℕ) × Told 52 p q
@@ -193,8 +211,8 @@ module _ (map : Map) (places : Places) (madt fadt : ℕ) where
       unfolding mapRules rulesTo45 rulesFrom51 if
       core-told p q t =
           let w = clash-told cores refl p q t in
-          let never = number-none (clash-none 5 51 53 refl (omega arith) p q t) in
-          let none = vector-none (clash-none 6 52 53 refl (omega arith) p q t) in
+          let never = number-none (clash-none 6 51 53 refl (omega arith) p q t) in
+          let none = vector-none (clash-none 7 52 53 refl (omega arith) p q t) in
           ((never, none, w .0), w .1)
 
       core-tells : (TwoNumber said → ⊥) → (TwoVector said → ⊥) → TwoCore said → (p : ℕ) × (q : ℕ) × Told 53 p q
@@ -222,6 +240,9 @@ lone-exactly map places madt fadt ok h = (lone-told map places madt fadt ok h, �
 
 pub bridge-exactly : (map : Map) (places : Places) (madt fadt : ℕ) → BridgeExactly map places madt fadt
 bridge-exactly map places madt fadt h = (bridge-told map places madt fadt h, bridge-tells map places madt fadt h)
+
+pub wired-exactly : (map : Map) (places : Places) (madt fadt : ℕ) → WiredExactly map places madt fadt
+wired-exactly map places madt fadt h = (wired-told map places madt fadt h, wired-tells map places madt fadt h)
 
 pub input-exactly : (map : Map) (places : Places) (madt fadt : ℕ) → InputExactly map places madt fadt
 input-exactly map places madt fadt h = (input-told map places madt fadt h, input-tells map places madt fadt h)

@@ -3,24 +3,25 @@ use mathlib.Core.Path.{refl}
 use Rattle.words.specs.Choice.{if}
 use Rattle.words.specs.Refusals.{unless, firstRefusal, isSound}
 use Rattle.words.specs.Lists.{first, every}
-use Rattle.kinds.specs.Ranges.{lioField, eioField, msiField, bioField, lpcField}
-use Rattle.kinds.specs.Used.{usedHalf, saidLio, saidLpc}
+use Rattle.kinds.specs.Ranges.{lioField, htField, eioField, msiField, bioField, lpcField}
+use Rattle.kinds.specs.Used.{usedHalf, saidLio, saidHt, saidLpc}
 use Rattle.clashes.specs.Folds.{fold}
 use Rattle.clashes.specs.Rules.{clash}
 use Rattle.clashes.specs.Search.{sooner, nearer, partner, better, firstClash, lonelier, firstLone}
 use Rattle.clashes.specs.Told.{atLater, atBoth, spotted}
-use Rattle.parts.specs.Inputs.{hasBit, hasPin}
+use Rattle.parts.specs.Inputs.{hasBit, coreOf, isNamed, namesUnwired, hasPin}
 use Rattle.lines.specs.Answers.{routeOf, traceOf}
 use Rattle.lines.specs.Claims.{placed, claims}
+use Rattle.lines.specs.Hubs.{hubsOf, nodesOf}
 use Rattle.lines.specs.Routes.{lioArrival, through, bioOwner, owner, arrivalOf, arrival}
 use Rattle.lines.specs.Rules.{eiosFit, biosFit, msisFit, rangesKept, noBridge, noInput, lost, rulesTo45, rulesFrom51, mapRules, firstBroken, keepsRules}
-use Rattle.lines.specs.Traces.{slotTold, isLpcPin, pinTold, landed, eioTraced, traced}
+use Rattle.lines.specs.Traces.{slotTold, isLpcPin, pinTold, landed, comesBy, hubTraced, ledByLio, traced}
 use Rattle.lines.specs.declared.Map.{Map}
-use Rattle.map_promises.specs.Examples.{Question, Told, told, brokenAlone, fewerPins, rightBridge, unusedPlaces, firstNamed, MapExamples}
+use Rattle.map_promises.specs.Examples.{Question, Told, told, brokenAlone, fewerPins, rightBridge, onTheHt, unusedPlaces, firstNamed, MapExamples}
 
 -- what is told, with all that it is computed by
 unfoldable computed : Map → Question → Told
-unfolding if first every fold lioField eioField msiField bioField lpcField usedHalf saidLio saidLpc clash sooner nearer partner better firstClash lonelier firstLone hasBit hasPin routeOf traceOf placed claims lioArrival through bioOwner owner arrivalOf arrival atLater atBoth spotted eiosFit biosFit msisFit rangesKept noBridge noInput lost rulesTo45 rulesFrom51 mapRules firstBroken unless firstRefusal isSound keepsRules slotTold isLpcPin pinTold landed eioTraced traced told
+unfolding if first every fold lioField htField eioField msiField bioField lpcField usedHalf saidLio saidHt saidLpc clash sooner nearer partner better firstClash lonelier firstLone hasBit coreOf isNamed namesUnwired hasPin routeOf traceOf placed claims hubsOf nodesOf lioArrival through bioOwner owner arrivalOf arrival atLater atBoth spotted eiosFit biosFit msisFit rangesKept noBridge noInput lost rulesTo45 rulesFrom51 mapRules firstBroken unless firstRefusal isSound keepsRules slotTold isLpcPin pinTold landed comesBy hubTraced ledByLio traced told
 computed map question = told map question
 
 -- THE PROMISES
@@ -35,6 +36,10 @@ fewer-pins = refl
 pub right-bridge : MapExamples rightBridge
 unfolding computed rightBridge
 right-bridge = refl
+
+pub on-the-ht : MapExamples onTheHt
+unfolding computed onTheHt
+on-the-ht = refl
 
 pub unused-places : MapExamples unusedPlaces
 unfolding computed unusedPlaces

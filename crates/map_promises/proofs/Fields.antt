@@ -1,4 +1,4 @@
--- Each of 71 to 77 is told of a structure exactly where its field is the first that is out of its range.
+-- Each of 71 to 78 is told of a structure exactly where its field is the first that is out of its range.
 use Prim.Native.Nat.{ℕ, _+_, _<_, _≤_}
 use native.Mathlib.Omega.{arith}
 use mathlib.Core.Path.{_≡_, refl, sym, _∙_, ap}
@@ -7,6 +7,8 @@ use mathlib.Core.List.{List, [], _∷_}
 use mathlib.Core.Bool.{Bool, true, false, _&&_, _||_}
 use borrow.Author.Tests.{leb-true, leb-false, eqb-true, eqb-false}
 use lib.Dec.{eqb, leb}
+use lib.ListN.{getD}
+use Rattle.words.specs.Lists.{every}
 use Rattle.words.specs.Bytes.{byteAt}
 use Rattle.words.specs.Choice.{if}
 use Rattle.words.specs.Refusals.{refused, rule, unless, firstRefusal}
@@ -16,17 +18,19 @@ use Rattle.words.specs.declared.Verdict.the-variants.{Sound, Refused}
 use Rattle.words.proofs.Verdicts.{not-sound, same-refusal, first-broken, first-kept}
 use Rattle.words.proofs.Tests.{both-left}
 use Rattle.clashes.proofs.Logic.{or-cases}
-use Rattle.kinds.specs.Makers.{lioOf, eioOf, msiOf, bioOf, lpcOf}
-use Rattle.kinds.specs.Ranges.{halfFits, halvesFit, lioField, eioField, msiField, bioField, lpcField, bitInBoth}
+use Rattle.kinds.specs.Makers.{lioOf, htOf, eioOf, msiOf, bioOf, lpcOf}
+use Rattle.kinds.specs.Ranges.{halfFits, halvesFit, byteFits, lioField, htField, eioField, msiField, bioField, lpcField, bitInBoth}
 use Rattle.kinds.specs.declared.Half.{Half}
 use Rattle.kinds.specs.declared.Lio.{Lio}
+use Rattle.kinds.specs.declared.Ht.{Ht}
 use Rattle.kinds.specs.declared.Eio.{Eio}
 use Rattle.kinds.specs.declared.Msi.{Msi}
 use Rattle.kinds.specs.declared.Bio.{Bio}
 use Rattle.kinds.specs.declared.Lpc.{Lpc}
-use Rattle.madt.specs.Rules.{isType, wrongLength, wrongVersion, isHt, wrongFlags, wrongCascade, wrongNode, wrongNodes, wrongCount, wrongEnd, wrongBase, wrongInput, sharedBit, oneTooMany, structureRules}
-use Rattle.madt.proofs.Checks.{fieldRule, for-lio, for-eio, for-msi, for-bio, for-lpc}
-use Rattle.map_promises.specs.Fields.{Iff, Outside, HalfWrong, LioWrong, LioTold, EioTold, MsiTold, BioTold, LpcTold, ToldOfType, RefusedThere, FieldsExactly}
+use Rattle.madt.specs.Rules.{isType, wrongLength, wrongVersion, wrongFlags, wrongCascade, wrongNode, wrongNodes, wrongCount, wrongEnd, wrongBase, wrongInput, wrongByte, sharedBit, oneTooMany, structureRules}
+use Rattle.madt.proofs.Checks.{fieldRule, for-lio, for-ht, for-eio, for-msi, for-bio, for-lpc}
+use Rattle.map_promises.proofs.Members.{every-at, not-every}
+use Rattle.map_promises.specs.Fields.{Iff, Outside, HalfWrong, LioWrong, ByteWrong, LioTold, HtTold, EioTold, MsiTold, BioTold, LpcTold, ToldOfType, RefusedThere, FieldsExactly}
 
 -- ---- a test of a field, and what it says in numbers
 abbrev Tested : Bool → Type 0 → Type 0 → Type 0
@@ -115,6 +119,26 @@ eio-fields x =
       r73 = untold f (λ h. omega arith) (λ w. w .0 (c .1));
     })
     (between 2 9 (x .cascade))
+
+-- a byte is over 31, or none is
+bytes-tested : (x : Ht) → Tested (every byteFits (x .bytes)) (ByteWrong x → ⊥) (ByteWrong x)
+bytes-tested x = go (every byteFits (x .bytes)) refl
+  where
+    go : (b : Bool) → every byteFits (x .bytes) ≡ b → Tested (every byteFits (x .bytes)) (ByteWrong x → ⊥) (ByteWrong x)
+    go true e = inl (e, λ w. let fits = leb-true (getD (x .bytes) (w .0) 0) 31 (every-at 0 byteFits (x .bytes) e (w .0) (w .1)) in omega (arith, w .2))
+    go false e = let w = not-every 0 byteFits (x .bytes) e in inr (e, (w .0, w .1, leb-false (getD (x .bytes) (w .0) 0) 31 (w .2)))
+
+ht-fields : (x : Ht) → HtTold (λ n. htField x ≡ n) x
+unfolding htField if
+ht-fields x =
+    ⊎-elim
+    (λ c.
+    let f : htField x ≡ 0 = rw (c .0) in
+    record { r78 = untold f (λ h. omega arith) (c .1) })
+    (λ c.
+    let f : htField x ≡ 78 = rw (c .0) in
+    record { r78 = told f (c .1) })
+    (bytes-tested x)
 
 msi-fields : (x : Msi) → MsiTold (λ n. msiField x ≡ n) x
 unfolding msiField if
@@ -239,7 +263,7 @@ module _ (place : ℕ) where
       shared false e h = absurd (passes full 38 37 [] (λ z. omega arith) (none 37) (sym (first-kept _ _ _ _ e refl) ∙ h))
 
 -- ---- a number that is told is that of a rule that is broken
--- the test of the rule of a number from 71 to 77, and of 37
+-- the test of the rule of a number from 71 to 78, and of 37
 abbrev testOf : List ℕ → ℕ → Bool
 testOf s n =
     if (eqb n 71) (wrongCascade s)
@@ -249,7 +273,8 @@ testOf s n =
     (if (eqb n 75) (wrongEnd s)
     (if (eqb n 76) (wrongBase s)
     (if (eqb n 77) (wrongInput s)
-    (if (eqb n 37) (sharedBit s) true)))))))
+    (if (eqb n 78) (wrongByte s)
+    (if (eqb n 37) (sharedBit s) true))))))))
 
 own : (broken : Bool) (m place n : ℕ) → rule broken m place ≡ Refused (refused n place) → (m ≡ n) × (broken ≡ true)
 unfolding if
@@ -274,7 +299,6 @@ module _ (place before : ℕ) (s : List ℕ) where
   told-broken =
       first-right _ _ (right (wrongLength s) 32 (λ t. refl))
       (first-right _ _ (right (wrongVersion s) 33 (λ t. refl))
-      (first-right _ _ (right (isHt s) 34 (λ t. refl))
       (first-right _ _ (right (wrongFlags s) 35 (λ t. refl))
       (first-right _ _ (right (wrongCascade s) 71 (λ t. t))
       (first-right _ _ (right (wrongNode s) 72 (λ t. t))
@@ -283,6 +307,7 @@ module _ (place before : ℕ) (s : List ℕ) where
       (first-right _ _ (right (wrongEnd s) 75 (λ t. t))
       (first-right _ _ (right (wrongBase s) 76 (λ t. t))
       (first-right _ _ (right (wrongInput s) 77 (λ t. t))
+      (first-right _ _ (right (wrongByte s) 78 (λ t. t))
       (first-right _ _ (right (sharedBit s) 37 (λ t. t))
       (first-right _ _ (right (oneTooMany before s) 38 (λ t. refl))
       (λ n h. absurd (none place n h))))))))))))))
@@ -296,7 +321,7 @@ module _ (place before : ℕ) (s : List ℕ) where
   either-typed n m p q h = ⊎-elim (λ a. inl (typed n p a)) (λ a. inr (typed m q a)) (or-cases (isType n s && p) (isType m s && q) h)
 
   of-type : ToldOfType (RefusedThere place before s) (byteAt s 0)
-  unfolding if wrongCascade wrongNode wrongNodes wrongCount wrongEnd wrongBase wrongInput sharedBit
+  unfolding if wrongCascade wrongNode wrongNodes wrongCount wrongEnd wrongBase wrongInput wrongByte sharedBit
   of-type =
       record {
         r71 = λ h. either-typed 18 20 _ _ (told-broken 71 h);
@@ -306,6 +331,7 @@ module _ (place before : ℕ) (s : List ℕ) where
         r75 = λ h. typed 21 _ (told-broken 75 h);
         r76 = λ h. typed 22 _ (told-broken 76 h);
         r77 = λ h. typed 23 _ (told-broken 77 h);
+        r78 = λ h. typed 19 _ (told-broken 78 h);
         r37 = λ h. typed 18 _ (told-broken 37 h);
       }
 
@@ -335,6 +361,9 @@ module _ (place before : ℕ) (s : List ℕ) where
               r71 = ((λ h. l .r71 .0 (sym e ∙ h)), λ w. e ∙ l .r71 .1 w);
               r37 = ((λ h. l .r37 .0 (sym e ∙ h)), λ w. e ∙ l .r37 .1 w);
             };
+        ht = λ o.
+            let e = by-field (for-ht place before s (o .r32) (o .r33) refl (o .type)) in
+            record { r78 = chained (e 78 (λ z. omega arith) (λ z. omega arith)) (ht-fields (htOf s) .r78) };
         eio = λ o.
             let e = by-field (for-eio place before s (o .r32) (o .r33) refl (o .type)) in
             let x = eio-fields (eioOf s) in

@@ -27,6 +27,7 @@ pub mod Rising
 pub mod WalkKeepsBooks
 pub mod WalkInTableOrder
 pub mod NodeOfBase
+pub mod BytesOfHt
 pub mod OnlyItsBridges
 pub mod NormalMapsEqual
 pub mod Fields

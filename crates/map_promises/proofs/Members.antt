@@ -5,7 +5,7 @@ use native.Mathlib.Omega.{arith}
 use mathlib.Core.Path.{_≡_, refl, sym, _∙_, ap}
 use mathlib.Core.Logic.{_⊎_, inl, inr, ⊎-elim}
 use mathlib.Core.List.{List, [], _∷_, List·Memᴰ, List·Memᴰ·head, List·Memᴰ·tail, List·Memᴰ·not-nil, List·Memᴰ·cases-cons}
-use mathlib.Core.Bool.{Bool, true, false, not, true≢false}
+use mathlib.Core.Bool.{Bool, true, false, not, _&&_, true≢false}
 use borrow.Author.Tests.{not-true}
 use lib.ListN.{length, take, getD}
 use Rattle.words.specs.Choice.{if}
@@ -67,6 +67,17 @@ module _ {A : Type 0} (d : A) where
   unfolding every
   at-every f [] h = refl
   at-every f (x ∷ xs) h = rw (h 0 (omega arith)) (at-every f xs (λ i k. h (suc i) (omega arith)))
+
+  -- a test that not every element passes fails at a place
+  pub not-every : (f : A → Bool) (l : List A) → every f l ≡ false → (i : ℕ) × (i < length l) × (f (getD l i d) ≡ false)
+  unfolding every
+  not-every f [] h = absurd (true≢false h)
+  not-every f (x ∷ xs) h = go (f x) refl h (λ k. not-every f xs k)
+    where
+      go : (b : Bool) → f x ≡ b → (b && every f xs) ≡ false → (every f xs ≡ false → (i : ℕ) × (i < length xs) × (f (getD xs i d) ≡ false))
+          → (i : ℕ) × (i < length (x ∷ xs)) × (f (getD (x ∷ xs) i d) ≡ false)
+      go false e k later = (0, omega arith, e)
+      go true e k later = let w = later k in (suc (w .0), omega arith, w .2)
 
   -- a search stops at a place that the test takes, or no place is taken
   abbrev pub Stops : {R : Type 0} → (A → Bool) → (A → R) → R → List A → Type 0

@@ -11,9 +11,10 @@ use lib.ListN.{length, take, getD}
 use lib.Seq.{getD-take, ext-getD}
 use Rattle.words.specs.Choice.{if}
 use Rattle.words.proofs.Choices.{yes-if, no-if}
-use Rattle.kinds.specs.Used.{noHalf, usedHalf, saidLio, saidLpc, noEio, noBio, noMsi, noLpc}
+use Rattle.kinds.specs.Used.{noHalf, usedHalf, saidLio, saidHt, saidLpc, noHt, noEio, noBio, noMsi, noLpc}
 use Rattle.kinds.specs.declared.Half.{Half}
 use Rattle.kinds.specs.declared.Lio.{Lio}
+use Rattle.kinds.specs.declared.Ht.{Ht}
 use Rattle.kinds.specs.declared.Eio.{Eio}
 use Rattle.kinds.specs.declared.Bio.{Bio}
 use Rattle.kinds.specs.declared.Msi.{Msi}
@@ -33,7 +34,7 @@ same-array {A} none n m a b c la lb used ra rb =
     (λ w. let past : n ≤ i = ⊎-elim (λ e. omega arith) (λ g. omega arith) w in ra i past ∙ sym (rb i (omega arith)))
     (order i n))
 
--- a half, a LIO and an LPC with nothing unused say all that they have
+-- a half, a LIO, an HT and an LPC with nothing unused say all that they have
 half-said : (half : Half) → (half .mask ≡ 0 → half .cascade ≡ 0) → usedHalf half ≡ half
 unfolding usedHalf if
 half-said half h = go (eqb (half .mask) 0) refl
@@ -58,6 +59,14 @@ lio-said x low high none = go (x .present) refl
     go true e = yes-if _ _ _ e ∙ made-lio (sym e) (half-said (x .low) low) (half-said (x .high) high)
     go false e = no-if _ _ _ e (made-lio (sym e) (sym (none e .0)) (sym (none e .1)))
 
+ht-said : (x : Ht) → (x .present ≡ false → x ≡ noHt) → saidHt x ≡ x
+unfolding saidHt
+ht-said x none = go (x .present) refl
+  where
+    go : (b : Bool) → x .present ≡ b → saidHt x ≡ x
+    go true e = yes-if _ _ _ e
+    go false e = no-if _ _ _ e (sym (none e))
+
 lpc-said : (x : Lpc) → (x .present ≡ false → x ≡ noLpc) → saidLpc x ≡ x
 unfolding saidLpc
 lpc-said x none = go (x .present) refl
@@ -67,12 +76,12 @@ lpc-said x none = go (x .present) refl
     go false e = no-if _ _ _ e (sym (none e))
 
 -- a map is its fields
-made-map : {lio lio′ : Lio} {ec ec′ bc bc′ mc mc′ sci sci′ : ℕ} {eios eios′ : List Eio} {bios bios′ : List Bio} {msis msis′ : List Msi} {lpc lpc′ : Lpc}
-    → lio ≡ lio′ → ec ≡ ec′ → eios ≡ eios′ → bc ≡ bc′ → bios ≡ bios′ → mc ≡ mc′ → msis ≡ msis′ → lpc ≡ lpc′ → sci ≡ sci′
+made-map : {lio lio′ : Lio} {ht ht′ : Ht} {ec ec′ bc bc′ mc mc′ sci sci′ : ℕ} {eios eios′ : List Eio} {bios bios′ : List Bio} {msis msis′ : List Msi} {lpc lpc′ : Lpc}
+    → lio ≡ lio′ → ht ≡ ht′ → ec ≡ ec′ → eios ≡ eios′ → bc ≡ bc′ → bios ≡ bios′ → mc ≡ mc′ → msis ≡ msis′ → lpc ≡ lpc′ → sci ≡ sci′
     → _≡_ {A = Map}
-    (record { lio = lio; eiocount = ec; eios = eios; biocount = bc; bios = bios; msicount = mc; msis = msis; lpc = lpc; sci = sci })
-    (record { lio = lio′; eiocount = ec′; eios = eios′; biocount = bc′; bios = bios′; msicount = mc′; msis = msis′; lpc = lpc′; sci = sci′ })
-made-map a b c d e f g h i = rw (a, b, c, d, e, f, g, h, i)
+    (record { lio = lio; ht = ht; eiocount = ec; eios = eios; biocount = bc; bios = bios; msicount = mc; msis = msis; lpc = lpc; sci = sci })
+    (record { lio = lio′; ht = ht′; eiocount = ec′; eios = eios′; biocount = bc′; bios = bios′; msicount = mc′; msis = msis′; lpc = lpc′; sci = sci′ })
+made-map a b c d e f g h i j = rw (a, b, c, d, e, f, g, h, i, j)
 
 -- THE PROMISE
 pub normal-maps-equal : (map other : Map) → NormalMapsEqual map other
@@ -80,6 +89,7 @@ normal-maps-equal map other n k same =
     let said = same .said in
     made-map
     (sym (lio-said (map .lio) (n .low) (n .high) (n .nolio)) ∙ ap (λ (s : Said). s .lio) said ∙ lio-said (other .lio) (k .low) (k .high) (k .nolio))
+    (sym (ht-said (map .ht) (n .noht)) ∙ ap (λ (s : Said). s .ht) said ∙ ht-said (other .ht) (k .noht))
     (same .eiocount)
     (same-array noEio _ _ _ _ (same .eiocount) (n .foureios) (k .foureios) (ap (λ (s : Said). s .eios) said) (n .eios) (k .eios))
     (same .biocount)

@@ -1,4 +1,4 @@
--- What 71 to 77, and 61 of the number of inputs, tell of the structures of a map.
+-- What 71 to 78, and 61 of the number of inputs, tell of the structures of a map.
 use Prim.Native.Nat.{ℕ, _+_, _<_, _≤_}
 use native.Mathlib.Omega.{arith}
 use mathlib.Core.Path.{_≡_, refl}
@@ -8,7 +8,7 @@ use lib.Dec.{eqb, leb}
 use lib.ListN.{length}
 use Rattle.words.specs.Choice.{if}
 use Rattle.words.proofs.Choices.{passed}
-use Rattle.kinds.specs.Ranges.{cascadeFits, nodeFits, countFits, endFits, baseFits, pinsFit, inputFits, halfFits, lioField, eioField, bioField, msiField, lpcField}
+use Rattle.kinds.specs.Ranges.{cascadeFits, nodeFits, countFits, endFits, baseFits, pinsFit, inputFits, halfFits, lioField, htField, eioField, bioField, msiField, lpcField}
 use Rattle.kinds.specs.Used.{noEio, noBio, noMsi}
 use Rattle.kinds.specs.declared.Half.{Half}
 use Rattle.kinds.specs.declared.Lio.{Lio}
@@ -81,7 +81,7 @@ half-used half h n =
 
 module _ (said : Said) (ranged : rangesKept said ≡ true) where
   abbrev l : Bool
-  l = eqb (lioField (said .lio)) 0
+  l = eqb (lioField (said .lio)) 0 && eqb (htField (said .ht)) 0
 
   to-msis : (l && eiosFit (said .eios) && biosFit (said .bios) && msisFit (said .msis)) ≡ true
   unfolding rangesKept
@@ -114,7 +114,7 @@ module _ (said : Said) (ranged : rangesKept said ≡ true) where
       (and-right (l && eiosFit (said .eios) && biosFit (said .bios)) (msisFit (said .msis)) to-msis) m k)
 
   halves : (halfFits (said .lio .low) ≡ true) × (halfFits (said .lio .high) ≡ true)
-  halves = lio-right (said .lio) (and-left l (eiosFit (said .eios)) to-eios)
+  halves = lio-right (said .lio) (and-left (eqb (lioField (said .lio)) 0) (eqb (htField (said .ht)) 0) (and-left l (eiosFit (said .eios)) to-eios))
 
   pub low-used : (said .lio .low .mask ≡ 0 → ⊥) → (2 ≤ said .lio .low .cascade) × (said .lio .low .cascade ≤ 9)
   low-used = half-used (said .lio .low) (halves .0)

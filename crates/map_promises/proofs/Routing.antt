@@ -5,16 +5,17 @@ use native.Mathlib.Nat.{add-sub-cancel-left}
 use native.Mathlib.Omega.{arith}
 use mathlib.Core.Path.{_≡_, sym, _∙_, ap}
 use mathlib.Core.Logic.{_⊎_, inl, inr, ⊎-elim}
-use mathlib.Core.Bool.{true, false}
+use mathlib.Core.Bool.{true, false, true≢false}
 use borrow.Author.Tests.{leb-true, ltb-true, le-leb, lt-ltb, le-ltb}
 use lib.Dec.{leb, ltb}
 use lib.ListN.{length}
 use Rattle.words.specs.Choice.{if}
 use Rattle.words.proofs.Choices.{yes-if}
-use Rattle.clashes.proofs.Logic.{and-left, and-right, both-true, or-neither}
-use Rattle.parts.specs.Inputs.{hasBit, wired, owns}
+use Rattle.clashes.proofs.Logic.{and-left, and-right, both-true, is-false}
+use Rattle.parts.specs.Inputs.{wired, isNamed, owns}
 use Rattle.kinds.specs.Used.{noBio}
 use Rattle.lines.specs.Says.{Said, says}
+use Rattle.lines.specs.Hubs.{hubs}
 use Rattle.lines.specs.Routes.{lioArrival, bioOwner, owner, arrivalOf, arrival, through}
 use Rattle.lines.specs.Rules.{keepsRules}
 use Rattle.lines.specs.Answers.{routeOf}
@@ -25,7 +26,7 @@ use Rattle.lines.specs.declared.Route.the-variants.{Arrives, NoOwner, Unwired}
 use Rattle.map_promises.specs.Sources.{input, pin, slot, bioAt, IsBehind}
 use Rattle.map_promises.specs.Routing.{IsSourced, IsUnwired, IsLpcLine, Rest, RouteIsSources, UnwiredExactly, NoOwnerExactly}
 use Rattle.map_promises.proofs.Bridges.{bridge-node}
-use Rattle.map_promises.proofs.Kept.{Good, good, bio-number}
+use Rattle.map_promises.proofs.Kept.{Good, good, named-wired, bio-number}
 use Rattle.map_promises.proofs.Logic.{order, is-bool, wired-small}
 use Rattle.map_promises.proofs.Members.{finds, found-or-not}
 use Rattle.map_promises.proofs.NoTwoAlike.{pin-at, every-source-arrives}
@@ -41,9 +42,14 @@ module _ (said : Said) where
   unfolding owner if
   owner-nobody n l p = rw (lt-ltb n 16 l, p)
 
-  pub owner-lio : (n : ℕ) → 16 ≤ n → n < 48 → owner said n ≡ LioInput (n - 16)
+  pub owner-lio : (n : ℕ) → 16 ≤ n → n < 48 → isNamed (said .ht) (n - 16) ≡ false → owner said n ≡ LioInput (n - 16)
   unfolding owner if
-  owner-lio n l h = rw (le-ltb n 16 l, lt-ltb n 48 h)
+  owner-lio n l h free = rw (le-ltb n 16 l, lt-ltb n 48 h, free)
+
+  -- a named input is nobody's
+  pub owner-named : (n : ℕ) → 16 ≤ n → n < 48 → isNamed (said .ht) (n - 16) ≡ true → owner said n ≡ Nobody
+  unfolding owner if
+  owner-named n l h named = rw (le-ltb n 16 l, lt-ltb n 48 h, named)
 
   pub owner-bio : (n : ℕ) → 48 ≤ n → owner said n ≡ bioOwner (said .bios) n
   unfolding owner if
@@ -57,9 +63,7 @@ routed map h n = yes-if _ _ _ h
 -- an input that is not wired
 not-wired : (said : Said) (i : ℕ) → wired (said .lio) i ≡ false → lioArrival (said .lio) i ≡ Unwired
 unfolding lioArrival if
-not-wired said i h =
-    let n = or-neither (hasBit (said .lio .low .mask) i) (hasBit (said .lio .high .mask) i) h in
-    rw (n .0, n .1)
+not-wired said i h = rw h
 
 module _ (map : Map) (kept : keepsRules map ≡ true) where
   abbrev said : Said
@@ -84,33 +88,35 @@ module _ (map : Map) (kept : keepsRules map ≡ true) where
   -- ---- where each kind of number is routed
   -- the LPC lines go where the pin of its bridge does
   pub lpc-line : (n : ℕ) → n < 16 → said .lpc .present ≡ true → (j : ℕ) → IsBehind said j
-      → routeOf map n ≡ through (said .eios) (bioAt said j .node) (said .lpc .cascade)
+      → routeOf map n ≡ through (hubs said) (bioAt said j .node) (said .lpc .cascade)
   unfolding arrivalOf
   lpc-line n l p j b =
-      routed map kept n ∙ ap (arrivalOf said) (owner-lpc said n l p) ∙ ap (λ node. through (said .eios) node (said .lpc .cascade)) (sym (bridge-node said j (b .1)))
+      routed map kept n ∙ ap (arrivalOf said) (owner-lpc said n l p) ∙ ap (λ node. through (hubs said) node (said .lpc .cascade)) (sym (bridge-node said j (b .1)))
 
-  input-routed : (i : ℕ) → i < 32 → routeOf map (16 + i) ≡ lioArrival (said .lio) i
+  input-routed : (i : ℕ) → i < 32 → isNamed (said .ht) i ≡ false → routeOf map (16 + i) ≡ lioArrival (said .lio) i
   unfolding arrivalOf
-  input-routed i l =
+  input-routed i l free =
       let same : 16 + i - 16 ≡ i = add-sub-cancel-left 16 i in
-      routed map kept (16 + i) ∙ rw (owner-lio said (16 + i) (omega arith) (omega arith), same)
+      routed map kept (16 + i) ∙ rw (owner-lio said (16 + i) (omega arith) (omega arith) (rw same free), same)
 
   pin-routed : (j v : ℕ) → j < length (said .bios) → v < bioAt said j .pins
-      → routeOf map (bioAt said j .base + v) ≡ through (said .eios) (bioAt said j .node) v
+      → routeOf map (bioAt said j .base + v) ≡ through (hubs said) (bioAt said j .node) v
   unfolding arrivalOf
   pin-routed j v k l =
       let base = bioAt said j .base in
       let f = bio-fits said (g .ranged) j k in
       let o = owner-bio said (base + v) (omega arith) ∙ owned j (base + v) k (omega arith) (omega arith) in
-      routed map kept (base + v) ∙ ap (arrivalOf said) o ∙ ap (through (said .eios) (bioAt said j .node)) (add-sub-cancel-left base v)
+      routed map kept (base + v) ∙ ap (arrivalOf said) o ∙ ap (through (hubs said) (bioAt said j .node)) (add-sub-cancel-left base v)
 
   route-is-source : RouteIsSources map
-  route-is-source (input i) n p e = ap (routeOf map) (sym e) ∙ input-routed i (wired-small (said .lio) i p)
+  route-is-source (input i) n p e = ap (routeOf map) (sym e) ∙ input-routed i (wired-small (said .lio) i (p .0)) (p .1)
   route-is-source (pin j v) n p e = ap (routeOf map) (sym e) ∙ pin-routed j v (p .0) (p .1)
   route-is-source (slot m s f) n p e = absurd e
 
   unwired-routed : (n : ℕ) → IsUnwired said n → routeOf map n ≡ Unwired
-  unwired-routed n u = ap (routeOf map) (sym (u .3)) ∙ input-routed (u .0) (u .1) ∙ not-wired said (u .0) (u .2)
+  unwired-routed n u =
+      let free = is-false (isNamed (said .ht) (u .0)) (λ t. true≢false (sym (named-wired said g (u .0) t) ∙ u .2)) in
+      ap (routeOf map) (sym (u .3)) ∙ input-routed (u .0) (u .1) free ∙ not-wired said (u .0) (u .2)
 
   -- ---- every number is of one kind
   -- it arrives somewhere
@@ -140,12 +146,17 @@ module _ (map : Map) (kept : keepsRules map ≡ true) where
       (is-bool (said .lpc .present))
 
   lio-kind : (n : ℕ) → 16 ≤ n → n < 48 → Kinds n
+  unfolding arrivalOf
   lio-kind n a b =
       let e : 16 + (n - 16) ≡ n = omega arith in
       ⊎-elim
+      (λ free.
+      ⊎-elim
       (λ no. inr (inr (inl (n - 16, omega arith, no, e))))
-      (λ yes. inr (inl (input (n - 16), yes, e)))
-      (is-bool (wired (said .lio) (n - 16)))
+      (λ yes. inr (inl (input (n - 16), (yes, free), e)))
+      (is-bool (wired (said .lio) (n - 16))))
+      (λ named. inr (inr (inr (routed map kept n ∙ rw (owner-named said n a b named)))))
+      (is-bool (isNamed (said .ht) (n - 16)))
 
   bio-kind : (n : ℕ) → 48 ≤ n → Kinds n
   unfolding arrivalOf bioOwner

@@ -10,7 +10,7 @@ use Rattle.kinds.specs.Ranges.{bitInBoth}
 use Rattle.lines.specs.Says.{Said, says, Same}
 use Rattle.lines.specs.Routes.{arrival}
 use Rattle.lines.specs.Traces.{traced}
-use Rattle.lines.specs.Rules.{tooMany, rangesKept, mapRules, firstBroken, keepsRules, slotPlaces}
+use Rattle.lines.specs.Rules.{tooMany, bothKinds, rangesKept, mapRules, firstBroken, keepsRules, slotPlaces}
 use Rattle.lines.specs.Answers.{routeOf, traceOf, badMap}
 use Rattle.lines.specs.declared.Map.{Map}
 use Rattle.lines.specs.declared.Route.the-variants.{Refused}
@@ -20,7 +20,7 @@ use Rattle.map_promises.specs.Statements.{SameAnswers}
 -- the rules look at the counts and at what is said
 abbrev keeps : Bool → Said → Bool
 keeps many said =
-    rangesKept said && not (bitInBoth (said .lio))
+    rangesKept said && not (bitInBoth (said .lio)) && not (bothKinds said)
     && isSound (firstRefusal (rule many 38 0 ∷ mapRules said slotPlaces 0 0))
 
 keeps-is : (map : Map) → keepsRules map ≡ keeps (tooMany map) (says map)

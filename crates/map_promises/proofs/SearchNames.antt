@@ -182,8 +182,9 @@ search-names rule l p q h =
         (a .0)
 
 -- 42: a claim that stands alone is named, and none before it does
-pub search-lone : (l : List Claim) (p : ℕ) → firstLone l ≡ At p → Least (lone l) l p × ((z : Claim) → List·Memᴰ z l → lone l z ≡ true → p ≤ z .place)
+pub search-lone : (nodes : List ℕ) (l : List Claim) (p : ℕ) → firstLone nodes l ≡ At p
+    → Least (lone nodes) l p × ((z : Claim) → List·Memᴰ z l → lone nodes z ≡ true → p ≤ z .place)
 unfolding firstLone lonelier
-search-lone l p h =
-    let r = fold-at (lone l) l Nowhere p h in
+search-lone nodes l p h =
+    let r = fold-at (lone nodes) l Nowhere p h in
     (⊎-elim (λ e. absurd (at-nowhere p (sym e))) (λ w. w) (r .0), r .2)

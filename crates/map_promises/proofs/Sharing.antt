@@ -15,11 +15,12 @@ use Rattle.clashes.specs.declared.Claim.{Claim}
 use Rattle.clashes.proofs.Logic.{and-left, and-right, or-cases, both-true}
 use Rattle.clashes.proofs.Symmetric.{core-of, of-core}
 use Rattle.lines.specs.Says.{Said}
+use Rattle.lines.specs.Hubs.{hubs}
 use Rattle.lines.specs.Rules.{rangesKept, slotPlaces}
 use Rattle.map_promises.specs.Sources.{Source, input, pin, slot, eioAt, bioAt, msiAt, IsSource, HasNumber, LandsOn}
 use Rattle.map_promises.specs.Structures.{Structure, lio, eio, bio, msi, IsIn, claimOf}
 use Rattle.map_promises.specs.Clashing.{structureOf, HasNode, Enters, ShareNode, ShareNumber, ShareVector, ShareCore, Sharing, TwoNumber, TwoVector}
-use Rattle.map_promises.proofs.Hubs.{Hub}
+use Rattle.map_promises.proofs.Hubs.{OwnHub}
 use Rattle.map_promises.proofs.Logic.{neq, order, wired-small}
 use Rattle.map_promises.proofs.Meetings.{Clash, Agrees}
 use Rattle.map_promises.proofs.Ranged.{eio-fits, bio-fits, msi-fits, low-used, high-used}
@@ -95,8 +96,8 @@ module _ (said : Said) (ranged : rangesKept said ≡ true) where
       → (g : ℕ) → HasNumber said x g → HasNumber said y g → Clash said 51 (structureOf x) (structureOf y)
   unfolding clash if
   number-clash (input i) (input j) p q n g u v = absurd (n refl)
-  number-clash (input i) (pin j w) p q n g u v = absurd (let f = bio-fits said ranged j (q .0) in omega (arith, wired-small (said .lio) i p))
-  number-clash (pin j w) (input i) p q n g u v = absurd (let f = bio-fits said ranged j (p .0) in omega (arith, wired-small (said .lio) i q))
+  number-clash (input i) (pin j w) p q n g u v = absurd (let f = bio-fits said ranged j (q .0) in omega (arith, wired-small (said .lio) i (p .0)))
+  number-clash (pin j w) (input i) p q n g u v = absurd (let f = bio-fits said ranged j (p .0) in omega (arith, wired-small (said .lio) i (q .0)))
   number-clash (input i) (slot k s e) p q n g u v = absurd v
   number-clash (pin j w) (slot k s e) p q n g u v = absurd v
   number-clash (slot k s e) y p q n g u v = absurd u
@@ -180,13 +181,13 @@ module _ (said : Said) (ranged : rangesKept said ≡ true) where
       → sharesVector x y ≡ true → ⊥
   no-vector x y z h = let r = vectors x y h in ⊎-elim (λ e. omega (arith, r .2)) (λ e. omega (arith, r .1)) z
 
-  -- here 40 and 42 are needed: there is an EIO for a slot, and one for a pin
-  module _ (some : length (said .eios) ≡ 0 → ⊥) (hub : (j : ℕ) → j < length (said .bios) → Hub said j) where
+  -- here 40 and 42 are needed: there is a hub for a slot, and one for a pin
+  module _ (some : length (hubs said) ≡ 0 → ⊥) (hub : (j : ℕ) → j < length (said .bios) → OwnHub said j) where
     two-slots : (i k s : ℕ) → i < length (said .msis) → k < length (said .msis)
         → msiAt said i .start ≤ s → s < msiAt said i .start + msiAt said i .count
         → msiAt said k .start ≤ s → s < msiAt said k .start + msiAt said k .count → ShareVector said (msi i) (msi k)
     two-slots i k s p q a c d e =
-        let z : 0 < length (said .eios) = omega (arith, some) in
+        let z : 0 < length (hubs said) = omega (arith, some) in
         (slot i s 0, slot k s 0, ((p, z, a, c), refl), ((q, z, d, e), refl), 0, s, z, (refl, refl), (refl, refl))
 
     vector-shared : (s t : Structure) → IsIn said s → IsIn said t → Clash said 52 s t → ShareVector said s t

@@ -1,4 +1,4 @@
--- A kind with four places, as a map holds it: the structures that there are, and behind them unused places.
+-- A kind with four places, as a map holds it: the structures that there are, and behind them unused places. And a kind with one.
 use Prim.Native.Nat.{ℕ, zero, suc, _<_, _≤_}
 use native.Mathlib.Omega.{arith}
 use mathlib.Core.Path.{_≡_, refl, sym}
@@ -6,7 +6,7 @@ use mathlib.Core.List.{List, [], _∷_, map}
 use mathlib.Core.Bool.{Bool, true}
 use lib.ListN.{length, take, getD}
 use Rattle.words.specs.Lists.{every}
-use Rattle.madt.specs.Contents.{inFour}
+use Rattle.madt.specs.Contents.{theOne, inFour}
 
 module _ {A : Type 0} (none : A) where
   -- what is said of the four places is the structures
@@ -17,6 +17,13 @@ module _ {A : Type 0} (none : A) where
   take-four (a ∷ b ∷ c ∷ []) few = refl
   take-four (a ∷ b ∷ c ∷ d ∷ []) few = refl
   take-four (a ∷ b ∷ c ∷ d ∷ e ∷ xs) few = absurd (omega arith)
+
+  -- of one structure at most it is the first
+  pub one-at : (xs : List A) → length xs ≤ 1 → theOne none xs ≡ getD xs 0 none
+  unfolding theOne
+  one-at [] few = refl
+  one-at (a ∷ []) few = refl
+  one-at (a ∷ b ∷ xs) few = absurd (omega arith)
 
   -- behind the last element there is none
   pub past : (xs : List A) (i : ℕ) → length xs ≤ i → getD xs i none ≡ none

@@ -3,7 +3,7 @@ use Prim.Native.Nat.{ℕ, _+_, _-_, _<_, _≤_}
 use native.Mathlib.Omega.{arith}
 use mathlib.Core.Path.{_≡_, refl, sym, _∙_, ap, subst}
 use mathlib.Core.Logic.{_⊎_, inl, inr, ⊎-elim}
-use mathlib.Core.Bool.{Bool, true, false, _||_}
+use mathlib.Core.Bool.{Bool, true, false}
 use borrow.Author.Tests.{eq-eqb, leb-true, ltb-true}
 use lib.Dec.{leb, ltb}
 use lib.ListN.{length}
@@ -12,8 +12,9 @@ use Rattle.words.specs.Refusals.{rule}
 use Rattle.words.proofs.Choices.{yes-if}
 use Rattle.kinds.specs.Used.{noBio}
 use Rattle.clashes.proofs.Logic.{and-left, and-right}
-use Rattle.parts.specs.Inputs.{hasBit, wired, owns}
+use Rattle.parts.specs.Inputs.{wired, coreOf, isNamed, owns}
 use Rattle.lines.specs.Says.{Said, says}
+use Rattle.lines.specs.Hubs.{hubs}
 use Rattle.lines.specs.Routes.{lioArrival, bioOwner, arrivalOf, through}
 use Rattle.lines.specs.Rules.{keepsRules}
 use Rattle.lines.specs.Answers.{routeOf, traceOf}
@@ -27,7 +28,7 @@ use Rattle.map_promises.proofs.Bridges.{only-first, none-as-before, inp
 use Rattle.map_promises.proofs.Kept.{Good, good}
 use Rattle.map_promises.proofs.Logic.{order, is-bool}
 use Rattle.map_promises.proofs.Members.{found-or-not}
-use Rattle.map_promises.proofs.Routing.{owner-nobody, owner-lio, owner-bio, routed, lpc-line}
+use Rattle.map_promises.proofs.Routing.{owner-nobody, owner-lio, owner-named, owner-bio, routed, lpc-line}
 use Rattle.map_promises.proofs.Tracing.{tracing-names}
 
 -- an answer that is no arrival
@@ -37,12 +38,11 @@ not-arrived v k h = let z : _≡_ {A = ℕ} 0 1 = cc in omega arith
 -- an input that arrives is wired
 wired-of : (said : Said) (i v k : ℕ) → lioArrival (said .lio) i ≡ Arrives v k → wired (said .lio) i ≡ true
 unfolding lioArrival if
-wired-of said i v k h = go (hasBit (said .lio .low .mask) i) (hasBit (said .lio .high .mask) i) h
+wired-of said i v k h = go (wired (said .lio) i) h
   where
-    go : (a b : Bool) → if a (Arrives (said .lio .low .cascade) i) (if b (Arrives (said .lio .high .cascade) i) Unwired) ≡ Arrives v k → (a || b) ≡ true
-    go true b h = refl
-    go false true h = refl
-    go false false h = absurd (let z : _≡_ {A = ℕ} 0 1 = cc in omega arith)
+    go : (a : Bool) → if a (Arrives (coreOf (said .lio) i) i) Unwired ≡ Arrives v k → a ≡ true
+    go true h = refl
+    go false h = absurd (let z : _≡_ {A = ℕ} 0 1 = cc in omega arith)
 
 module _ (map : Map) (kept : keepsRules map ≡ true) where
   abbrev said : Said
@@ -58,10 +58,14 @@ module _ (map : Map) (kept : keepsRules map ≡ true) where
   back-lio : (n v k : ℕ) → 16 ≤ n → n < 48 → routeOf map n ≡ Arrives v k → Tells n (traceOf map v k)
   unfolding arrivalOf
   back-lio n v k a b q =
-      let r : lioArrival (said .lio) (n - 16) ≡ Arrives v k = rw (routed map kept n, owner-lio said n a b) at q in
-      let t = tracing-names map kept (input (n - 16)) v k (wired-of said (n - 16) v k r) .0 r in
+      ⊎-elim
+      (λ free.
+      let r : lioArrival (said .lio) (n - 16) ≡ Arrives v k = rw (routed map kept n, owner-lio said n a b free) at q in
+      let t = tracing-names map kept (input (n - 16)) v k (wired-of said (n - 16) v k r, free) .0 r in
       let e : 16 + (n - 16) ≡ n = omega arith in
-      inl (t ∙ ap LioTold e)
+      inl (t ∙ ap LioTold e))
+      (λ named. absurd (not-arrived v k (rw (routed map kept n, owner-named said n a b named) at q)))
+      (is-bool (isNamed (said .ht) (n - 16)))
 
   told-as : (j v n : ℕ) → bioAt said j .base + v ≡ n → (name said (pin j v) ≡ BioTold n) ⊎ (name said (pin j v) ≡ LpcCascade n)
   unfolding if
@@ -82,7 +86,7 @@ module _ (map : Map) (kept : keepsRules map ≡ true) where
       let end = bioAt said j .base + bioAt said j .pins in
       let low : bioAt said j .base ≤ n = leb-true _ _ (and-left (leb (bioAt said j .base) n) (ltb n end) (w .2)) in
       let high : n < end = ltb-true _ _ (and-right (leb (bioAt said j .base) n) (ltb n end) (w .2)) in
-      let r : through (said .eios) (bioAt said j .node) (n - bioAt said j .base) ≡ Arrives v k =
+      let r : through (hubs said) (bioAt said j .node) (n - bioAt said j .base) ≡ Arrives v k =
       rw (routed map kept n, owner-bio said n a, w .3) at q in
       let t = tracing-names map kept (pin j (n - bioAt said j .base)) v k (w .1, omega arith) .0 r in
       let e : bioAt said j .base + (n - bioAt said j .base) ≡ n = omega arith in

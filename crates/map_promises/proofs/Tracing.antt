@@ -1,71 +1,89 @@
 -- Tracing an arrival back names the source that arrives there, and says nothing exactly where none does.
-use Prim.Native.Nat.{ℕ, _+_, _<_, _≤_}
+use Prim.Native.Nat.{ℕ, _+_, _-_, _<_, _≤_}
+use native.Mathlib.Nat.{add-sub-cancel-left}
 use native.Mathlib.Omega.{arith}
 use mathlib.Core.Path.{_≡_, refl, sym, _∙_, ap, ap₂}
 use mathlib.Core.Logic.{_⊎_, inl, inr, ⊎-elim}
 use mathlib.Core.Bool.{Bool, true, false, not, _&&_, _||_}
-use borrow.Author.Tests.{eqb-true, eq-eqb, ne-eqb, leb-true, ltb-true, le-leb, lt-ltb}
+use borrow.Author.Tests.{eqb-true, eq-eqb, ne-eqb, not-true, leb-true, ltb-true, le-leb, lt-ltb}
 use lib.Dec.{eqb, leb, ltb}
 use lib.ListN.{length, getD, take, length-take}
 use lib.Seq.{getD-take}
 use Rattle.words.specs.Choice.{if}
 use Rattle.words.proofs.Choices.{yes-if, no-if}
-use Rattle.kinds.specs.Used.{noEio, noBio, noMsi}
+use Rattle.kinds.specs.Used.{noBio, noMsi}
 use Rattle.kinds.specs.declared.Half.{Half}
 use Rattle.clashes.proofs.Logic.{and-left, and-right, or-cases, both-true, left-true, right-true, is-false}
-use Rattle.parts.specs.Inputs.{hasBit, leads, hasSlot, hasPin, isBridge}
+use Rattle.parts.specs.Inputs.{hasBit, wired, leads, coreOf, isNamed, hasSlot, hasPin, isBridge}
 use Rattle.lines.specs.Says.{Said, says}
-use Rattle.lines.specs.Routes.{lioArrival}
-use Rattle.lines.specs.Traces.{slotTold, isLpcPin, pinTold, landed, eioTraced, traced}
+use Rattle.lines.specs.Hubs.{hubs, enters}
+use Rattle.lines.specs.Traces.{slotTold, isLpcPin, pinTold, landed, comesBy, hubTraced, ledByLio, traced}
 use Rattle.lines.specs.Rules.{keepsRules}
 use Rattle.lines.specs.Answers.{traceOf}
 use Rattle.lines.specs.declared.Map.{Map}
 use Rattle.lines.specs.declared.Route.the-variants.{Arrives}
 use Rattle.lines.specs.declared.Trace.the-variants.{Nothing, LioInput, BioInput, LpcCascade, MsiSlot}
-use Rattle.map_promises.specs.Sources.{Source, input, pin, slot, eioAt, bioAt, msiAt, IsSource, arrives, isLpcBridge, isShared, name}
+use Rattle.map_promises.specs.Sources.{Source, input, pin, slot, noHub, hubAt, bioAt, msiAt, IsSource, arrives, isLpcBridge, isShared, name}
 use Rattle.map_promises.specs.Statements.{TracingNames, Arrived, NothingExactly}
-use Rattle.map_promises.proofs.Kept.{Good, good, eio-node, eio-core, eio-not-lio, bio-node, bio-number, bio-msi, msi-slot}
-use Rattle.map_promises.proofs.Logic.{is-bool, same-bool, both-bits, bit-used}
+use Rattle.map_promises.proofs.Kept.{Good, good, hub-node, hub-core, hub-not-lio, bio-node, bio-number, bio-msi, msi-slot}
+use Rattle.map_promises.proofs.Logic.{is-bool, same-bool, both-bits, wired-small}
 use Rattle.map_promises.proofs.Members.{at-every, finds, finds-none, found-or-not}
-use Rattle.map_promises.proofs.NoTwoAlike.{input-at, through-at, pin-at}
+use Rattle.map_promises.proofs.NoTwoAlike.{core-at, input-at, of-arrives, input-enters, through-at, pin-at}
 
 -- a half leads an input
 led : (half : Half) (v i : ℕ) → v ≡ half .cascade → hasBit (half .mask) i ≡ true → leads half v i ≡ true
 led half v i e b = both-true (eqb (half .cascade) v) (hasBit (half .mask) i) (eq-eqb _ _ (sym e)) b
 
--- and is used
-of-led : (half : Half) (v i : ℕ) → leads half v i ≡ true → (half .mask ≡ 0 → ⊥) × (half .cascade ≡ v)
-of-led half v i h =
-    let here = eqb (half .cascade) v in
-    let wired = hasBit (half .mask) i in
-    (bit-used (half .mask) i (and-right here wired h), eqb-true (half .cascade) v (and-left here wired h))
-
 module _ (said : Said) (g : Good said) where
-  -- nothing is led by the LIO to the cascade of an EIO
-  not-led : (e k : ℕ) → e < length (said .eios)
-      → (leads (said .lio .low) (eioAt said e .cascade) k || leads (said .lio .high) (eioAt said e .cascade) k) ≡ false
-  not-led e k l =
-      let v = eioAt said e .cascade in
+  -- a half leads an input: there it arrives, if it is not named
+  led-at : (v i : ℕ) → ledByLio said v i ≡ true → (wired (said .lio) i ≡ true) × (isNamed (said .ht) i ≡ false) × (coreOf (said .lio) i ≡ v)
+  unfolding ledByLio coreOf if
+  led-at v i t =
       let low = said .lio .low in
       let high = said .lio .high in
-      is-false (leads low v k || leads high v k)
+      let led = leads low v i || leads high v i in
+      let free = not-true (isNamed (said .ht) i) (and-right led (not (isNamed (said .ht) i)) t) in
+      ⊎-elim
+      (λ r.
+      let b = and-right (eqb (low .cascade) v) (hasBit (low .mask) i) r in
+      let e : low .cascade ≡ v = eqb-true _ _ (and-left (eqb (low .cascade) v) (hasBit (low .mask) i) r) in
+      (left-true (hasBit (low .mask) i) (hasBit (high .mask) i) b, free, rw b e))
+      (λ r.
+      let b = and-right (eqb (high .cascade) v) (hasBit (high .mask) i) r in
+      let e : high .cascade ≡ v = eqb-true _ _ (and-left (eqb (high .cascade) v) (hasBit (high .mask) i) r) in
+      let n : hasBit (low .mask) i ≡ false = is-false (hasBit (low .mask) i) (λ q. both-bits (low .mask) (high .mask) i (g .masks) q b) in
+      (right-true (hasBit (low .mask) i) (hasBit (high .mask) i) b, free, rw (n, b) e))
+      (or-cases (leads low v i) (leads high v i) (and-left led (not (isNamed (said .ht) i)) t))
+
+  -- nothing is led by the LIO to where a hub leads a vector
+  not-led : (e k : ℕ) → e < length (hubs said) → ledByLio said (hubAt said e .core k) (hubAt said e .above + k) ≡ false
+  not-led e k l =
+      let i = hubAt said e .above + k in
+      is-false (ledByLio said (hubAt said e .core k) i)
       (λ t.
-      eio-not-lio said g e l
-      (⊎-elim
-      (λ r. inl (of-led low v k r))
-      (λ r. inr (of-led high v k r))
-      (or-cases (leads low v k) (leads high v k) t)))
+      let w = led-at (hubAt said e .core k) i t in
+      hub-not-lio said g e k i l refl (wired-small (said .lio) i (w .0)) (input-enters said g i (hubAt said e .core k) (w .0) (w .2)))
 
-  -- what enters by the EIO at a place landed on it
-  eio-at : (e k : ℕ) → e < length (said .eios) → eioTraced said (eioAt said e .cascade) k ≡ landed said (eioAt said e .node) k
-  unfolding eioTraced
-  eio-at e k l =
-      finds noEio (λ x. eqb (x .cascade) (eioAt said e .cascade)) (λ x. landed said (x .node) k) Nothing (said .eios) e l (eq-eqb (eioAt said e .cascade) _ refl)
-      (λ j h t. ap (λ i. landed said (eioAt said i .node) k) (eio-core said g j e h l (eqb-true _ _ t)))
+  -- what enters by the hub at a place landed on it
+  hub-at : (e k : ℕ) → e < length (hubs said) → hubTraced said (hubAt said e .core k) (hubAt said e .above + k) ≡ landed said (hubAt said e .node) k
+  unfolding hubTraced comesBy
+  hub-at e k l =
+      let h = hubAt said e in
+      let n = h .above + k in
+      let same : n - h .above ≡ k = add-sub-cancel-left (h .above) k in
+      finds noHub (comesBy (h .core k) n) (λ x. landed said (x .node) (n - x .above)) Nothing (hubs said) e l
+      (both-true (leb (h .above) n) (eqb (h .core (n - h .above)) (h .core k)) (le-leb (h .above) n (omega arith)) (eq-eqb _ _ (ap (h .core) same)))
+      (λ j m t.
+      let x = hubAt said j in
+      let more : x .above ≤ n = leb-true _ _ (and-left (leb (x .above) n) (eqb (x .core (n - x .above)) (h .core k)) t) in
+      let core = eqb-true _ _ (and-right (leb (x .above) n) (eqb (x .core (n - x .above)) (h .core k)) t) in
+      let one = hub-core said g j e (n - x .above) k m l core (omega arith) in
+      ap (λ i. landed said (hubAt said i .node) (n - hubAt said i .above)) (one .0))
+      ∙ ap (landed said (h .node)) same
 
-  traced-eio : (e k : ℕ) → e < length (said .eios) → traced said (eioAt said e .cascade) k ≡ landed said (eioAt said e .node) k
+  traced-hub : (e k : ℕ) → e < length (hubs said) → traced said (hubAt said e .core k) (hubAt said e .above + k) ≡ landed said (hubAt said e .node) k
   unfolding traced
-  traced-eio e k l = no-if _ _ _ (not-led e k l) (eio-at e k l)
+  traced-hub e k l = no-if _ _ _ (not-led e k l) (hub-at e k l)
 
   -- a BIO of the LPC's node is its bridge, since by 52 no other has that node
   is-lpc-bridge : (j : ℕ) → j < length (said .bios) → isBridge (said .lpc) (bioAt said j) ≡ isLpcBridge said j
@@ -88,7 +106,7 @@ module _ (said : Said) (g : Good said) where
       ap (λ (t : Bool). if (said .lpc .present && eqb (said .lpc .cascade) v && t) (LpcCascade (bioAt said j .base + v)) (BioInput (bioAt said j .base + v)))
       (is-lpc-bridge j there)
 
-  -- a pin lands on the EIO of its bridge's node
+  -- a pin lands on the hub of its bridge's node
   landed-pin : (j v : ℕ) → j < length (said .bios) → v < bioAt said j .pins → landed said (bioAt said j .node) v ≡ pinTold (said .lpc) v (bioAt said j)
   unfolding landed hasPin
   landed-pin j v k l =
@@ -98,7 +116,7 @@ module _ (said : Said) (g : Good said) where
       ap (λ n. pinTold (said .lpc) v (bioAt said n))
       (bio-node said g i j h k (eqb-true _ _ (and-left (eqb (bioAt said i .node) (bioAt said j .node)) (ltb v (bioAt said i .pins)) t))))
 
-  -- a slot is on every EIO
+  -- a slot is on every hub
   slot-at : (m s node : ℕ) → m < length (said .msis) → msiAt said m .start ≤ s → s < msiAt said m .start + msiAt said m .count
       → slotTold (said .msis) node s ≡ MsiSlot node s
   unfolding slotTold
@@ -115,52 +133,40 @@ module _ (said : Said) (g : Good said) where
       ∙ slot-at m s node k p q
 
   pub names : (x : Source) (v k : ℕ) → IsSource said x → arrives said x ≡ Arrives v k → traced said v k ≡ name said x
-  unfolding traced
+  unfolding traced ledByLio
   names (input i) v k p q =
-      let w = input-at (said .lio) i p in
-      let r : Arrives (w .0) i ≡ Arrives v k = sym (w .1) ∙ q in
-      let ev : v ≡ w .0 = cc in
-      let ek : i ≡ k = cc in
-      let t : (leads (said .lio .low) v i || leads (said .lio .high) v i) ≡ true =
-      ⊎-elim
-      (λ h. left-true (leads (said .lio .low) v i) (leads (said .lio .high) v i) (led (said .lio .low) v i (ev ∙ h .0) (h .1)))
-      (λ h. right-true (leads (said .lio .low) v i) (leads (said .lio .high) v i) (led (said .lio .high) v i (ev ∙ h .0) (h .1)))
-      (w .2) in
-      rw (sym ek) (yes-if _ _ _ t)
-  names (pin j n) v k p q =
-      let w = pin-at said g j n (p .0) in
-      let r : Arrives (eioAt said (w .0) .cascade) n ≡ Arrives v k = sym (w .3) ∙ q in
-      let ev : eioAt said (w .0) .cascade ≡ v = cc in
-      let ek : n ≡ k = cc in
-      ap₂ (traced said) (sym ev) (sym ek) ∙ traced-eio (w .0) n (w .1) ∙ ap (λ a. landed said a n) (w .2) ∙ landed-pin j n (p .0) (p .1)
-      ∙ pin-told j n (p .0)
-  names (slot m s e) v k p q =
-      let ev : eioAt said e .cascade ≡ v = cc in
-      let ek : s ≡ k = cc in
-      ap₂ (traced said) (sym ev) (sym ek) ∙ traced-eio e s (p .1) ∙ landed-slot m s (eioAt said e .node) (p .0) (p .2) (p .3)
-
-  -- ---- a source, or nothing is told
-  of-lio : (v k : ℕ) → (leads (said .lio .low) v k || leads (said .lio .high) v k) ≡ true → Arrived said v k
-  unfolding lioArrival if
-  of-lio v k t =
+      let r = of-arrives (sym (input-at (said .lio) i (p .0)) ∙ q) in
       let low = said .lio .low in
       let high = said .lio .high in
+      let t : (leads low v i || leads high v i) ≡ true =
       ⊎-elim
-      (λ r.
-      let b = and-right (eqb (low .cascade) v) (hasBit (low .mask) k) r in
-      let e : low .cascade ≡ v = eqb-true _ _ (and-left (eqb (low .cascade) v) (hasBit (low .mask) k) r) in
-      (input k, left-true (hasBit (low .mask) k) (hasBit (high .mask) k) b, rw (b, e)))
-      (λ r.
-      let b = and-right (eqb (high .cascade) v) (hasBit (high .mask) k) r in
-      let e : high .cascade ≡ v = eqb-true _ _ (and-left (eqb (high .cascade) v) (hasBit (high .mask) k) r) in
-      let n : hasBit (low .mask) k ≡ false = is-false (hasBit (low .mask) k) (λ q. both-bits (low .mask) (high .mask) k (g .masks) q b) in
-      (input k, right-true (hasBit (low .mask) k) (hasBit (high .mask) k) b, rw (n, b, e)))
-      (or-cases (leads low v k) (leads high v k) t)
+      (λ h. left-true (leads low v i) (leads high v i) (led low v i (sym (r .0) ∙ h .0) (h .1)))
+      (λ h. right-true (leads low v i) (leads high v i) (led high v i (sym (r .0) ∙ h .0) (h .1)))
+      (core-at (said .lio) i (p .0)) in
+      rw (sym (r .1)) (yes-if _ _ _ (rw (t, p .1)))
+  names (pin j n) v k p q =
+      let w = pin-at said g j n (p .0) in
+      let r = of-arrives (sym (w .3) ∙ q) in
+      ap₂ (traced said) (sym (r .0)) (sym (r .1)) ∙ traced-hub (w .0) n (w .1) ∙ ap (λ a. landed said a n) (w .2) ∙ landed-pin j n (p .0) (p .1)
+      ∙ pin-told j n (p .0)
+  names (slot m s e) v k p q =
+      let r = of-arrives q in
+      ap₂ (traced said) (sym (r .0)) (sym (r .1)) ∙ traced-hub e s (p .1) ∙ landed-slot m s (hubAt said e .node) (p .0) (p .2) (p .3)
 
-  of-slot : (e v k : ℕ) → e < length (said .eios) → eioAt said e .cascade ≡ v
-      → Arrived said v k ⊎ (slotTold (said .msis) (eioAt said e .node) k ≡ Nothing)
+  -- ---- a source, or nothing is told
+  of-lio : (v k : ℕ) → ledByLio said v k ≡ true → Arrived said v k
+  of-lio v k t =
+      let w = led-at v k t in
+      (input k, (w .0, w .1), input-at (said .lio) k (w .0) ∙ ap (λ c. Arrives c k) (w .2))
+
+  -- vector k of the hub at a place enters a core vector with a number
+  abbrev LeadsTo : ℕ → ℕ → ℕ → ℕ → Type 0
+  LeadsTo e k v n = enters (hubAt said e) k ≡ Arrives v n
+
+  of-slot : (e k v n : ℕ) → e < length (hubs said) → LeadsTo e k v n
+      → Arrived said v n ⊎ (slotTold (said .msis) (hubAt said e .node) k ≡ Nothing)
   unfolding slotTold
-  of-slot e v k l q =
+  of-slot e k v n l q =
       ⊎-elim
       (λ w.
       let s = msiAt said (w .0) in
@@ -172,38 +178,48 @@ module _ (said : Said) (g : Good said) where
           leb-true _ _ (and-left (leb (s .start) k) (ltb k (s .start + s .count)) (w .2)),
           ltb-true _ _ (and-right (leb (s .start) k) (ltb k (s .start + s .count)) (w .2)),
         ),
-        ap (λ n. Arrives n k) q,
+        q,
       ))
       (λ w. inr (w .1))
-      (found-or-not noMsi (hasSlot k) (λ _. MsiSlot (eioAt said e .node) k) Nothing (said .msis))
+      (found-or-not noMsi (hasSlot k) (λ _. MsiSlot (hubAt said e .node) k) Nothing (said .msis))
 
-  of-eio : (e v k : ℕ) → e < length (said .eios) → eioAt said e .cascade ≡ v
-      → Arrived said v k ⊎ (landed said (eioAt said e .node) k ≡ Nothing)
+  of-hub : (e k v n : ℕ) → e < length (hubs said) → LeadsTo e k v n
+      → Arrived said v n ⊎ (landed said (hubAt said e .node) k ≡ Nothing)
   unfolding landed hasPin
-  of-eio e v k l q =
+  of-hub e k v n l q =
       ⊎-elim
       (λ w.
       let t = w .2 in
-      let node = eqb-true _ _ (and-left (eqb (bioAt said (w .0) .node) (eioAt said e .node)) (ltb k (bioAt said (w .0) .pins)) t) in
+      let node = eqb-true _ _ (and-left (eqb (bioAt said (w .0) .node) (hubAt said e .node)) (ltb k (bioAt said (w .0) .pins)) t) in
       inl (
         pin (w .0) k,
-        (w .1, ltb-true k _ (and-right (eqb (bioAt said (w .0) .node) (eioAt said e .node)) (ltb k (bioAt said (w .0) .pins)) t)),
-        through-at said g e (bioAt said (w .0) .node) k l (sym node) ∙ ap (λ n. Arrives n k) q,
+        (w .1, ltb-true k _ (and-right (eqb (bioAt said (w .0) .node) (hubAt said e .node)) (ltb k (bioAt said (w .0) .pins)) t)),
+        through-at said g e (bioAt said (w .0) .node) k l (sym node) ∙ q,
       ))
-      (λ w. ⊎-elim inl (λ z. inr (w .1 ∙ z)) (of-slot e v k l q))
-      (found-or-not noBio (hasPin (eioAt said e .node) k) (pinTold (said .lpc) k) (slotTold (said .msis) (eioAt said e .node) k) (said .bios))
+      (λ w. ⊎-elim inl (λ z. inr (w .1 ∙ z)) (of-slot e k v n l q))
+      (found-or-not noBio (hasPin (hubAt said e .node) k) (pinTold (said .lpc) k) (slotTold (said .msis) (hubAt said e .node) k) (said .bios))
 
-  pub source-or-nothing : (v k : ℕ) → Arrived said v k ⊎ (traced said v k ≡ Nothing)
-  unfolding traced eioTraced
-  source-or-nothing v k =
+  -- what comes by a hub is a vector of it
+  comes : (e v n : ℕ) → comesBy v n (hubAt said e) ≡ true → LeadsTo e (n - hubAt said e .above) v n
+  unfolding comesBy
+  comes e v n t =
+      let h = hubAt said e in
+      let more : h .above ≤ n = leb-true _ _ (and-left (leb (h .above) n) (eqb (h .core (n - h .above)) v) t) in
+      let core : h .core (n - h .above) ≡ v = eqb-true _ _ (and-right (leb (h .above) n) (eqb (h .core (n - h .above)) v) t) in
+      let number : h .above + (n - h .above) ≡ n = omega arith in
+      ap₂ Arrives core number
+
+  pub source-or-nothing : (v n : ℕ) → Arrived said v n ⊎ (traced said v n ≡ Nothing)
+  unfolding traced hubTraced
+  source-or-nothing v n =
       ⊎-elim
       (λ no.
       ⊎-elim
-      (λ w. ⊎-elim inl (λ z. inr (no-if _ _ _ no (w .3 ∙ z))) (of-eio (w .0) v k (w .1) (eqb-true _ _ (w .2))))
+      (λ w. ⊎-elim inl (λ z. inr (no-if _ _ _ no (w .3 ∙ z))) (of-hub (w .0) (n - hubAt said (w .0) .above) v n (w .1) (comes (w .0) v n (w .2))))
       (λ w. inr (no-if _ _ _ no (w .1)))
-      (found-or-not noEio (λ x. eqb (x .cascade) v) (λ x. landed said (x .node) k) Nothing (said .eios)))
-      (λ yes. inl (of-lio v k yes))
-      (is-bool (leads (said .lio .low) v k || leads (said .lio .high) v k))
+      (found-or-not noHub (comesBy v n) (λ x. landed said (x .node) (n - x .above)) Nothing (hubs said)))
+      (λ yes. inl (of-lio v n yes))
+      (is-bool (ledByLio said v n))
 
   -- a source's name is not nothing
   pub named : (x : Source) → name said x ≡ Nothing → ⊥
@@ -261,14 +277,14 @@ module _ (said : Said) (g : Good said) where
       pins-one i j v w p q
       (pin-number (isShared said i v) (isShared said j w) (bioAt said i .base + v) (bioAt said j .base + w) e)
   one-name (pin j v) (slot m s f) p q e =
-      absurd (pin-not-slot (isShared said j v) (bioAt said j .base + v) (eioAt said f .node) s e)
+      absurd (pin-not-slot (isShared said j v) (bioAt said j .base + v) (hubAt said f .node) s e)
   one-name (slot m s f) (input i) p q e = absurd (let o : _≡_ {A = ℕ} 0 1 = cc in omega arith)
   one-name (slot m s f) (pin j v) p q e =
-      absurd (pin-not-slot (isShared said j v) (bioAt said j .base + v) (eioAt said f .node) s (sym e))
+      absurd (pin-not-slot (isShared said j v) (bioAt said j .base + v) (hubAt said f .node) s (sym e))
   one-name (slot m s f) (slot m′ s′ f′) p q e =
-      let node : eioAt said f .node ≡ eioAt said f′ .node = cc in
+      let node : hubAt said f .node ≡ hubAt said f′ .node = cc in
       let number : s ≡ s′ = cc in
-      let a = eio-node said g f f′ (p .1) (q .1) node in
+      let a = hub-node said g f f′ (p .1) (q .1) node in
       let b = msi-slot said g m m′ s (p .0) (q .0) (p .2) (p .3) (omega (arith, q .2)) (omega (arith, q .3)) in
       cc
 

@@ -1,4 +1,4 @@
--- What is said of a LIO and of an LPC, said again, is the same; and what is not used in it is 0.
+-- What is said of a LIO, of an HT and of an LPC, said again, is the same; and what is not used in it is 0.
 use mathlib.Core.Path.{_≡_, refl, sym, _∙_, ap}
 use mathlib.Core.Bool.{Bool, true, false, true≢false}
 use borrow.Author.Tests.{eqb-true, eq-eqb}
@@ -6,9 +6,10 @@ use lib.Dec.{eqb}
 use Rattle.words.specs.Choice.{if}
 use Rattle.words.proofs.Choices.{yes-if, no-if, if-cases}
 use Rattle.kinds.specs.Ranges.{halfFits}
-use Rattle.kinds.specs.Used.{noHalf, usedHalf, saidLio, noLpc, saidLpc}
+use Rattle.kinds.specs.Used.{noHalf, usedHalf, saidLio, noHt, saidHt, noLpc, saidLpc}
 use Rattle.kinds.specs.declared.Half.{Half}
 use Rattle.kinds.specs.declared.Lio.{Lio}
+use Rattle.kinds.specs.declared.Ht.{Ht}
 use Rattle.kinds.specs.declared.Lpc.{Lpc}
 
 pub half-mask : (half : Half) → usedHalf half .mask ≡ half .mask
@@ -31,7 +32,7 @@ half-again half = go (eqb (half .mask) 0) refl
     go true e = refl
     go false e = no-if _ _ _ e refl
 
--- an unused half says 0, and so does a LIO or an LPC that is absent
+-- an unused half says 0, and so does a LIO, an HT or an LPC that is absent
 half-unused : (half : Half) → usedHalf half ≡ half → half .mask ≡ 0 → half .cascade ≡ 0
 unfolding usedHalf if
 half-unused half e m = let z : noHalf ≡ half = rw (eq-eqb (half .mask) 0 m) at e in ap (λ (x : Half). x .cascade) (sym z)
@@ -60,6 +61,10 @@ lio-unused x false p e =
     let low : x .low ≡ noHalf = ap (λ (y : Lio). y .low) (sym z) in
     let high : x .high ≡ noHalf = ap (λ (y : Lio). y .high) (sym z) in
     ((λ m. ap (λ (h : Half). h .cascade) low), (λ m. ap (λ (h : Half). h .cascade) high), λ q. (low, high))
+
+pub ht-unused : (x : Ht) → saidHt x ≡ x → x .present ≡ false → x ≡ noHt
+unfolding saidHt
+ht-unused x e p = sym e ∙ no-if _ _ _ p refl
 
 pub lpc-unused : (x : Lpc) → saidLpc x ≡ x → x .present ≡ false → x ≡ noLpc
 unfolding saidLpc

@@ -18,7 +18,9 @@ use Rattle.clashes.specs.declared.Spot.the-variants.{At, Nowhere}
 use Rattle.clashes.specs.declared.Pair.{Pair}
 use Rattle.clashes.specs.declared.Pair.the-variants.{Two, None}
 use Rattle.clashes.proofs.Logic.{or-neither}
+use Rattle.parts.specs.Inputs.{namesUnwired}
 use Rattle.lines.specs.Says.{Said}
+use Rattle.lines.specs.Hubs.{hubs}
 use Rattle.lines.specs.Routes.{arrival}
 use Rattle.clashes.specs.Told.{atLater, atBoth, spotted}
 use Rattle.lines.specs.Rules.{rule40, noBridge, noInput, lost, rulesTo45, rulesFrom51, mapRules}
@@ -86,17 +88,17 @@ rule-read broken number place n p q h =
       if-cases (λ v. v ≡ Refused (refusedWith n p q) → broken ≡ true) broken _ _ (λ t e. t) (λ t e. not-sound (sym e)) h,
     )
 
--- 40: there is an EIO
-pub eio-there : (said : Said) (madt : ℕ) → rule40 said madt ≡ Sound → length (said .eios) ≡ 0 → ⊥
-eio-there said madt h =
+-- 40: there is a hub
+pub hub-there : (said : Said) (madt : ℕ) → rule40 said madt ≡ Sound → length (hubs said) ≡ 0 → ⊥
+hub-there said madt h =
     let absent = not (said .lio .present) in
-    let none = eqb (length (said .eios)) 0 in
-    eqb-false (length (said .eios)) 0 (or-neither absent none (rule-kept (absent || none) 40 madt h) .1)
+    let none = eqb (length (hubs said)) 0 in
+    eqb-false (length (hubs said)) 0 (or-neither absent none (rule-kept (absent || none) 40 madt h) .1)
 
 -- ---- the rules of a map from 40 on
 -- where a rule stands among them
 abbrev pub position : ℕ → ℕ
-position n = if (ltb n 44) (n - 40) (if (ltb n 46) (n - 41) (n - 46))
+position n = if (ltb n 46) (n - 40) (n - 45)
 
 -- a second place is told by 51 to 53 alone
 abbrev pub Second : ℕ → ℕ → Type 0
@@ -115,20 +117,23 @@ module _ (said : Said) (places : Places) (madt fadt : ℕ) where
   -- a rule that is broken gives its own number, and no second place but for 51 to 53
   pub own : (k n p q : ℕ) → getD (mapRules said places madt fadt) k Sound ≡ Refused (refusedWith n p q) → Own k n q
   unfolding mapRules rulesTo45 rulesFrom51 if
-  own zero n p q h = let w = rule-read (not (said .lio .present) || eqb (length (said .eios)) 0) 40 madt n p q h in one (w .0) (w .1)
+  own zero n p q h = let w = rule-read (not (said .lio .present) || eqb (length (hubs said)) 0) 40 madt n p q h in one (w .0) (w .1)
   own (suc zero) n p q h = let w = later-told 41 n p q _ h in one (w .0) (w .1)
   own (suc (suc zero)) n p q h = let w = spotted-told 42 n p q _ h in one (w .0) (w .1)
   own (suc (suc (suc zero))) n p q h =
       let w = rule-read (noBridge (said .lpc) (said .bios)) 43 (places .lpc) n p q h in
       one (w .0) (w .1)
   own (suc (suc (suc (suc zero)))) n p q h =
+      let w = rule-read (namesUnwired (said .lio) (said .ht)) 44 (places .ht) n p q h in
+      one (w .0) (w .1)
+  own (suc (suc (suc (suc (suc zero))))) n p q h =
       let w = rule-read (noInput (said .lpc) (said .bios)) 45 (places .lpc) n p q h in
       one (w .0) (w .1)
-  own (suc (suc (suc (suc (suc zero))))) n p q h = two (omega arith) (omega arith) (both-told 51 n p q _ h .0)
-  own (suc (suc (suc (suc (suc (suc zero)))))) n p q h = two (omega arith) (omega arith) (both-told 52 n p q _ h .0)
-  own (suc (suc (suc (suc (suc (suc (suc zero))))))) n p q h = two (omega arith) (omega arith) (both-told 53 n p q _ h .0)
-  own (suc (suc (suc (suc (suc (suc (suc (suc zero)))))))) n p q h = let w = rule-read (lost (arrival said (said .sci))) 54 fadt n p q h in one (w .0) (w .1)
-  own (suc (suc (suc (suc (suc (suc (suc (suc (suc k))))))))) n p q h = not-sound (sym h)
+  own (suc (suc (suc (suc (suc (suc zero)))))) n p q h = two (omega arith) (omega arith) (both-told 51 n p q _ h .0)
+  own (suc (suc (suc (suc (suc (suc (suc zero))))))) n p q h = two (omega arith) (omega arith) (both-told 52 n p q _ h .0)
+  own (suc (suc (suc (suc (suc (suc (suc (suc zero)))))))) n p q h = two (omega arith) (omega arith) (both-told 53 n p q _ h .0)
+  own (suc (suc (suc (suc (suc (suc (suc (suc (suc zero))))))))) n p q h = let w = rule-read (lost (arrival said (said .sci))) 54 fadt n p q h in one (w .0) (w .1)
+  own (suc (suc (suc (suc (suc (suc (suc (suc (suc (suc k)))))))))) n p q h = not-sound (sym h)
 
   -- the number that is told is that of the first broken rule
   pub told-at : (n p q : ℕ) → firstRefusal (mapRules said places madt fadt) ≡ Refused (refusedWith n p q)

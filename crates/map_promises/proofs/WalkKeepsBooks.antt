@@ -1,14 +1,14 @@
--- The walk of a MADT that refuses nothing keeps its books: every structure of the map has its own place, the map keeps 71 to 77,
--- 37 and 38, and "its unused places, an unused half's byte among them, hold 0".
+-- The walk of a MADT that refuses nothing keeps its books: every structure of the map has its own place, the map keeps 71 to 78,
+-- 37, 38 and 34, and "its unused places, an unused half's byte among them, hold 0".
 use Prim.Native.Nat.{ℕ, _+_, _<_, _≤_}
 use native.Mathlib.Nat.{eq-or-lt-of-le}
 use native.Mathlib.Omega.{arith}
 use mathlib.Core.Path.{_≡_, refl, sym, _∙_, ap, subst}
 use mathlib.Core.Logic.{_⊎_, inl, inr, ⊎-elim}
-use mathlib.Core.List.{List}
-use mathlib.Core.Bool.{Bool, true, false, _&&_, true≢false}
-use borrow.Author.Tests.{eqb-true, le-ltb, le-leb}
-use lib.Dec.{eqb}
+use mathlib.Core.List.{List, []}
+use mathlib.Core.Bool.{Bool, true, false, not, _&&_, true≢false}
+use borrow.Author.Tests.{eqb-true, eq-eqb, le-ltb, le-leb, leb-true}
+use lib.Dec.{eqb, leb}
 use lib.ListN.{length, getD}
 use Rattle.words.specs.Bytes.{byteAt}
 use Rattle.words.specs.Choice.{if}
@@ -17,30 +17,32 @@ use Rattle.words.specs.Refusals.{firstRefusal}
 use Rattle.words.specs.declared.Verdict.the-variants.{Sound}
 use Rattle.words.proofs.Choices.{if-cases}
 use Rattle.clashes.proofs.Logic.{and-left, and-right, both-true}
-use Rattle.kinds.specs.Makers.{lioOf, eioOf, msiOf, bioOf, lpcOf}
-use Rattle.kinds.specs.Ranges.{halfFits, bitInBoth, lioField, eioField, bioField, pinsFit, msiField, lpcField}
-use Rattle.kinds.specs.Used.{noLio, noEio, noBio, noMsi, noLpc, usedHalf, saidLio, saidLpc}
+use Rattle.kinds.specs.Makers.{lioOf, htOf, eioOf, msiOf, bioOf, lpcOf}
+use Rattle.kinds.specs.Ranges.{halfFits, bitInBoth, lioField, htField, eioField, bioField, pinsFit, msiField, lpcField}
+use Rattle.kinds.specs.Used.{noLio, noHt, noEio, noBio, noMsi, noLpc, usedHalf, saidLio, saidHt, saidLpc}
 use Rattle.kinds.specs.declared.Lio.{Lio}
+use Rattle.kinds.specs.declared.Ht.{Ht}
 use Rattle.kinds.specs.declared.Lpc.{Lpc}
+use Rattle.kinds.proofs.Used.{ht-present}
 use Rattle.lines.specs.Says.{says}
-use Rattle.lines.specs.Rules.{eiosFit, biosFit, msisFit, rangesKept, tooMany}
+use Rattle.lines.specs.Rules.{eiosFit, biosFit, msisFit, rangesKept, tooMany, bothKinds}
 use Rattle.lines.specs.declared.Map.{Map}
 use Rattle.lines.specs.declared.Places.{Places}
 use Rattle.madt.specs.Pieces.{Whole, pieces, structures}
 use Rattle.madt.specs.Rules.{isType, sharedBit}
-use Rattle.madt.specs.Contents.{ofType, howMany, made, standing, inFour, bridgeOf, mapOf, placesOf, foundIn}
+use Rattle.madt.specs.Contents.{ofType, howMany, made, standing, theOne, inFour, bridgeOf, mapOf, placesOf, MadeBy, foundIn}
 use Rattle.madt.specs.Walk.{walkRules, walked}
 use Rattle.madt.proofs.Types.{type-yes}
-use Rattle.madt.proofs.Contents.{made-many, standing-many}
-use Rattle.madt.proofs.Checks.{Kept, fits-lio, fits-eio, fits-msi, fits-bio, fits-lpc}
-use Rattle.madt.proofs.Accepted.{noWhole, rules-sound, found-is, few-eios, few-msis, few-bios, kept-at}
+use Rattle.madt.proofs.Contents.{made-many, standing-many, ht-there}
+use Rattle.madt.proofs.Checks.{Kept, fits-lio, fits-ht, fits-eio, fits-msi, fits-bio, fits-lpc}
+use Rattle.madt.proofs.Accepted.{noWhole, rules-sound, found-is, few-lios, few-eios, few-msis, few-bios, few-lpcs, OneKind, one-kind, kept-at}
 use Rattle.map_promises.specs.Sources.{bioAt}
 use Rattle.map_promises.specs.Structures.{Structure, lio, eio, bio, msi, IsIn, placeOf, Placed}
 use Rattle.map_promises.specs.Walks.{Normal, PinsInRange, WellKept, WalkKeepsBooks}
-use Rattle.map_promises.proofs.Shelves.{take-four, past, at-four, at-every, map-at}
+use Rattle.map_promises.proofs.Shelves.{take-four, one-at, past, at-four, at-every, map-at}
 use Rattle.map_promises.proofs.InOrder.{pieces-in-order}
 use Rattle.map_promises.proofs.Rising.{Rising, structures-rise, those-rise, rises-at, one-index, those-among}
-use Rattle.map_promises.proofs.Unused.{half-mask, half-fits, half-again, lio-unused, lpc-unused}
+use Rattle.map_promises.proofs.Unused.{half-mask, half-fits, half-again, lio-unused, ht-unused, lpc-unused}
 
 -- ---- some structures that stand one behind the other, behind the MADT's header, and each keep the rules
 pub record Good (until : ℕ) (all : List Whole) : Type 0 where
@@ -49,6 +51,9 @@ pub record Good (until : ℕ) (all : List Whole) : Type 0 where
   pub eios : howMany 20 all ≤ 4
   pub bios : howMany 22 all ≤ 4
   pub msis : howMany 21 all ≤ 4
+  pub lios : howMany 18 all ≤ 1
+  pub lpcs : howMany 23 all ≤ 1
+  pub kinds : OneKind all
   pub first : 44 ≤ until
 
 -- those of a MADT that is not refused
@@ -61,6 +66,9 @@ good table base until h first all =
       eios = few-eios table base h;
       bios = few-bios table base h;
       msis = few-msis table base h;
+      lios = few-lios table base h;
+      lpcs = few-lpcs table base h;
+      kinds = one-kind table base h;
       first = first;
     }
 
@@ -93,6 +101,27 @@ module _ {until : ℕ} {all : List Whole} (g : Good until all) (number i : ℕ) 
   pub makes : {A : Type 0} (maker : List ℕ → A) (none : A) → getD (made number maker all) i none ≡ maker (wholeAt number all i .bytes)
   unfolding made
   makes maker none = map-at (λ x. maker (x .bytes)) noWhole none (ofType number all) i l
+
+-- of a kind of which there is one at most: what the map holds, and where it stands
+module _ {until : ℕ} {all : List Whole} (g : Good until all) (number : ℕ) (few : howMany number all ≤ 1) where
+  pub the-makes : {A : Type 0} → 0 < howMany number all → (maker : List ℕ → A) (none : A) → theOne none (made number maker all) ≡ maker (wholeAt number all 0 .bytes)
+  the-makes l maker none = one-at none (made number maker all) (omega (arith, made-many number maker all)) ∙ makes g number 0 l maker none
+
+  pub the-none : {A : Type 0} → howMany number all ≡ 0 → (maker : List ℕ → A) (none : A) → theOne none (made number maker all) ≡ none
+  the-none z maker none =
+      one-at none (made number maker all) (omega (arith, made-many number maker all)) ∙ past none (made number maker all) 0 (omega (arith, made-many number maker all))
+
+  pub the-stands : 0 < howMany number all → (base : ℕ) → theOne 0 (standing number base all) ≡ base + wholeAt number all 0 .at
+  the-stands l base = one-at 0 (standing number base all) (omega (arith, standing-many number base all)) ∙ stands g number 0 l base
+
+  pub the-nowhere : howMany number all ≡ 0 → (base : ℕ) → theOne 0 (standing number base all) ≡ 0
+  the-nowhere z base =
+      one-at 0 (standing number base all) (omega (arith, standing-many number base all)) ∙ past 0 (standing number base all) 0 (omega (arith, standing-many number base all))
+
+-- there is one of a kind, or none
+pub there : (all : List Whole) (number : ℕ) → (0 < howMany number all) ⊎ (howMany number all ≡ 0)
+there all number =
+    ⊎-elim (λ (e : 0 ≡ howMany number all). inr (sym e)) (λ l. inl l) (eq-or-lt-of-le (let z : 0 ≤ howMany number all = omega arith in z))
 
 -- an offset is that of one structure alone
 module _ {until : ℕ} {all : List Whole} (g : Good until all) where
@@ -160,11 +189,13 @@ module _ {until : ℕ} {all : List Whole} (g : Good until all) (sci : ℕ) (pins
   said-msis = rw (sym (made-many 21 msiOf all)) (take-four noMsi (made 21 msiOf all) (rw (made-many 21 msiOf all) (g .msis)))
 
 -- ---- the places
--- every structure of a map stands before `next`, and so does an LPC; only an absent LIO or LPC stands at 0
+-- every structure of a map stands before `next`, and so do an HT and an LPC; only an absent LIO, HT or LPC stands at 0
 pub record Standing (next : ℕ) (map : Map) (places : Places) : Type 0 where
   pub before : (s : Structure) → IsIn (says map) s → placeOf places s < next
   pub behind : (s : Structure) → IsIn (says map) s → (s ≡ lio) ⊎ (0 < placeOf places s)
   pub liobehind : map .lio .present ≡ true → 0 < places .lio
+  pub htbehind : map .ht .present ≡ true → 0 < places .ht
+  pub htbefore : places .ht < next
   pub lpcbehind : map .lpc .present ≡ true → 0 < places .lpc
   pub lpcbefore : places .lpc < next
 
@@ -172,7 +203,7 @@ module _ {until : ℕ} {all : List Whole} (g : Good until all) (base sci : ℕ) 
   -- where a structure that is there stands
   place-is : (s : Structure) → indexOf s < howMany (numberOf s) all → placeOf (placesOf base all) s ≡ base + wholeAt (numberOf s) all (indexOf s) .at
   unfolding placesOf
-  place-is lio l = stands g 18 0 l base
+  place-is lio l = the-stands g 18 (g .lios) l base
   place-is (eio e) l = at-four 0 (standing 20 base all) (rw (standing-many 20 base all) (g .eios)) e ∙ stands g 20 e l base
   place-is (bio j) l = at-four 0 (standing 22 base all) (rw (standing-many 22 base all) (g .bios)) j ∙ stands g 22 j l base
   place-is (msi m) l = at-four 0 (standing 21 base all) (rw (standing-many 21 base all) (g .msis)) m ∙ stands g 21 m l base
@@ -183,9 +214,7 @@ module _ {until : ℕ} {all : List Whole} (g : Good until all) (base sci : ℕ) 
 
   is-there : (s : Structure) → IsIn (says (mapOf sci pins all)) s → There s
   unfolding placesOf
-  is-there lio h =
-      ⊎-elim (λ (e : 0 ≡ howMany 18 all). inr (refl, past 0 (standing 18 base all) 0 (rw (standing-many 18 base all) (omega arith)))) (λ l. inl l)
-      (eq-or-lt-of-le (let z : 0 ≤ howMany 18 all = omega arith in z))
+  is-there lio h = ⊎-elim (λ l. inl l) (λ z. inr (refl, the-nowhere g 18 (g .lios) z base)) (there all 18)
   is-there (eio e) h = inl (omega (arith, ap length (said-eios g sci pins), made-many 20 eioOf all))
   is-there (bio j) h = inl (omega (arith, ap length (said-bios g sci pins), made-many 22 (bridgeOf pins) all))
   is-there (msi m) h = inl (omega (arith, ap length (said-msis g sci pins), made-many 21 msiOf all))
@@ -212,10 +241,13 @@ module _ {until : ℕ} {all : List Whole} (g : Good until all) (base sci : ℕ) 
         apart = λ s t u v e. apart s t (is-there s u) (is-there t v) e;
       }
 
-  -- a kind of which there is at most one is there or not; the LPC, which claims nothing, has a place too
-  there : (number : ℕ) → (0 < howMany number all) ⊎ (howMany number all ≡ 0)
-  there number =
-      ⊎-elim (λ (e : 0 ≡ howMany number all). inr (sym e)) (λ l. inl l) (eq-or-lt-of-le (let z : 0 ≤ howMany number all = omega arith in z))
+  -- the HT and the LPC, which claim nothing, have places too
+  one-behind : (number : ℕ) → howMany number all ≤ 1 → 0 < howMany number all → 0 < theOne 0 (standing number base all)
+  one-behind number few l = omega (arith, the-stands g number few l base, inside g number 0 l .0)
+
+  one-before : (number : ℕ) → howMany number all ≤ 1 → theOne 0 (standing number base all) < base + until
+  one-before number few =
+      ⊎-elim (λ l. omega (arith, the-stands g number few l base, inside g number 0 l .1)) (λ z. omega (arith, the-nowhere g number few z base, g .first)) (there all number)
 
   pub standing-well : Standing (base + until) (mapOf sci pins all) (placesOf base all)
   unfolding mapOf placesOf
@@ -223,15 +255,17 @@ module _ {until : ℕ} {all : List Whole} (g : Good until all) (base sci : ℕ) 
       record {
         before = λ s u. ⊎-elim (λ l. omega (arith, place-is s l, inside g (numberOf s) (indexOf s) l .1)) (λ w. omega (arith, w .1, g .first)) (is-there s u);
         behind = λ s u. ⊎-elim (λ l. inr (behind-header s l)) (λ w. inl (w .0)) (is-there s u);
-        liobehind = λ h. ⊎-elim (λ l. behind-header lio l)
-            (λ (z : howMany 18 all ≡ 0). absurd (true≢false (sym h ∙ ap (λ (x : Lio). x .present) (past noLio (made 18 (λ s. saidLio (lioOf s)) all) 0 (omega (arith, made-many 18 (λ s. saidLio (lioOf s)) all)))))) (there 18);
-        lpcbehind = λ h. ⊎-elim (λ l. omega (arith, stands g 23 0 l base, inside g 23 0 l .0))
-            (λ (z : howMany 23 all ≡ 0). absurd (true≢false (sym h ∙ ap (λ (x : Lpc). x .present) (past noLpc (made 23 lpcOf all) 0 (omega (arith, made-many 23 lpcOf all)))))) (there 23);
-        lpcbefore = ⊎-elim (λ l. omega (arith, stands g 23 0 l base, inside g 23 0 l .1))
-            (λ (z : howMany 23 all ≡ 0). omega (arith, past 0 (standing 23 base all) 0 (omega (arith, standing-many 23 base all)), g .first)) (there 23);
+        liobehind = λ h. ⊎-elim (one-behind 18 (g .lios))
+            (λ z. absurd (true≢false (sym h ∙ ap (λ (x : Lio). x .present) (the-none g 18 (g .lios) z (λ s. saidLio (lioOf s)) noLio)))) (there all 18);
+        htbehind = λ h. ⊎-elim (one-behind 19 (g .kinds .0))
+            (λ z. absurd (true≢false (sym h ∙ ap (λ (x : Ht). x .present) (the-none g 19 (g .kinds .0) z htOf noHt)))) (there all 19);
+        htbefore = one-before 19 (g .kinds .0);
+        lpcbehind = λ h. ⊎-elim (one-behind 23 (g .lpcs))
+            (λ z. absurd (true≢false (sym h ∙ ap (λ (x : Lpc). x .present) (the-none g 23 (g .lpcs) z lpcOf noLpc)))) (there all 23);
+        lpcbefore = one-before 23 (g .lpcs);
       }
 
--- ---- 71 to 77, 37 and 38
+-- ---- 71 to 78, 37, 38 and 34
 -- the LIO, without the bytes of its unused halves
 pub record LioKept (x : Lio) : Type 0 where
   pub fits : eqb (lioField x) 0 ≡ true
@@ -270,9 +304,21 @@ module _ {until : ℕ} {all : List Whole} (g : Good until all) (sci : ℕ) (pins
   unfolding mapOf
   the-lio =
       ⊎-elim
-      (λ (e : 0 ≡ howMany 18 all). rw (past noLio (made 18 (λ s. saidLio (lioOf s)) all) 0 (omega (arith, made-many 18 (λ s. saidLio (lioOf s)) all))) no-lio)
-      (λ l. rw (makes g 18 0 l (λ s. saidLio (lioOf s)) noLio) (made-lio l))
-      (eq-or-lt-of-le (let z : 0 ≤ howMany 18 all = omega arith in z))
+      (λ l. rw (the-makes g 18 (g .lios) l (λ s. saidLio (lioOf s)) noLio) (made-lio l))
+      (λ z. rw (the-none g 18 (g .lios) z (λ s. saidLio (lioOf s)) noLio) no-lio)
+      (there all 18)
+
+  -- an HT says all that it has
+  abbrev HtKept : Ht → Type 0
+  HtKept x = (eqb (htField x) 0 ≡ true) × (saidHt x ≡ x)
+
+  the-ht : HtKept (mapOf sci pins all .ht)
+  unfolding mapOf htField saidHt htOf if every
+  the-ht =
+      ⊎-elim
+      (λ l. rw (the-makes g 19 (g .kinds .0) l htOf noHt) (fits-ht (kept g 19 0 l .1) (typed g 19 0 l), refl))
+      (λ z. rw (the-none g 19 (g .kinds .0) z htOf noHt) (refl, refl))
+      (there all 19)
 
   -- an LPC says all that it has
   abbrev LpcKept : Lpc → Type 0
@@ -282,9 +328,9 @@ module _ {until : ℕ} {all : List Whole} (g : Good until all) (sci : ℕ) (pins
   unfolding mapOf lpcField saidLpc lpcOf if
   the-lpc =
       ⊎-elim
-      (λ (e : 0 ≡ howMany 23 all). rw (past noLpc (made 23 lpcOf all) 0 (omega (arith, made-many 23 lpcOf all))) (refl, refl))
-      (λ l. rw (makes g 23 0 l lpcOf noLpc) (fits-lpc (kept g 23 0 l .1) (typed g 23 0 l), refl))
-      (eq-or-lt-of-le (let z : 0 ≤ howMany 23 all = omega arith in z))
+      (λ l. rw (the-makes g 23 (g .lpcs) l lpcOf noLpc) (fits-lpc (kept g 23 0 l .1) (typed g 23 0 l), refl))
+      (λ z. rw (the-none g 23 (g .lpcs) z lpcOf noLpc) (refl, refl))
+      (there all 23)
 
   -- each structure of a kind that may repeat
   fit-all : {A : Type 0} (number : ℕ) (maker : List ℕ → A) (none : A) (test : A → Bool)
@@ -309,6 +355,8 @@ module _ {until : ℕ} {all : List Whole} (g : Good until all) (sci : ℕ) (pins
       rw (
         the-lio .normal,
         the-lio .fits,
+        the-ht .1,
+        the-ht .0,
         said-eios g sci pins,
         fit-all 20 eioOf noEio (λ e. eqb (eioField e) 0) (λ n s k t. fits-eio k t),
         said-bios g sci pins,
@@ -322,6 +370,21 @@ module _ {until : ℕ} {all : List Whole} (g : Good until all) (sci : ℕ) (pins
   pub few : tooMany (mapOf sci pins all) ≡ false
   unfolding mapOf
   few = rw (le-ltb 4 (howMany 20 all) (g .eios), le-ltb 4 (howMany 22 all) (g .bios), le-ltb 4 (howMany 21 all) (g .msis))
+
+  -- where there is an HT, there is no EIO
+  pub one-of-kinds : bothKinds (says (mapOf sci pins all)) ≡ false
+  unfolding mapOf
+  one-of-kinds =
+      let present : mapOf sci pins all .ht .present ≡ leb 1 (howMany 19 all) = ht-there [] pins all {cores = howMany 17 all} made-itself in
+      let eios : length (says (mapOf sci pins all) .eios) ≡ howMany 20 all = ap length (said-eios g sci pins) ∙ made-many 20 eioOf all in
+      rw (ht-present (mapOf sci pins all .ht), present, eios) (go (leb 1 (howMany 19 all)) refl)
+    where
+      made-itself : MadeBy pins all (howMany 17 all) (mapOf sci pins all)
+      made-itself = (refl, refl)
+
+      go : (b : Bool) → leb 1 (howMany 19 all) ≡ b → (b && not (eqb (howMany 20 all) 0)) ≡ false
+      go false e = refl
+      go true e = rw (eq-eqb (howMany 20 all) 0 (g .kinds .1 (leb-true 1 (howMany 19 all) e)))
 
   -- a BIO has as many inputs as is told of its hardware ID
   pub counted : (j : ℕ) → j < length (says (mapOf sci pins all) .bios)
@@ -352,12 +415,13 @@ module _ {until : ℕ} {all : List Whole} (g : Good until all) (sci : ℕ) (pins
         low = l .0;
         high = l .1;
         nolio = l .2;
+        noht = ht-unused (mapOf sci pins all .ht) (the-ht .1);
         nolpc = lpc-unused (mapOf sci pins all .lpc) (the-lpc .1);
       }
 
   pub well-kept : PinsInRange pins → (base : ℕ) → WellKept (mapOf sci pins all) (placesOf base all)
   well-kept in-range base =
-      record { placed = placed g base sci pins; ranges = ranges in-range; r37 = rw (the-lio .normal) (the-lio .masks); r38 = few; normal = normal }
+      record { placed = placed g base sci pins; ranges = ranges in-range; r37 = rw (the-lio .normal) (the-lio .masks); r38 = few; r34 = one-of-kinds; normal = normal }
 
 -- the walk of a MADT, from its first structure to the end
 pub walk-stands : (table : List ℕ) (base sci : ℕ) (pins : ℕ → ℕ) (until : ℕ) → 44 ≤ until → length table ≤ until → walked table base sci pins .verdict ≡ Sound

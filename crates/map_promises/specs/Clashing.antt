@@ -1,20 +1,22 @@
 -- What two structures may not share, and what is told of it: document 01, "Refusals in order", 41 to 43 and 51 to 53, each by
--- itself, with 45 of W-212 of document 02, and the second place that W-202 gives to 51 to 53. The sharing is said of sources and controllers, not of
+-- itself, with 44 of W-201 of document 02, 45 of W-212, and the second place that W-202 gives to 51 to 53. The sharing is said of sources and controllers, not of
 -- claims. Each statement at the end stands alone; proofs/Clashing.antt has a theorem for it.
 use Prim.Native.Nat.{ℕ, _<_, _≤_}
 use mathlib.Core.Bool.{true, false}
 use mathlib.Core.Logic.{_⊎_}
 use mathlib.Core.Path.{_≡_}
-use lib.ListN.{length}
+use lib.ListN.{length, getD}
 use Rattle.words.specs.Refusals.{refusedWith}
 use Rattle.words.specs.declared.Verdict.the-variants.{Sound, Refused}
 use Rattle.kinds.specs.Ranges.{bitInBoth}
+use Rattle.parts.specs.Inputs.{wired}
 use Rattle.lines.specs.Says.{Said, says}
+use Rattle.lines.specs.Hubs.{hubs}
 use Rattle.lines.specs.Claims.{claims}
-use Rattle.lines.specs.Rules.{tooMany, rangesKept, rule40, rule41, rule42, rule43, rule45, firstBroken}
+use Rattle.lines.specs.Rules.{tooMany, bothKinds, rangesKept, rule40, rule41, rule42, rule43, rule44, rule45, firstBroken}
 use Rattle.lines.specs.declared.Map.{Map}
 use Rattle.lines.specs.declared.Places.{Places}
-use Rattle.map_promises.specs.Sources.{Source, input, pin, slot, eioAt, bioAt, IsSource, isLpcBridge, HasNumber, LandsOn}
+use Rattle.map_promises.specs.Sources.{Source, input, pin, slot, eioAt, hubAt, bioAt, IsSource, isLpcBridge, HasNumber, LandsOn}
 use Rattle.map_promises.specs.Structures.{Structure, lio, eio, bio, msi, IsIn, placeOf, Placed}
 
 -- ---- what a structure has
@@ -53,11 +55,11 @@ abbrev pub ShareNumber : Said → Structure → Structure → Type 0
 ShareNumber said s t =
     (x : Source) × (y : Source) × IsSourceOf said s x × IsSourceOf said t y × (g : ℕ) × HasNumber said x g × HasNumber said y g
 
--- 52: a source of each takes the same extended vector of one EIO
+-- 52: a source of each takes the same vector of one hub
 abbrev pub ShareVector : Said → Structure → Structure → Type 0
 ShareVector said s t =
     (x : Source) × (y : Source) × IsSourceOf said s x × IsSourceOf said t y
-    × (e : ℕ) × (k : ℕ) × (e < length (said .eios)) × LandsOn said x e k × LandsOn said y e k
+    × (e : ℕ) × (k : ℕ) × (e < length (hubs said)) × LandsOn said x e k × LandsOn said y e k
 
 -- 53: they are controllers that enter one core vector
 abbrev pub ShareCore : Said → Structure → Structure → Type 0
@@ -77,10 +79,10 @@ pub record Sharing (said : Said) (Share : Structure → Structure → Type 0) : 
 abbrev pub TwoNode : Said → Type 0
 TwoNode said = Sharing said (ShareNode said)
 
--- 42: "BIO without an EIO of its node"
+-- 42: "BIO without an EIO of its node", or "with HT, for a hardware ID other than 0": without a hub of its node
 abbrev pub IsLone : Said → ℕ → Type 0
 IsLone said j =
-    (j < length (said .bios)) × ((e : ℕ) → e < length (said .eios) → eioAt said e .node ≡ bioAt said j .node → ⊥)
+    (j < length (said .bios)) × ((e : ℕ) → e < length (hubs said) → hubAt said e .node ≡ bioAt said j .node → ⊥)
 
 abbrev pub LoneBio : Said → Type 0
 LoneBio said = (j : ℕ) × IsLone said j
@@ -88,6 +90,11 @@ LoneBio said = (j : ℕ) × IsLone said j
 -- 43: the LPC has "no such BIO", whatever others there are
 abbrev pub NoBridge : Said → Type 0
 NoBridge said = (said .lpc .present ≡ true) × ((j : ℕ) → j < length (said .bios) → bioAt said j .node ≡ said .lpc .node → ⊥)
+
+-- 44: a byte of the HT names "an unwired input", whether or not anything lands on its vectors
+abbrev pub NamesUnwired : Said → Type 0
+NamesUnwired said =
+    (said .ht .present ≡ true) × (n : ℕ) × (n < length (said .ht .bytes)) × (wired (said .lio) (getD (said .ht .bytes) n 0) ≡ false)
 
 -- 45: the LPC has "a cascade at or past its bridge's count"
 abbrev pub NoInput : Said → Type 0
@@ -99,13 +106,14 @@ abbrev pub TwoNumber : Said → Type 0
 TwoNumber said =
     (x : Source) × (y : Source) × IsSource said x × IsSource said y × (x ≡ y → ⊥) × (g : ℕ) × HasNumber said x g × HasNumber said y g
 
--- 52: "two sources share an extended vector of one EIO"
+-- 52: "two sources share an extended vector of one EIO", or an HT vector
 abbrev pub TwoVector : Said → Type 0
 TwoVector said =
     (x : Source) × (y : Source) × IsSource said x × IsSource said y × (x ≡ y → ⊥)
-    × (e : ℕ) × (k : ℕ) × (e < length (said .eios)) × LandsOn said x e k × LandsOn said y e k
+    × (e : ℕ) × (k : ℕ) × (e < length (hubs said)) × LandsOn said x e k × LandsOn said y e k
 
--- 53: "two controllers enter one core vector"; both halves of the LIO are one controller
+-- 53: "two controllers enter one core vector"; both halves of the LIO are one controller, and the HT is not "among the controllers that
+-- enter one"
 abbrev pub TwoCore : Said → Type 0
 TwoCore said = Sharing said (ShareCore said)
 
@@ -129,7 +137,7 @@ pub record Names (said : Said) (places : Places) (Share : Structure → Structur
 abbrev pub NamesLater : Said → Places → (Structure → Structure → Type 0) → ℕ → Type 0
 NamesLater said places Share p = (q : ℕ) × Names said places Share p q
 
--- "where one line fits several structures, the first in table order is named": of the BIO without an EIO, the one at p
+-- "where one line fits several structures, the first in table order is named": of the BIO without a hub, the one at p
 pub record NamesLone (said : Said) (places : Places) (p : ℕ) : Type 0 where
   pub j : ℕ
   pub lone : IsLone said j
@@ -146,22 +154,28 @@ pub record KeepsTo40 (map : Map) (madt : ℕ) : Type 0 where
   pub ranges : rangesKept (says map) ≡ true
   pub r37 : bitInBoth (says map .lio) ≡ false
   pub r38 : tooMany map ≡ false
+  pub r34 : bothKinds (says map) ≡ false
   pub r40 : rule40 (says map) madt ≡ Sound
 
 -- no rule below 43 is broken
 pub record KeepsTo42 (map : Map) (places : Places) (madt : ℕ) : Type 0 where
   pub to40 : KeepsTo40 map madt
   pub r41 : rule41 (claims (says map) places) ≡ Sound
-  pub r42 : rule42 (claims (says map) places) ≡ Sound
+  pub r42 : rule42 (says map) (claims (says map) places) ≡ Sound
 
--- no rule below 45 is broken
+-- no rule below 44 is broken
 pub record KeepsTo43 (map : Map) (places : Places) (madt : ℕ) : Type 0 where
   pub to42 : KeepsTo42 map places madt
   pub r43 : rule43 (says map) (places .lpc) ≡ Sound
 
+-- no rule below 45 is broken
+pub record KeepsTo44 (map : Map) (places : Places) (madt : ℕ) : Type 0 where
+  pub to43 : KeepsTo43 map places madt
+  pub r44 : rule44 (says map) (places .ht) ≡ Sound
+
 -- no rule below 51 is broken
 pub record KeepsTo45 (map : Map) (places : Places) (madt : ℕ) : Type 0 where
-  pub to43 : KeepsTo43 map places madt
+  pub to44 : KeepsTo44 map places madt
   pub r45 : rule45 (says map) (places .lpc) ≡ Sound
 
 -- ---- demand 3, its last sentence: the statements
@@ -183,7 +197,7 @@ NodeExactly map places madt fadt =
     Placed (says map) places → KeepsTo40 map madt
     → Exactly (RefusedWith map places madt fadt 41) (TwoNode (says map)) (OnePlace (NamesLater (says map) places (ShareNode (says map))))
 
--- 42: exactly when no two EIO have one node, and a BIO has no EIO of its node; the first such is named
+-- 42: exactly when no two EIO have one node, and a BIO has no hub of its node; the first such is named
 abbrev pub LoneExactly : Map → Places → ℕ → ℕ → Type 0
 LoneExactly map places madt fadt =
     Placed (says map) places → KeepsTo40 map madt
@@ -195,10 +209,16 @@ BridgeExactly map places madt fadt =
     KeepsTo42 map places madt
     → Exactly (RefusedWith map places madt fadt 43) (NoBridge (says map)) (OnePlace (λ p. p ≡ places .lpc))
 
+-- 44: exactly when there is an HT, and a byte of it names an input that is not wired; the HT is named
+abbrev pub WiredExactly : Map → Places → ℕ → ℕ → Type 0
+WiredExactly map places madt fadt =
+    KeepsTo43 map places madt
+    → Exactly (RefusedWith map places madt fadt 44) (NamesUnwired (says map)) (OnePlace (λ p. p ≡ places .ht))
+
 -- 45: exactly when there is an LPC, and the input of its cascade is none that its bridge has; the LPC is named
 abbrev pub InputExactly : Map → Places → ℕ → ℕ → Type 0
 InputExactly map places madt fadt =
-    KeepsTo43 map places madt
+    KeepsTo44 map places madt
     → Exactly (RefusedWith map places madt fadt 45) (NoInput (says map)) (OnePlace (λ p. p ≡ places .lpc))
 
 -- 51: exactly when two sources share a global number; named are the later of their structures and the earliest that it shares with
@@ -207,7 +227,7 @@ NumberExactly map places madt fadt =
     Placed (says map) places → KeepsTo45 map places madt
     → Exactly (RefusedWith map places madt fadt 51) (TwoNumber (says map)) (Names (says map) places (ShareNumber (says map)))
 
--- 52: exactly when no two sources do, and two share an extended vector of one EIO
+-- 52: exactly when no two sources do, and two share a vector of one hub
 abbrev pub VectorExactly : Map → Places → ℕ → ℕ → Type 0
 VectorExactly map places madt fadt =
     Placed (says map) places → KeepsTo45 map places madt

@@ -1,5 +1,5 @@
 -- "any map may be asked about": maps that no capture gives. Each rule of 61 is broken alone, counts go past the arrays, and
--- unused places hold garbage; and of a clash the earliest partner is told. All of it is computed by the definitions that the
+-- unused places hold garbage; what a board with an HT answers; and of a clash the earliest partner is told. All of it is computed by the definitions that the
 -- contracts cite.
 use Prim.Native.Nat.{ℕ}
 use mathlib.Core.Bool.{true, false}
@@ -9,8 +9,9 @@ use lib.ListN.{length, take, replicate}
 use Rattle.words.specs.Refusals.{refusedWith}
 use Rattle.words.specs.declared.Verdict.{Verdict}
 use Rattle.words.specs.declared.Verdict.the-variants as verdicts
-use Rattle.kinds.specs.Used.{noEio, noBio, noMsi}
+use Rattle.kinds.specs.Used.{noHt, noEio, noBio, noMsi}
 use Rattle.kinds.specs.declared.Lio.{Lio}
+use Rattle.kinds.specs.declared.Ht.{Ht}
 use Rattle.kinds.specs.declared.Eio.{Eio}
 use Rattle.kinds.specs.declared.Bio.{Bio}
 use Rattle.kinds.specs.declared.Msi.{Msi}
@@ -20,15 +21,19 @@ use Rattle.lines.specs.Answers.{routeOf, traceOf, badMap}
 use Rattle.lines.specs.declared.Map.{Map}
 use Rattle.lines.specs.declared.Places.{Places}
 use Rattle.lines.specs.declared.Route.{Route}
-use Rattle.lines.specs.declared.Route.the-variants.{Arrives, NoOwner, Refused}
+use Rattle.lines.specs.declared.Route.the-variants.{Arrives, Unwired, NoOwner, Refused}
 use Rattle.lines.specs.declared.Trace.{Trace}
-use Rattle.lines.specs.declared.Trace.the-variants.{Nothing, BioInput, LpcCascade, MsiSlot, Refused as NoTrace}
+use Rattle.lines.specs.declared.Trace.the-variants.{Nothing, LioInput, BioInput, LpcCascade, MsiSlot, Refused as NoTrace}
 
 -- ---- structures
 -- a LIO by its low and its high half, each by cascade and mask
 abbrev pub lio : ℕ → ℕ → ℕ → ℕ → Lio
 lio low lowmask high highmask =
     record { present = true; low = record { cascade = low; mask = lowmask }; high = record { cascade = high; mask = highmask } }
+
+-- an HT by its eight bytes
+abbrev pub ht : List ℕ → Ht
+ht bytes = record { present = true; bytes = bytes }
 
 -- an EIO by its cascade and its node; a bridge by its hardware ID and its base, with 64 inputs or so many; slots by the first and
 -- their number
@@ -55,6 +60,10 @@ lpc = lpcOn 0
 abbrev pub absentLpc : ℕ → Lpc
 absentLpc cascade = record { present = false; node = 9; cascade = cascade }
 
+-- an HT that is not there, with bytes left over
+abbrev pub absentHt : Ht
+absentHt = record { present = false; bytes = 1 ∷ 1 ∷ 1 ∷ 1 ∷ 1 ∷ 1 ∷ 1 ∷ 255 ∷ [] }
+
 -- ---- maps that differ from board A's in one kind: by a count and an array, or by what is used
 abbrev pub used : {A : Type 0} → A → List A → ℕ × List A
 used none xs = (length xs, take 4 (xs ++ replicate 4 none))
@@ -68,10 +77,11 @@ bios = used noBio
 abbrev pub msis : List Msi → ℕ × List Msi
 msis = used noMsi
 
-abbrev pub holding : Lio → ℕ × List Eio → ℕ × List Bio → ℕ × List Msi → Lpc → ℕ → Map
-holding lio eios bios msis lpc sci =
+abbrev pub holdingHt : Ht → Lio → ℕ × List Eio → ℕ × List Bio → ℕ × List Msi → Lpc → ℕ → Map
+holdingHt ht lio eios bios msis lpc sci =
     record {
       lio = lio;
+      ht = ht;
       eiocount = eios .0;
       eios = eios .1;
       biocount = bios .0;
@@ -81,6 +91,9 @@ holding lio eios bios msis lpc sci =
       lpc = lpc;
       sci = sci;
     }
+
+abbrev pub holding : Lio → ℕ × List Eio → ℕ × List Bio → ℕ × List Msi → Lpc → ℕ → Map
+holding = holdingHt noHt
 
 abbrev pub lioA : Lio
 lioA = lio 2 0xFFFFFF 0 0
@@ -127,6 +140,24 @@ behindEither bios = holding lioA (eios (eio 3 0 ∷ eio 4 5 ∷ [])) bios msisA
 abbrev pub twoBridges : Lpc → ℕ → Map
 twoBridges = behindEither (bios (bio 0 64 ∷ bio 5 128 ∷ []))
 
+-- board A with an HT in the place of its EIO, on a LIO with two halves: inputs 0 to 15 at core vector 2, 16 to 23 at 3
+abbrev pub halves : Lio
+halves = lio 2 0xFFFF 3 0xFF0000
+
+abbrev pub onHt : List ℕ → ℕ × List Bio → ℕ × List Msi → Lpc → ℕ → Map
+onHt bytes bios msis = holdingHt (ht bytes) halves (eios []) bios msis
+
+-- its first 32 vectors go to input 16, the next ones to inputs 1 to 7
+abbrev pub bytesA : List ℕ
+bytesA = 16 ∷ 1 ∷ 2 ∷ 3 ∷ 4 ∷ 5 ∷ 6 ∷ 7 ∷ []
+
+abbrev pub htA : Map
+htA = onHt bytesA biosA msisA (lpc 19) 75
+
+-- its last byte names input 24, which is not wired, though nothing lands on its vectors
+abbrev pub unwired : List ℕ
+unwired = 16 ∷ 1 ∷ 2 ∷ 3 ∷ 4 ∷ 5 ∷ 6 ∷ 24 ∷ []
+
 -- four of each kind that may repeat, with other counts
 abbrev pub counting : ℕ → ℕ → ℕ → Map
 counting e b m =
@@ -137,11 +168,12 @@ counting e b m =
     (lpc 19) 75
 
 -- ---- questions and answers
--- places of the LIO and of the first EIO, MSI and BIO; a second one stands behind all of them, and so does a third MSI
+-- places of the LIO and of the first EIO (or HT), MSI and BIO; a second one stands behind all of them, and so does a third MSI
 abbrev pub at : ℕ → ℕ → ℕ → ℕ → Places
 at lio eio msi bio =
     record {
       lio = lio;
+      ht = eio;
       eios = eio ∷ 294 ∷ 0 ∷ 0 ∷ [];
       bios = bio ∷ 314 ∷ 0 ∷ 0 ∷ [];
       msis = msi ∷ 334 ∷ 354 ∷ 0 ∷ [];
@@ -196,6 +228,9 @@ brokenAlone =
     ∷ no72 (withBios (bios (bio 0 63 ∷ [])))
     ∷ no26 (holding lioA eiosA (bios (bio 0 65473 ∷ [])) msisA (lpc 19) 26)
     ∷ no72 (withLpc (lpc 64))
+    -- 78
+    ∷ no72 (onHt (32 ∷ 1 ∷ 2 ∷ 3 ∷ 4 ∷ 5 ∷ 6 ∷ 7 ∷ []) biosA msisA (lpc 19) 75)
+    ∷ no72 (onHt (16 ∷ 1 ∷ 2 ∷ 3 ∷ 4 ∷ 5 ∷ 6 ∷ 255 ∷ []) biosA msisA (lpc 19) 75)
     -- a count outside 1 to 64
     ∷ no26 (withPins 0 msisA (absentLpc 0) 26)
     ∷ no72 (withPins 65 (msis (msi 65 191 ∷ [])) (lpc 19) 75)
@@ -208,7 +243,11 @@ brokenAlone =
     ∷ no72 (counting 5 4 4)
     ∷ no72 (counting 4 5 4)
     ∷ no72 (counting 4 4 255)
+    -- 34
+    ∷ no72 (holdingHt (ht bytesA) halves eiosA biosA msisA (lpc 19) 75)
+    ∷ no72 (holdingHt (ht bytesA) lioA (eios (eio 3 0 ∷ [])) biosA msisA (lpc 19) 75)
     -- 40
+    ∷ no72 (holdingHt (ht bytesA) (record { present = false; low = record { cascade = 2; mask = 0xFFFF }; high = record { cascade = 3; mask = 0xFF0000 } }) (eios []) biosA msisA (lpc 19) 75)
     ∷ no72 (withLio (record { present = false; low = record { cascade = 2; mask = 1 }; high = record { cascade = 0; mask = 0 } }))
     ∷ no26 (holding lioA (eios []) (bios []) msisA (absentLpc 0) 26)
     -- 41 to 43
@@ -216,6 +255,10 @@ brokenAlone =
     ∷ no72 (withBios (bios (bio 0 64 ∷ bio 9 128 ∷ [])))
     ∷ no26 (holding lioA eiosA (bios []) msisA (lpc 19) 26)
     ∷ no26 (twoBridges (lpcOn 3 19) 26)
+    ∷ no72 (onHt bytesA (bios (bio 5 64 ∷ [])) msisA (absentLpc 0) 75)
+    ∷ no72 (onHt bytesA biosA msisA (lpcOn 5 19) 75)
+    -- 44
+    ∷ no72 (onHt unwired biosA (msis []) (lpc 19) 75)
     -- 45
     ∷ no26 (withPins 19 msisA (lpc 19) 26)
     ∷ no26 (behindEither (bios (bio 0 64 ∷ shortBio 5 128 19 ∷ [])) (lpcOn 5 19) 26)
@@ -225,6 +268,7 @@ brokenAlone =
     ∷ no72 (withMsis (msis (msi 63 193 ∷ [])))
     ∷ no72 (withEios (eios (eio 2 0 ∷ [])))
     ∷ no72 (withSci 45)
+    ∷ no72 (onHt bytesA biosA msisA (lpc 19) 17)
     ∷ example (withSci 45) (arrival 3 8) (traced (NoTrace badMap))
     ∷ []
 
@@ -266,6 +310,45 @@ rightBridge =
     ∷ example (behindEither (bios (shortBio 0 64 10 ∷ bio 5 128 ∷ [])) (lpcOn 5 19) 26) (number 3) (routed (Arrives 4 19))
     ∷ []
 
+-- ---- "Our older units have an HT controller in place of the EIO" (W-201 of document 02)
+unfoldable pub onTheHt : List Example
+onTheHt =
+    -- bridge inputs and slots: at the core vector of the input that their byte names, with 256 above their vector
+    example htA (number 72) (routed (Arrives 3 264))
+    ∷ example htA (number 95) (routed (Arrives 3 287))
+    ∷ example htA (number 96) (routed (Arrives 2 288))
+    ∷ example htA (number 127) (routed (Arrives 2 319))
+    ∷ example htA (number 128) (routed NoOwner)
+    ∷ example htA (number 3) (routed (Arrives 3 275))
+    ∷ example htA (arrival 3 264) (traced (BioInput 72))
+    ∷ example htA (arrival 2 264) (traced Nothing)
+    ∷ example htA (arrival 2 319) (traced (BioInput 127))
+    ∷ example htA (arrival 3 319) (traced Nothing)
+    ∷ example htA (arrival 3 275) (traced (LpcCascade 83))
+    ∷ example htA (arrival 2 320) (traced (MsiSlot 0 64))
+    ∷ example htA (arrival 2 511) (traced (MsiSlot 0 255))
+    ∷ example htA (arrival 2 512) (traced Nothing)
+    ∷ example htA (arrival 3 255) (traced Nothing)
+    -- LIO inputs: those that a byte names have no owner, and arrive nowhere
+    ∷ example htA (number 16) (routed (Arrives 2 0))
+    ∷ example htA (number 17) (routed NoOwner)
+    ∷ example htA (number 23) (routed NoOwner)
+    ∷ example htA (number 24) (routed (Arrives 2 8))
+    ∷ example htA (number 32) (routed NoOwner)
+    ∷ example htA (number 35) (routed (Arrives 3 19))
+    ∷ example htA (number 45) (routed Unwired)
+    ∷ example htA (arrival 2 1) (traced Nothing)
+    ∷ example htA (arrival 2 0) (traced (LioInput 16))
+    ∷ example htA (arrival 3 16) (traced Nothing)
+    ∷ example htA (arrival 3 19) (traced (LioInput 35))
+    -- several bytes may name one input
+    ∷ example (onHt (9 ∷ 9 ∷ 9 ∷ 9 ∷ 9 ∷ 9 ∷ 9 ∷ 9 ∷ []) biosA msisA (lpc 19) 75) (number 127) (routed (Arrives 2 319))
+    ∷ example (onHt (9 ∷ 9 ∷ 9 ∷ 9 ∷ 9 ∷ 9 ∷ 9 ∷ 9 ∷ []) biosA msisA (lpc 19) 17) (number 17) (routed (Arrives 2 1))
+    ∷ example (onHt (9 ∷ 9 ∷ 9 ∷ 9 ∷ 9 ∷ 9 ∷ 9 ∷ 9 ∷ []) biosA msisA (lpc 19) 17) (number 25) (routed NoOwner)
+    -- a bridge with 32 inputs, and slots behind them
+    ∷ example (onHt bytesA (bios (shortBio 0 64 32 ∷ [])) (msis (msi 32 224 ∷ [])) (lpc 19) 75) (arrival 2 288) (traced (MsiSlot 0 32))
+    ∷ []
+
 -- ---- "its unused places … hold 0, and 61 doesn't look at them": nor does any answer
 unfoldable pub unusedPlaces : List Example
 unusedPlaces =
@@ -277,6 +360,8 @@ unusedPlaces =
     ∷ example (withLpc (absentLpc 999)) (number 72) (routed (Arrives 3 8))
     ∷ example (withLpc (absentLpc 19)) (number 3) (routed NoOwner)
     ∷ example (withLpc (absentLpc 19)) (arrival 3 19) (traced (BioInput 83))
+    ∷ example (holdingHt absentHt lioA eiosA biosA msisA (lpc 19) 75) (number 72) (routed (Arrives 3 8))
+    ∷ example (holdingHt absentHt lioA eiosA biosA msisA (lpc 19) 75) (number 17) (routed (Arrives 2 1))
     ∷ []
 
 -- ---- the first broken rule, its place and the second one
@@ -326,6 +411,16 @@ firstNamed =
     ∷ names (withEios (eios (eio 2 0 ∷ []))) (at 220 207 243 262) 53 220 207
     ∷ names (withLio (lio 2 255 3 0xFF00)) (at 207 230 243 262) 53 230 207
     ∷ names (withSci 45) (at 207 230 243 262) 54 400 0
+    -- with an HT: 42 of a hardware ID that is not 0; 44 behind 43 and before 45; 52 of HT vectors; 53 of none
+    ∷ example htA (rules (at 207 230 243 262)) (judged verdicts.Sound)
+    ∷ names (onHt unwired (bios (bio 5 64 ∷ [])) msisA (lpcOn 5 19) 75) (at 207 230 243 262) 42 262 0
+    ∷ names (onHt unwired biosA msisA (lpcOn 5 19) 75) (at 207 230 243 262) 43 279 0
+    ∷ names (onHt unwired biosA msisA (lpc 19) 75) (at 207 230 243 262) 44 230 0
+    ∷ names (onHt unwired (bios (shortBio 0 64 19 ∷ [])) (msis (msi 0 64 ∷ [])) (lpc 19) 17) (at 207 230 243 262) 44 230 0
+    ∷ names (onHt bytesA (bios (shortBio 0 64 19 ∷ [])) (msis (msi 0 64 ∷ [])) (lpc 19) 17) (at 207 230 243 262) 45 279 0
+    ∷ names (onHt bytesA biosA (msis (msi 63 193 ∷ [])) (lpc 19) 17) (at 207 230 243 262) 52 262 243
+    ∷ names (onHt bytesA (bios (bio 0 64 ∷ bio 0 128 ∷ [])) msisA (lpc 19) 75) (at 207 230 243 262) 52 314 262
+    ∷ names (onHt bytesA biosA msisA (lpc 19) 17) (at 207 230 243 262) 54 400 0
     ∷ []
 
 -- asked in turn, the definitions give the answers

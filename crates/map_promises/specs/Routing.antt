@@ -16,7 +16,7 @@ abbrev pub IsSourced : Said → ℕ → Type 0
 IsSourced said number = (x : Source) × IsSource said x × HasNumber said x number
 
 -- "16 to 47 the LIO inputs 0 to 31", "with no such bit it is unwired": it is the number of an input that is not wired (by 40 there
--- is a LIO)
+-- is a LIO, and by 44 the HT does not name it)
 abbrev pub IsUnwired : Said → ℕ → Type 0
 IsUnwired said number = (i : ℕ) × (i < 32) × (wired (said .lio) i ≡ false) × (16 + i ≡ number)
 

@@ -10,7 +10,7 @@ use Rattle.words.specs.declared.Refusal.{Refusal}
 use Rattle.words.specs.declared.Verdict.the-variants.{Sound}
 use Rattle.kinds.specs.Ranges.{bitInBoth}
 use Rattle.lines.specs.Says.{Said, says, Same}
-use Rattle.lines.specs.Rules.{rangesKept, rule43, rule45, firstBroken, keepsRules}
+use Rattle.lines.specs.Rules.{rangesKept, bothKinds, rule43, rule45, firstBroken, keepsRules}
 use Rattle.lines.specs.Answers.{routeOf, traceOf, badMap, routeCode, traceCode}
 use Rattle.lines.specs.declared.Map.{Map}
 use Rattle.lines.specs.declared.Places.{Places}
@@ -53,7 +53,8 @@ abbrev pub PlacesDoNotMatter : Map → Type 0
 PlacesDoNotMatter map =
     (places : Places) (madt fadt : ℕ)
     → Placed (says map) places
-    → (rangesKept (says map) ≡ true → bitInBoth (says map .lio) ≡ false → firstBroken map places madt fadt ≡ Sound → keepsRules map ≡ true)
+    → (rangesKept (says map) ≡ true → bitInBoth (says map .lio) ≡ false → bothKinds (says map) ≡ false
+    → firstBroken map places madt fadt ≡ Sound → keepsRules map ≡ true)
     × (keepsRules map ≡ true → firstBroken map places madt fadt ≡ Sound)
 
 -- ---- the LPC lines, and there and back

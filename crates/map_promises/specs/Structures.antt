@@ -8,7 +8,7 @@ use Rattle.lines.specs.Says.{Said}
 use Rattle.lines.specs.declared.Places.{Places}
 use Rattle.map_promises.specs.Sources.{eioAt, bioAt, msiAt}
 
--- the LIO; the EIO, BIO or MSI at a place of its list
+-- the LIO; the EIO, BIO or MSI at a place of its list. An HT claims nothing: it "enters the LIO and no core vector itself".
 pub data Structure : Type 0 where
   lio : Structure
   eio : ℕ → Structure
