@@ -102,8 +102,9 @@ def lio(cascade0, cascade1, mask0, mask1):
     return structure(18, le(0x1FE01400, 8) + le(0x80, 2) + le(cascade0, 1) + le(cascade1, 1) + le(mask0, 4) + le(mask1, 4))
 
 
-def ht(cascades=bytes(8)):
-    return structure(19, le(0, 8) + le(0, 2) + cascades)
+def ht(*named, base=0, size=0):
+    """An HT by the LIO inputs that its eight bytes name: input 0 by all of them if not said."""
+    return structure(19, le(base, 8) + le(size, 2) + bytes(named or 8))
 
 
 def eio(cascade, node, node_map=1):

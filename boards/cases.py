@@ -401,7 +401,7 @@ for label, at in (("inside a structure", [140]), ("at a structure's end", [147])
     route("board A cut " + label + ", route", cut(image(), *at), 72, "kind 0 3 8")
 read("refusals of the tables come first", with_root(revision=0), refused(12, 30))
 
-# 31 to 34: structures in turn.
+# 31 to 33: structures in turn.
 read("31: one byte left", plus(b"\x11"), refused(31, 294))
 read("31: length 1", plus(b"\0\1"), refused(31, 294))
 read("31: length 0", plus(b"\0\0"), refused(31, 294))
@@ -417,8 +417,9 @@ for kind, length in ((17, 15), (18, 23), (19, 21), (20, 13), (21, 19), (22, 17),
         read(f"33: type {kind}, version {version}", plus(structure(kind, bytes(length - 3), version)), refused(33, 294))
 read("32: a known type of length 2", plus(b"\x11\2"), refused(32, 294))
 read("32: EIO of 4 bytes, as the source prints it", plus(b"\x14\4\1\5"), refused(32, 294))
-read("34: HT", plus(ht()), refused(34, 294))
-read("34 before a later 32", made(ht(), b"\x11\2"), refused(34, 162))
+read("34: board A and an HT", plus(ht()), refused(34, 294))
+read("in turn: an HT is no fault, a CORE of length 2 behind it is 32", made(ht(), b"\x11\2"), refused(32, 183))
+read("in turn: an HT is no fault, a CORE of length 14 is 32", made(ht(), structure(17, bytes(11))), refused(32, 183))
 read("in turn: 35 before a later 31", made(core(0, 0, 2), b"\0\1"), refused(35, 162))
 
 # 35, 71 to 77, 37 and 38.
@@ -571,7 +572,7 @@ read("60: no room for the enabled one", made(C, *SPARES, *REST), refused(60, 0),
 read("40: no structure", made(), refused(40, 118))
 read("40: no enabled CORE", made(core(0, 0, 0), L, eio(3, 0)), refused(40, 118))
 read("40: no LIO", made(C, eio(3, 0)), refused(40, 118))
-read("40: no EIO", made(C, L), refused(40, 118))
+read("40: neither EIO nor HT", made(C, L), refused(40, 118))
 read("41: EIO repeats a node, and not 53", plus(eio(3, 0)), refused(41, 294))
 read("41 before 42", made(C, L, eio(3, 0), eio(4, 0), bio(9, 64)), refused(41, 213))
 read("42: BIO without its EIO", plus(bio(9, 128)), refused(42, 294))
@@ -758,7 +759,7 @@ both(read, "revision 5, MADT named twice", one(lay([madt(STRUCTURES_OF_A, 5), F]
 both(read, "revision 5, an entry that is not present", one(lay([madt(STRUCTURES_OF_A, 5), F], [0, 1, TOP - 8])),
      ordinary=refused(20, 118), strict=refused(20, 118))
 both(read, "revision 5, last structure cut", revised(5, STRUCTURES_OF_A + [b"\x11"]), ordinary=refused(31, 294), strict=NOT_TAKEN)
-both(read, "revision 5, HT", revised(5, STRUCTURES_OF_A + [ht()]), ordinary=refused(34, 294), strict=NOT_TAKEN)
+both(read, "revision 5, board A and an HT", revised(5, STRUCTURES_OF_A + [ht()]), ordinary=refused(34, 294), strict=NOT_TAKEN)
 both(read, "revision 5, type 24 passed over", revised(5, STRUCTURES_OF_A + [b"\x18\x08" + bytes(6)]), ordinary=TWO, strict=NOT_TAKEN)
 both(read, "revision 5, no structure", revised(5, []), ordinary=refused(40, 118), strict=NOT_TAKEN)
 both(read, "revision 5, MSI over the BIO's vectors", revised(5, [msi(63, 193) if k == MSI else s for k, s in enumerate(STRUCTURES_OF_A)]),
