@@ -401,7 +401,7 @@ for label, at in (("inside a structure", [140]), ("at a structure's end", [147])
     route("board A cut " + label + ", route", cut(image(), *at), 72, "kind 0 3 8")
 read("refusals of the tables come first", with_root(revision=0), refused(12, 30))
 
-# 31 to 33: structures in turn.
+# 31 to 33: structures in turn. (34 comes after all of them: W-201 below.)
 read("31: one byte left", plus(b"\x11"), refused(31, 294))
 read("31: length 1", plus(b"\0\1"), refused(31, 294))
 read("31: length 0", plus(b"\0\0"), refused(31, 294))
@@ -422,7 +422,7 @@ read("in turn: an HT is no fault, a CORE of length 2 behind it is 32", made(ht()
 read("in turn: an HT is no fault, a CORE of length 14 is 32", made(ht(), structure(17, bytes(11))), refused(32, 183))
 read("in turn: 35 before a later 31", made(core(0, 0, 2), b"\0\1"), refused(35, 162))
 
-# 35, 71 to 77, 37 and 38.
+# 35, 71 to 77, 37 and 38. (78 is of the HT: W-201 below.)
 read("35: flags 2", put(1, core(1, 1, 2)), refused(35, 177))
 read("35: flags 2^31 + 1", put(0, core(0, 0, 0x80000001)), refused(35, 162))
 read("35: on a disabled CORE", put(2, core(2, 2, 2)), refused(35, 192))
@@ -857,6 +857,322 @@ SPARE = PRINTED["qemu-spare-cores"][0]
 survey("real, with spare CORE", SPARE, found(670, 371, 1041, 268, 0))
 both(read, "real, with spare CORE", SPARE, ordinary=FEW, strict=FEW)
 route("real, with spare CORE: the SCI", SPARE, 0, "kind 0 3 19")
+
+# W-201: HT boards. Board A with an HT in place of its EIO, and both halves of the LIO in use: HT at 230, MSI 251, BIO 270, LPC 287, what
+# is added to it at 302, and so its FADT without that. In version 2 all places are 8 further on.
+SPLIT = lio(2, 3, 0xFFFF, 0xFF0000)  # inputs 0 to 15 arrive at core vector 2, 16 to 23 at 3; 24 to 31 are unwired
+NAMED = (16, 1, 2, 3, 4, 5, 6, 7)  # so HT vectors 0 to 31 arrive at core vector 3, the others at 2
+
+
+def hosted(*more, **put):
+    """The structures of that board, others in place of its own (none for None), and structures behind its last one."""
+    own = {"lio": SPLIT, "ht": ht(*NAMED), "msi": msi(64, 192), "bio": bio(0, 64), "lpc": lpc(19)} | put
+    return STRUCTURES_OF_A[:LIO] + [new for new in own.values() if new] + list(more)
+
+
+def older(*more, sci=75, pairs=None, **put):
+    return board(hosted(*more, **put), sci, pairs=pairs)
+
+
+def naming(byte, at):
+    """Its HT with another byte."""
+    return ht(*NAMED[:at], byte, *NAMED[at + 1:])
+
+
+OLD = older()
+both(read, "HT: board A with an HT", OLD, ordinary=TWO, strict=TWO)
+for number, answer in (
+    (0, "kind 0 3 275"), (3, "kind 0 3 275"), (15, "kind 0 3 275"),  # LPC lines
+    (16, "kind 0 2 0"), (17, "kind 2 0 0"), (20, "kind 2 0 0"), (23, "kind 2 0 0"), (24, "kind 0 2 8"), (31, "kind 0 2 15"),  # the low half
+    (32, "kind 2 0 0"), (33, "kind 0 3 17"), (39, "kind 0 3 23"), (40, "kind 1 0 0"), (47, "kind 1 0 0"),  # the high half, and in none
+    (48, "kind 2 0 0"), (63, "kind 2 0 0"), (64, "kind 0 3 256"), (72, "kind 0 3 264"), (83, "kind 0 3 275"), (95, "kind 0 3 287"),
+    (96, "kind 0 2 288"), (127, "kind 0 2 319"), (128, "kind 2 0 0"), (264, "kind 2 0 0"), (320, "kind 2 0 0"), (65608, "kind 2 0 0"),
+    (0xFFFFFFFF, "kind 2 0 0"),
+):
+    route(f"HT: {number}", OLD, number, answer)
+for vector, number, answer in (
+    # LIO inputs: 1 to 7 and 16 are named, 0 and 8 to 15 are left of the low half, 17 to 23 of the high one
+    (2, 0, "kind 1 0 16"), (2, 1, "kind 0 0 0"), (2, 7, "kind 0 0 0"), (2, 8, "kind 1 0 24"), (2, 15, "kind 1 0 31"), (2, 16, "kind 0 0 0"),
+    (2, 17, "kind 0 0 0"), (2, 31, "kind 0 0 0"), (3, 0, "kind 0 0 0"), (3, 1, "kind 0 0 0"), (3, 8, "kind 0 0 0"), (3, 16, "kind 0 0 0"),
+    (3, 17, "kind 1 0 33"), (3, 19, "kind 1 0 35"), (3, 23, "kind 1 0 39"), (3, 24, "kind 0 0 0"), (3, 31, "kind 0 0 0"),
+    # no source has a number of 32 to 255
+    (2, 32, "kind 0 0 0"), (2, 64, "kind 0 0 0"), (3, 64, "kind 0 0 0"), (2, 255, "kind 0 0 0"), (3, 255, "kind 0 0 0"),
+    # bridge inputs, and with them the LPC's
+    (3, 256, "kind 2 0 64"), (2, 256, "kind 0 0 0"), (3, 264, "kind 2 0 72"), (2, 264, "kind 0 0 0"), (3, 275, "kind 3 0 83"),
+    (2, 275, "kind 0 0 0"), (3, 287, "kind 2 0 95"), (2, 287, "kind 0 0 0"), (3, 288, "kind 0 0 0"), (2, 288, "kind 2 0 96"),
+    (2, 319, "kind 2 0 127"), (3, 319, "kind 0 0 0"),
+    # slots
+    (2, 320, "kind 4 0 64"), (3, 320, "kind 0 0 0"), (2, 511, "kind 4 0 255"), (3, 511, "kind 0 0 0"), (2, 512, "kind 0 0 0"),
+    # no such vector, no such number
+    (3, 520, "kind 0 0 0"), (0, 264, "kind 0 0 0"), (16, 264, "kind 0 0 0"), (259, 264, "kind 0 0 0"), (3, 65800, "kind 0 0 0"),
+    (2, 0xFFFFFFFF, "kind 0 0 0"), (0xFFFFFFFF, 264, "kind 0 0 0"), (0xFFFFFFFF, 0xFFFFFFFF, "kind 0 0 0"),
+):
+    trace(f"HT: {vector} {number}", OLD, vector, number, answer)
+
+# Byte n is for HT vectors 32n to 32n + 31: groups whose LIO inputs are of the low half and the high half by turns. No bridge, all slots.
+STEPS = ht(0, 16, 1, 17, 2, 18, 3, 19)
+SLOTS = older(ht=STEPS, msi=msi(0, 256), bio=None, lpc=None, sci=26)
+read("HT: slots 0 to 255 without a bridge", SLOTS, TWO)
+for slot, vector in ((0, 2), (31, 2), (32, 3), (63, 3), (64, 2), (95, 2), (96, 3), (127, 3), (128, 2), (159, 2), (160, 3), (191, 3), (192, 2),
+                     (223, 2), (224, 3), (255, 3)):
+    trace(f"HT: slot {slot} of 256", SLOTS, vector, 256 + slot, f"kind 4 0 {slot}")
+for vector, number in ((3, 256), (3, 287), (2, 288), (2, 319), (3, 320), (2, 511)):
+    trace(f"HT: a slot of 256, by the other vector: {vector} {number}", SLOTS, vector, number, "kind 0 0 0")
+for number, answer in ((95, "kind 0 2 287"), (96, "kind 0 3 288"), (126, "kind 0 3 318"), (127, "kind 0 3 319")):
+    route(f"HT: groups by turns: {number}", older(ht=STEPS), number, answer)
+for cascade, vector in ((0, 2), (31, 2), (32, 3), (63, 3)):
+    route(f"HT: groups by turns, LPC cascade {cascade}", older(ht=STEPS, lpc=lpc(cascade)), 7, f"kind 0 {vector} {256 + cascade}")
+    trace(f"HT: groups by turns, LPC cascade {cascade}, its pin", older(ht=STEPS, lpc=lpc(cascade)), vector, 256 + cascade, f"kind 3 0 {64 + cascade}")
+trace("HT: input 19 without an LPC", older(lpc=None), 3, 275, "kind 2 0 83")
+route("HT: 0 without an LPC", older(lpc=None), 0, "kind 2 0 0")
+
+# Several bytes may name one input; what no byte names stays a source.
+TWICE = older(ht=ht(16, 16, 2, 3, 4, 5, 6, 16))
+read("HT: three bytes name one input", TWICE, TWO)
+for number, answer in ((17, "kind 0 2 1"), (23, "kind 0 2 7"), (32, "kind 2 0 0"), (96, "kind 0 3 288"), (127, "kind 0 3 319")):
+    route(f"HT: three bytes name one input: {number}", TWICE, number, answer)
+for vector, number, answer in ((2, 1, "kind 1 0 17"), (3, 16, "kind 0 0 0"), (3, 288, "kind 2 0 96"), (3, 319, "kind 2 0 127"),
+                               (2, 320, "kind 4 0 64"), (2, 479, "kind 4 0 223"), (3, 480, "kind 4 0 224"), (3, 511, "kind 4 0 255")):
+    trace(f"HT: three bytes name one input: {vector} {number}", TWICE, vector, number, answer)
+SAME = older(ht=ht(*8 * [5]))
+for number, answer in ((20, "kind 0 2 4"), (21, "kind 2 0 0"), (22, "kind 0 2 6"), (95, "kind 0 2 287"), (96, "kind 0 2 288")):
+    route(f"HT: all bytes name input 5: {number}", SAME, number, answer)
+
+# Halves of the LIO.
+MERGED = older(lio=lio(2, 2, 0xFFFF, 0xFF0000))
+both(read, "53: both halves on one vector, with an HT", MERGED, ordinary=TWO, strict=TWO)
+route("HT, both halves on one vector: 72", MERGED, 72, "kind 0 2 264")
+route("HT, both halves on one vector: 33", MERGED, 33, "kind 0 2 17")
+for number, answer in ((0, "kind 1 0 16"), (1, "kind 0 0 0"), (16, "kind 0 0 0"), (17, "kind 1 0 33"), (264, "kind 2 0 72"), (288, "kind 2 0 96"),
+                       (320, "kind 4 0 64")):
+    trace(f"HT, both halves on one vector: 2 {number}", MERGED, 2, number, answer)
+HIGH = older(lio=lio(255, 9, 0, 0xFFFFFF))
+route("HT, high half alone: 72", HIGH, 72, "kind 0 9 264")
+trace("HT, high half alone: a slot", HIGH, 9, 320, "kind 4 0 64")
+trace("HT, high half alone: the unused half's byte", HIGH, 255, 264, "kind 0 0 0")
+route("HT, low half alone: 72", older(lio=L), 72, "kind 0 2 264")
+BARE = made(C, lio(2, 0, 1 << 31, 0), ht(*8 * [31]), bio(0, 64), sci=64)
+read("HT: the only wired input is named", BARE, ONE)
+route("HT: the only wired input is named: 47", BARE, 47, "kind 2 0 0")
+route("HT: the only wired input is named: 46", BARE, 46, "kind 1 0 0")
+trace("HT: the only wired input is named: 2 31", BARE, 2, 31, "kind 0 0 0")
+trace("HT: the only wired input is named: 2 319", BARE, 2, 319, "kind 2 0 127")
+
+# What else is in the HT, and where it stands.
+read("HT: its base and size are not looked at", older(ht=ht(*NAMED, base=TOP - 1, size=0xFFFF)), TWO)
+route("HT: its base and size are not looked at, route", older(ht=ht(*NAMED, base=TOP - 1, size=0xFFFF)), 72, "kind 0 3 264")
+read("HT before the LIO", made(C, ht(*NAMED), SPLIT), ONE)
+route("HT before the LIO, and behind its bridge", made(bio(0, 64), ht(*NAMED), C, SPLIT), 72, "kind 0 3 264")
+read("HT, and neither bridge nor slots", made(C, L, ht()), ONE)
+for label, at in (("inside the HT", [205]), ("inside its bytes", [215, 217])):
+    route(f"HT board cut {label}: 72", cut(image(hosted()), *at), 72, "kind 0 3 264")
+read("21: HT board cut inside the HT and a gap of one byte", cut(image(hosted()), 205, gap=1), refused(21, 130))
+
+# 78 and 44: a byte over 31, in the walk; a byte that names an unwired input, after 43.
+WIDE = lio(2, 3, 0xFFFF, 0xFFFF0000)
+for at, position in ((0, "first"), (4, "fifth"), (7, "last")):
+    for byte, answer in ((0, TWO), (31, TWO), (32, refused(78, 230)), (255, refused(78, 230))):
+        read(f"78: the {position} byte {byte}", older(lio=WIDE, ht=naming(byte, at)), answer)
+    for byte, answer in ((23, TWO), (24, refused(44, 230)), (31, refused(44, 230))):
+        read(f"44: the {position} byte {byte}, inputs 0 to 23 wired", older(ht=naming(byte, at)), answer)
+for at in (1, 2, 3, 5, 6):
+    read(f"78: byte {at} is 32", older(lio=WIDE, ht=naming(32, at)), refused(78, 230))
+    read(f"44: byte {at} is 24", older(ht=naming(24, at)), refused(44, 230))
+read("44: a group that nothing lands on", older(ht=naming(24, 7), msi=msi(64, 8)), refused(44, 230))
+read("44: nothing lands on the HT at all", made(C, L, ht(0, 0, 0, 0, 0, 0, 0, 24)), refused(44, 200))
+read("44: two bytes, one HT", older(ht=ht(31, 1, 2, 3, 4, 5, 6, 30)), refused(44, 230))
+read("44: no LIO half is used", older(lio=lio(255, 255, 0, 0)), refused(44, 230))
+read("44: HT before the LIO", made(C, ht(0, 0, 0, 24, 0, 0, 0, 0), L), refused(44, 177))
+read("44: a hole in the mask", older(lio=lio(2, 3, 0xFFEF, 0xFF0000)), refused(44, 230))
+read("44: the hole is in the other half's mask", older(lio=lio(2, 3, 0xFFEF, 0xFF0010)), TWO)
+route("44: the hole is in the other half's mask, route", older(lio=lio(2, 3, 0xFFEF, 0xFF0010), ht=naming(4, 0)), 72, "kind 0 3 264")
+read("78 before 44: one byte 32, one unwired", older(ht=ht(31, 1, 2, 3, 4, 5, 6, 32)), refused(78, 230))
+read("32 before 33 and 78", plus(structure(19, b"\xff" * 17, 0)), refused(32, 294))
+read("33 before 78", plus(structure(19, b"\xff" * 18, 2)), refused(33, 294))
+read("in turn: 78 before a later 31", made(naming(32, 0), b"\0\1"), refused(78, 162))
+read("in turn: 78 before a later 37", made(naming(32, 7), lio(2, 2, 1, 1)), refused(78, 162))
+read("in turn: 37 before a later 78", made(lio(2, 2, 1, 1), naming(32, 7)), refused(37, 162))
+read("in turn: 77 before a later 78", made(lpc(64), naming(32, 7)), refused(77, 162))
+read("in turn: 38 before a later 78", made(L, L, naming(32, 7)), refused(38, 185))
+read("78 before 34: board A and an HT with byte 32", plus(naming(32, 3)), refused(78, 294))
+read("78 before 34: the second HT", older(naming(255, 0)), refused(78, 302))
+read("78 before 39 and 40", made(C, C, naming(32, 0)), refused(78, 192))
+
+# 34: after the walk, at the first structure that gives the board both kinds or a second HT. CORE is at 162, LIO at 177, the next at 200.
+H, E = ht(), eio(3, 0)
+for label, kinds, place in (
+    ("HT, EIO", [H, E], 221), ("EIO, HT", [E, H], 213), ("HT, HT", [H, H], 221), ("HT, EIO, HT", [H, E, H], 221),
+    ("EIO, HT, EIO", [E, H, eio(4, 5)], 213), ("HT, HT, EIO", [H, H, E], 221), ("HT, EIO, EIO", [H, E, eio(4, 5)], 221),
+    ("EIO, EIO, HT", [E, eio(4, 5), H], 226),
+    ("EIO, HT, HT", [E, H, H], 213), ("two HT that differ", [H, ht(1, 2, 3, 4, 5, 6, 7, 8)], 221), ("six HT, and no 38", 6 * [H], 221),
+    ("HT, four EIO", [H, *FOUR], 221), ("four EIO, HT", [*FOUR, H], 252), ("HT, MSI, BIO, EIO", [H, msi(64, 8), bio(0, 64), E], 257),
+    ("HT, type 24, EIO", [H, b"\x18\x08" + bytes(6), E], 229),
+):
+    read("34: " + label, made(C, L, *kinds), refused(34, place))
+read("34: HT board and an EIO", older(eio(4, 0)), refused(34, 302))
+read("34: HT board and its HT again", older(ht(*NAMED)), refused(34, 302))
+read("34: HT and EIO alone", made(H, E), refused(34, 183))
+both(read, "34 of version 2", older(E, pairs=[(0, 32)]), ordinary=refused(34, 310), strict=refused(34, 310))
+
+# Any refusal of any structure comes first: what stands behind HT and EIO is at 234.
+for number, label, later in (
+    (31, "length 1", b"\0\1"), (31, "one byte left", b"\x13"), (31, "an HT past the end", H[:20]),
+    (32, "a CORE of length 14", structure(17, bytes(11))), (32, "an HT of length 20", structure(19, bytes(17))),
+    (33, "version 2", structure(17, bytes(12), 2)), (33, "an HT of version 0", structure(19, bytes(18), 0)), (35, "flags 2", core(1, 1, 2)),
+    (71, "cascade 1", eio(1, 5)), (72, "node 64", eio(4, 64)), (73, "node map 0", eio(4, 5, 0)), (74, "count 0", msi(0, 0)),
+    (75, "end 257", msi(1, 256)), (76, "base 63", bio(0, 63)), (77, "cascade 64", lpc(64)), (78, "byte 32", naming(32, 5)),
+    (37, "a bit in both masks", lio(2, 2, 1, 1)), (38, "second LIO", L),
+):
+    read(f"{number} before 34: {label}", made(C, L, H, E, later), refused(number, 234))
+read("38 before 34: HT, five EIO", made(C, L, H, *FOUR, eio(7, 4)), refused(38, 273))
+read("38 before 34: five EIO, HT", made(C, L, *FOUR, eio(7, 4), H), refused(38, 252))
+read("31 before 34: two HT", made(C, L, H, H, b"\0\1"), refused(31, 242))
+
+# And 34 comes before what is asked of the board.
+read("34 before 39", made(C, C, L, H, E), refused(34, 236))
+read("34 before 39: two HT", made(H, C, C, H, L), refused(34, 213))
+read("34 before 40: no LIO", made(C, H, E), refused(34, 198))
+read("34 before 40: no enabled CORE", made(core(0, 0, 0), L, H, E), refused(34, 221))
+read("34 before 41", made(C, L, H, E, E), refused(34, 221))
+read("34 before 41, which is earlier in the table", made(C, L, E, E, H), refused(34, 226))
+read("34 before 42", made(C, L, H, E, bio(9, 64)), refused(34, 221))
+read("34 before 43", made(C, L, H, E, lpc(19)), refused(34, 221))
+read("34 before 44", made(C, L, naming(31, 0), E), refused(34, 221))
+read("34 before 45", older(E, pairs=[(0, 10)]), refused(34, 310))
+read("34 before 51", older(bio(0, 64), E), refused(34, 319))
+read("34 before 52", older(E, msi=msi(63, 193)), refused(34, 302))
+read("34 before 53", made(C, L, H, eio(2, 0)), refused(34, 221))
+read("34 before 54", older(E, sci=45), refused(34, 302))
+read("34 before 60", plus(ht()), refused(34, 294), room=0)
+
+# 39, 40, 42 and 43 of HT boards.
+read("39: HT board", made(C, C, L, H), refused(39, 177))
+read("39 before 40: HT without LIO", made(C, C, H), refused(39, 177))
+read("40: HT without LIO", made(C, H), refused(40, 118))
+read("40: HT alone", made(H), refused(40, 118))
+read("40: HT, no CORE", made(L, H), refused(40, 118))
+read("40: HT, no enabled CORE", made(core(0, 0, 0), L, H), refused(40, 118))
+read("40 before 42: HT", made(C, H, bio(5, 64)), refused(40, 118))
+read("40 before 43: HT", made(C, H, lpc(19)), refused(40, 118))
+read("40 before 44: no LIO", made(C, naming(31, 0)), refused(40, 118))
+for hardware, answer in ((0, TWO), (1, refused(42, 270)), (5, refused(42, 270)), (63, refused(42, 270)), (64, refused(72, 270)),
+                         (256, refused(72, 270))):
+    read(f"42: HT, hardware ID {hardware}", older(bio=bio(hardware, 64), lpc=None), answer)
+read("42: HT, hardware ID 5 and the LPC of node 5", older(bio=bio(5, 64), lpc=lpc(19, 5)), refused(42, 270))
+read("42: HT, the second bridge's hardware ID", older(bio(5, 128)), refused(42, 302))
+read("42: HT, a bridge before it", made(C, L, bio(1, 64), H), refused(42, 200))
+read("42 before 43: HT", older(bio=bio(5, 64)), refused(42, 270))
+read("43: HT, LPC without a bridge", older(bio=None), refused(43, 270))
+for node in (1, 5, 15):
+    read(f"43: HT, LPC of node {node}", older(lpc=lpc(19, node)), refused(43, 287))
+
+# 44 after 42 and 43, before 45; 51, 52, 54 and 60 of HT boards.
+LOOSE = naming(31, 7)  # its last byte names an unwired input
+read("42 before 44", older(ht=LOOSE, bio=bio(5, 64), lpc=None), refused(42, 270))
+read("43 before 44: LPC of node 3", older(ht=LOOSE, lpc=lpc(19, 3)), refused(43, 287))
+read("43 before 44: no bridge", older(ht=LOOSE, bio=None), refused(43, 270))
+read("44 before 45", older(ht=LOOSE, pairs=[(0, 19)]), refused(44, 238))
+read("44 before 51", older(bio(0, 64), ht=LOOSE), refused(44, 230))
+read("44 before 52", older(ht=LOOSE, msi=msi(63, 193)), refused(44, 230))
+read("44 before 54", older(ht=LOOSE, sci=45), refused(44, 230))
+read("44 before 54: the SCI is the input that is named", older(ht=LOOSE, sci=47), refused(44, 230))
+read("44 before 60", older(ht=LOOSE), refused(44, 230), room=0)
+read("45: HT, 19 pins, cascade 19", older(pairs=[(0, 19)]), refused(45, 295))
+read("45: HT, 20 pins, cascade 19", older(pairs=[(0, 20)]), TWO)
+read("45 before 52: HT", older(pairs=[(0, 10)], msi=msi(5, 8)), refused(45, 295))
+read("51: HT, the same BIO twice", older(bio(0, 64)), refused(51, 302, 270))
+read("51: HT, bases 64 and 127", older(bio(0, 127)), refused(51, 302, 270))
+read("52: HT, bases 64 and 128", older(bio(0, 128)), refused(52, 302, 270))
+read("52: HT, bridges of one pin", older(bio(0, 65), lpc=lpc(0), pairs=[(0, 1)], sci=64), refused(52, 310, 278))
+read("52: HT, MSI 63 before the BIO", older(msi=msi(63, 193)), refused(52, 270, 251))
+read("52: HT, BIO before the MSI", made(C, L, H, bio(0, 64), msi(0, 64)), refused(52, 238, 221))
+read("52: an HT that stands last is not named", made(C, L, msi(0, 64), bio(0, 64), H), refused(52, 219, 200))
+read("52: HT, two equal MSI", older(msi(64, 192)), refused(52, 302, 251))
+read("52: HT, two MSI share the last slot", older(msi(255, 1)), refused(52, 302, 251))
+read("52: HT, a BIO with the first of two MSI", made(C, L, H, msi(0, 8), msi(8, 8), bio(0, 64)), refused(52, 259, 221))
+read("52: HT, two MSI beside each other in one group", made(C, L, H, msi(64, 8), msi(72, 8)), ONE)
+read("52 before 54: HT", older(msi=msi(63, 193), sci=17), refused(52, 270, 251))
+for sci, answer in (
+    (0, TWO), (15, TWO), (16, TWO), (17, refused(54, 302)), (23, refused(54, 302)), (24, TWO), (32, refused(54, 302)), (33, TWO),
+    (40, refused(54, 302)), (47, refused(54, 302)), (48, refused(54, 302)), (64, TWO), (83, TWO), (96, TWO), (127, TWO), (128, refused(54, 302)),
+    (267, refused(54, 302)), (65535, refused(54, 302)),
+):
+    read(f"54: HT, SCI {sci}", older(sci=sci), answer)
+read("54: HT, SCI 3 without LPC", older(lpc=None, sci=3), refused(54, 287))
+read("54: HT, SCI 17, and no byte names its input", older(ht=naming(16, 1), sci=17), TWO)
+read("54: HT, SCI 23, named by the last byte alone", older(ht=ht(0, 0, 0, 0, 0, 0, 0, 7), sci=23), refused(54, 302))
+read("54: HT, SCI 16 named", older(ht=ht(), sci=16), refused(54, 302))
+read("60: HT, a list of 3", OLD, refused(60, 0), 3)
+read("60: HT, a list of 4", OLD, TWO, 4)
+read("60 after 54: HT, SCI 17", older(sci=17), refused(54, 302), 0)
+
+# With pairs: pins on the HT, and slots behind them.
+FEWER, APART = older(pairs=[(0, 32)], msi=msi(32, 224)), older(pairs=[(0, 32)])
+both(read, "HT, 32 pins: slots from 32 on", FEWER, ordinary=TWO, strict=TWO)
+read("HT, version 2 without pairs", older(pairs=()), TWO)
+read("HT, 32 pins: slots from 31 on", older(pairs=[(0, 32)], msi=msi(31, 225)), refused(52, 278, 259))
+read("HT, the pair of another ID: slots from 32 on", older(pairs=[(5, 32)], msi=msi(32, 224)), refused(52, 278, 259))
+read("7: HT board", older(pairs=[(0, 65)]), refused(7, 18))
+for number, answer in ((3, "kind 0 3 275"), (17, "kind 2 0 0"), (95, "kind 0 3 287"), (96, "kind 2 0 0"), (127, "kind 2 0 0")):
+    route(f"HT, 32 pins: {number}", FEWER, number, answer)
+for vector, number, answer in ((3, 275, "kind 3 0 83"), (3, 287, "kind 2 0 95"), (3, 288, "kind 0 0 0"), (2, 288, "kind 4 0 32"),
+                               (2, 319, "kind 4 0 63"), (2, 511, "kind 4 0 255")):
+    trace(f"HT, 32 pins, slots behind them: {vector} {number}", FEWER, vector, number, answer)
+for number, answer in ((288, "kind 0 0 0"), (319, "kind 0 0 0"), (320, "kind 4 0 64")):
+    trace(f"HT, 32 pins, slots from 64 on: 2 {number}", APART, 2, number, answer)
+read("54: HT, the SCI on the last pin", older(pairs=[(0, 32)], sci=95), TWO)
+read("54: HT, the SCI on a pin that is gone", older(pairs=[(0, 32)], sci=96), refused(54, 310))
+PIN = older(pairs=[(0, 1)], lpc=lpc(0), msi=msi(1, 255), sci=64)
+route("HT, 1 pin: 64", PIN, 64, "kind 0 3 256")
+route("HT, 1 pin: 65", PIN, 65, "kind 2 0 0")
+trace("HT, 1 pin, the LPC's", PIN, 3, 256, "kind 3 0 64")
+trace("HT, 1 pin: slot 1", PIN, 3, 257, "kind 4 0 1")
+
+# Both readings.
+for revision in (0, 1, 5):
+    ordinary, strict = (TWO if 1 <= revision else NOT_TAKEN), (TWO if revision == 1 else NOT_TAKEN)
+    both(read, f"HT, MADT revision {revision}", revised(revision, hosted()), ordinary=ordinary, strict=strict)
+both(read, "revision 5, HT and EIO", revised(5, hosted(E)), ordinary=refused(34, 302), strict=NOT_TAKEN)
+both(read, "revision 0, HT and EIO", revised(0, hosted(E)), ordinary=NOT_TAKEN, strict=NOT_TAKEN)
+both(read, "revision 5, HT with an unwired input", revised(5, hosted(ht=LOOSE)), ordinary=refused(44, 230), strict=NOT_TAKEN)
+both(read, "revision 5, HT with byte 32", revised(5, hosted(ht=naming(32, 0))), ordinary=refused(78, 230), strict=NOT_TAKEN)
+both(read, "revision 1, HT with an unwired input", revised(1, hosted(ht=LOOSE)), ordinary=refused(44, 230), strict=refused(44, 230))
+both(route, "revision 5, HT: 72", revised(5, hosted()), 72, ordinary="kind 0 3 264", strict=NOT_TAKEN)
+both(route, "revision 5, HT: 17", revised(5, hosted()), 17, ordinary="kind 2 0 0", strict=NOT_TAKEN)
+both(route, "revision 1, HT: 96", revised(1, hosted()), 96, ordinary="kind 0 2 288", strict="kind 0 2 288")
+both(trace, "revision 5, HT: 2 320", revised(5, hosted()), 2, 320, ordinary="kind 4 0 64", strict=NOT_TAKEN)
+both(trace, "revision 5, HT: 3 275", revised(5, hosted()), 3, 275, ordinary="kind 3 0 83", strict=NOT_TAKEN)
+both(trace, "revision 0, HT: 3 264", revised(0, hosted()), 3, 264, ordinary=NOT_TAKEN, strict=NOT_TAKEN)
+
+# By the C entries.
+read_bytes("HT, for C", OLD, BYTES_OF_TWO, 16)
+read_bytes("HT, for C, one byte short", OLD, refused(60, 0), 15)
+for label, data, answer in (("34", plus(ht()), refused(34, 294)), ("44", older(ht=LOOSE), refused(44, 230)),
+                            ("78", older(ht=naming(32, 7)), refused(78, 230)), ("52, HT", older(msi=msi(63, 193)), refused(52, 270)),
+                            ("54, HT, SCI 17", older(sci=17), refused(54, 302))):
+    read_bytes(label + ", for C", data, answer, 16)
+    route(label + ", route", data, 72, answer)
+    trace(label + ", trace", data, 3, 264, answer)
+
+# ACPICA's template with the type of its HT put back: the HT is at 6464 with its fourth byte at 6480, the EIO behind it at 6485.
+
+
+def template(*changes):
+    """The template with bytes changed, and its MADT's sum made good."""
+    data = (REAL / "a6-vector4.cap").read_bytes()
+    for at, byte in changes:
+        data = changed(data, at, bytes([byte]))
+    return changed(data, 6062, summed(data[6062:6673], 9))
+
+
+read("78: ACPICA's template, a byte of its HT is 255", template((6464, 19)), refused(78, 6464))
+read("34: ACPICA's template, that byte 0", template((6464, 19), (6480, 0)), refused(34, 6485))
+UPSTREAM = template((6464, 19), (6480, 0), (6485, 127))
+read("ACPICA's template, and its EIO passed over", UPSTREAM, "read 1 1 0")
+for number, answer in ((0, "kind 0 2 275"), (16, "kind 2 0 0"), (17, "kind 0 2 1"), (40, "kind 0 4 24"), (127, "kind 0 2 319")):
+    route(f"ACPICA's template as an HT board: {number}", UPSTREAM, number, answer)
+trace("ACPICA's template as an HT board: a slot", UPSTREAM, 2, 320, "kind 4 0 64")
+
 
 
 # Board A's neighbours among document 01's twelve examples, which are proved from the boards' bytes.
