@@ -4,7 +4,7 @@
 """
 import pathlib
 
-from board import A, BASE, STRUCTURES_OF_A, bio, board, capture, core, cut, eio, fadt, image, lay, le, lengthened, lio, lpc, madt, msi
+from board import A, BASE, STRUCTURES_OF_A, bio, board, capture, core, cut, eio, fadt, ht, image, lay, le, lengthened, lio, lpc, madt, msi
 from board import segments_of, table
 
 REAL = pathlib.Path(__file__).resolve().parent / "real"
@@ -12,6 +12,8 @@ REAL = pathlib.Path(__file__).resolve().parent / "real"
 EVERY_NODE = (1 << 64) - 1
 
 LIO, EIO, MSI, BIO, LPC = lio(2, 0, 0x00FFFFFF, 0), eio(3, 0), msi(64, 192), bio(0, 64), lpc(19)
+# the LIO of an HT board: both halves in use, inputs 24 to 31 unwired
+SPLIT = lio(2, 3, 0x0000FFFF, 0x00FF0000)
 
 
 def refused_behind(padding):
@@ -156,6 +158,57 @@ sci 75 3 11
 """),
     # no bridge of node 3, though there are two
     "refused-43-at-309": (board(STRUCTURES_OF_A[:7] + [eio(4, 5), bio(5, 128), lpc(19, 3)]), "refused 43 at 309\n"),
+    # W-201: an HT in place of the EIO. The SCI is input 11 of the bridge: HT vector 11, of the first 32, which go to LIO input 16
+    "ht": (board(STRUCTURES_OF_A[:3] + [SPLIT, ht(16, 1, 2, 3, 4, 5, 6, 7), MSI, BIO, LPC]), """\
+map 1
+core 0 0
+core 1 1
+lio 2 65535
+lio 3 16711680
+ht 16 1 2 3 4 5 6 7
+bio 0 64 127
+msi 64 255
+lpc 0 19
+sci 75 3 267
+"""),
+    # the same with a bridge of 32 inputs and slots behind them; the SCI is the bridge's last input, HT vector 31
+    "ht-fewer-pins": (board(STRUCTURES_OF_A[:3] + [SPLIT, ht(16, 1, 2, 3, 4, 5, 6, 7), msi(32, 224), BIO, LPC], 95, pairs=[(0, 32)]), """\
+map 2
+core 0 0
+core 1 1
+lio 2 65535
+lio 3 16711680
+ht 16 1 2 3 4 5 6 7
+bio 0 64 95
+msi 32 255
+lpc 0 19
+sci 95 3 287
+"""),
+    # bytes that name one input, the highest and the lowest; the SCI is input 17 of the LIO, which none names
+    "ht-shared-inputs": (board([core(0, 0), BIO, MSI, ht(31, 31, 0, 0, 16, 9, 31, 0), lio(9, 5, 0x0000FFFF, 0xFFFF0000), LPC], 33), """\
+map 1
+core 0 0
+lio 9 65535
+lio 5 4294901760
+ht 31 31 0 0 16 9 31 0
+bio 0 64 127
+msi 64 255
+lpc 0 19
+sci 33 5 17
+"""),
+    # all lines of the LIO are left but the one that all eight bytes name; no bridge, and each slot lands on the HT
+    "ht-no-bridge": (board([core(0, 0), LIO, ht(), msi(0, 256)], 26), """\
+map 1
+core 0 0
+lio 2 16777215
+ht 0 0 0 0 0 0 0 0
+msi 0 255
+sci 26 2 10
+"""),
+    # board A and an HT; a byte that names LIO input 24, which is in neither mask; a byte of 32
+    "refused-34-at-294": (board(STRUCTURES_OF_A + [ht()]), "refused 34 at 294\n"),
+    "refused-44-at-230": (board(STRUCTURES_OF_A[:3] + [SPLIT, ht(16, 1, 2, 3, 4, 5, 6, 24), MSI, BIO, LPC]), "refused 44 at 230\n"),
+    "refused-78-at-230": (board(STRUCTURES_OF_A[:3] + [SPLIT, ht(16, 1, 2, 3, 4, 5, 6, 32), MSI, BIO, LPC]), "refused 78 at 230\n"),
     # 20 digits
     "every-node": (board([core(0, 0), LIO, eio(3, 0, EVERY_NODE), MSI, BIO, LPC]), """\
 map 1
