@@ -864,14 +864,14 @@ SPLIT = lio(2, 3, 0xFFFF, 0xFF0000)  # inputs 0 to 15 arrive at core vector 2, 1
 NAMED = (16, 1, 2, 3, 4, 5, 6, 7)  # so HT vectors 0 to 31 arrive at core vector 3, the others at 2
 
 
-def hosted(*more, **put):
+def older_structures(*more, **put):
     """The structures of that board, others in place of its own (none for None), and structures behind its last one."""
     own = {"lio": SPLIT, "ht": ht(*NAMED), "msi": msi(64, 192), "bio": bio(0, 64), "lpc": lpc(19)} | put
     return STRUCTURES_OF_A[:LIO] + [new for new in own.values() if new] + list(more)
 
 
 def older(*more, sci=75, pairs=None, **put):
-    return board(hosted(*more, **put), sci, pairs=pairs)
+    return board(older_structures(*more, **put), sci, pairs=pairs)
 
 
 def naming(byte, at):
@@ -922,7 +922,8 @@ for number, answer in ((95, "kind 0 2 287"), (96, "kind 0 3 288"), (126, "kind 0
     route(f"HT: groups by turns: {number}", older(ht=STEPS), number, answer)
 for cascade, vector in ((0, 2), (31, 2), (32, 3), (63, 3)):
     route(f"HT: groups by turns, LPC cascade {cascade}", older(ht=STEPS, lpc=lpc(cascade)), 7, f"kind 0 {vector} {256 + cascade}")
-    trace(f"HT: groups by turns, LPC cascade {cascade}, its pin", older(ht=STEPS, lpc=lpc(cascade)), vector, 256 + cascade, f"kind 3 0 {64 + cascade}")
+    trace(f"HT: groups by turns, LPC cascade {cascade}, its pin", older(ht=STEPS, lpc=lpc(cascade)), vector, 256 + cascade,
+          f"kind 3 0 {64 + cascade}")
 trace("HT: input 19 without an LPC", older(lpc=None), 3, 275, "kind 2 0 83")
 route("HT: 0 without an LPC", older(lpc=None), 0, "kind 2 0 0")
 
@@ -965,8 +966,8 @@ read("HT before the LIO", made(C, ht(*NAMED), SPLIT), ONE)
 route("HT before the LIO, and behind its bridge", made(bio(0, 64), ht(*NAMED), C, SPLIT), 72, "kind 0 3 264")
 read("HT, and neither bridge nor slots", made(C, L, ht()), ONE)
 for label, at in (("inside the HT", [205]), ("inside its bytes", [215, 217])):
-    route(f"HT board cut {label}: 72", cut(image(hosted()), *at), 72, "kind 0 3 264")
-read("21: HT board cut inside the HT and a gap of one byte", cut(image(hosted()), 205, gap=1), refused(21, 130))
+    route(f"HT board cut {label}: 72", cut(image(older_structures()), *at), 72, "kind 0 3 264")
+read("21: HT board cut inside the HT and a gap of one byte", cut(image(older_structures()), 205, gap=1), refused(21, 130))
 
 # 78 and 44: a byte over 31, in the walk; a byte that names an unwired input, after 43.
 WIDE = lio(2, 3, 0xFFFF, 0xFFFF0000)
@@ -1131,18 +1132,18 @@ trace("HT, 1 pin: slot 1", PIN, 3, 257, "kind 4 0 1")
 # Both readings.
 for revision in (0, 1, 5):
     ordinary, strict = (TWO if 1 <= revision else NOT_TAKEN), (TWO if revision == 1 else NOT_TAKEN)
-    both(read, f"HT, MADT revision {revision}", revised(revision, hosted()), ordinary=ordinary, strict=strict)
-both(read, "revision 5, HT and EIO", revised(5, hosted(E)), ordinary=refused(34, 302), strict=NOT_TAKEN)
-both(read, "revision 0, HT and EIO", revised(0, hosted(E)), ordinary=NOT_TAKEN, strict=NOT_TAKEN)
-both(read, "revision 5, HT with an unwired input", revised(5, hosted(ht=LOOSE)), ordinary=refused(44, 230), strict=NOT_TAKEN)
-both(read, "revision 5, HT with byte 32", revised(5, hosted(ht=naming(32, 0))), ordinary=refused(78, 230), strict=NOT_TAKEN)
-both(read, "revision 1, HT with an unwired input", revised(1, hosted(ht=LOOSE)), ordinary=refused(44, 230), strict=refused(44, 230))
-both(route, "revision 5, HT: 72", revised(5, hosted()), 72, ordinary="kind 0 3 264", strict=NOT_TAKEN)
-both(route, "revision 5, HT: 17", revised(5, hosted()), 17, ordinary="kind 2 0 0", strict=NOT_TAKEN)
-both(route, "revision 1, HT: 96", revised(1, hosted()), 96, ordinary="kind 0 2 288", strict="kind 0 2 288")
-both(trace, "revision 5, HT: 2 320", revised(5, hosted()), 2, 320, ordinary="kind 4 0 64", strict=NOT_TAKEN)
-both(trace, "revision 5, HT: 3 275", revised(5, hosted()), 3, 275, ordinary="kind 3 0 83", strict=NOT_TAKEN)
-both(trace, "revision 0, HT: 3 264", revised(0, hosted()), 3, 264, ordinary=NOT_TAKEN, strict=NOT_TAKEN)
+    both(read, f"HT, MADT revision {revision}", revised(revision, older_structures()), ordinary=ordinary, strict=strict)
+both(read, "revision 5, HT and EIO", revised(5, older_structures(E)), ordinary=refused(34, 302), strict=NOT_TAKEN)
+both(read, "revision 0, HT and EIO", revised(0, older_structures(E)), ordinary=NOT_TAKEN, strict=NOT_TAKEN)
+both(read, "revision 5, HT with an unwired input", revised(5, older_structures(ht=LOOSE)), ordinary=refused(44, 230), strict=NOT_TAKEN)
+both(read, "revision 5, HT with byte 32", revised(5, older_structures(ht=naming(32, 0))), ordinary=refused(78, 230), strict=NOT_TAKEN)
+both(read, "revision 1, HT with an unwired input", revised(1, older_structures(ht=LOOSE)), ordinary=refused(44, 230), strict=refused(44, 230))
+both(route, "revision 5, HT: 72", revised(5, older_structures()), 72, ordinary="kind 0 3 264", strict=NOT_TAKEN)
+both(route, "revision 5, HT: 17", revised(5, older_structures()), 17, ordinary="kind 2 0 0", strict=NOT_TAKEN)
+both(route, "revision 1, HT: 96", revised(1, older_structures()), 96, ordinary="kind 0 2 288", strict="kind 0 2 288")
+both(trace, "revision 5, HT: 2 320", revised(5, older_structures()), 2, 320, ordinary="kind 4 0 64", strict=NOT_TAKEN)
+both(trace, "revision 5, HT: 3 275", revised(5, older_structures()), 3, 275, ordinary="kind 3 0 83", strict=NOT_TAKEN)
+both(trace, "revision 0, HT: 3 264", revised(0, older_structures()), 3, 264, ordinary=NOT_TAKEN, strict=NOT_TAKEN)
 
 # By the C entries.
 read_bytes("HT, for C", OLD, BYTES_OF_TWO, 16)
