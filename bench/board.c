@@ -99,6 +99,14 @@ struct structure make_lio(struct random *random, const uint8_t cascades[2], cons
     return lio;
 }
 
+struct structure make_ht(struct random *random, const uint8_t inputs[HT_GROUPS])
+{
+    struct structure ht = random_structure(random, HT);
+
+    memcpy(ht.bytes + HT_BYTES, inputs, HT_GROUPS);
+    return ht;
+}
+
 struct structure make_eio(struct random *random, uint8_t cascade, uint8_t node, uint64_t node_map)
 {
     struct structure eio = random_structure(random, EIO);
@@ -222,6 +230,14 @@ uint8_t *nth_of_kind(struct board *board, enum kind kind, size_t number)
     while (board->structure[i].bytes[0] != kind || number-- > 0)
         i++;
     return board->structure[i].bytes;
+}
+
+const uint8_t *first_of_kind(const struct board *board, enum kind kind)
+{
+    for (size_t i = 0; i < board->structures; i++)
+        if (board->structure[i].bytes[0] == kind)
+            return board->structure[i].bytes;
+    return NULL;
 }
 
 void remove_kind(struct board *board, enum kind kind)

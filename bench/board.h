@@ -71,6 +71,11 @@ enum {
     LIO_INPUTS = 32,
 };
 
+/* W-201: each of the HT's eight bytes names the LIO input that 32 vectors go to. They arrive with numbers from 256 on. */
+enum { HT_GROUPS = 8, HT_GROUP = 32, HT_FIRST = 256 };
+
+enum { HT_NODE = 0 }; /* the hardware ID that a BIO has on an HT board */
+
 /* Where the fields stand in a structure. */
 enum {
     CORE_UID = 3,
@@ -78,6 +83,7 @@ enum {
     CORE_FLAGS = 11,
     LIO_CASCADES = 13,
     LIO_MASKS = 15,
+    HT_BYTES = 13,
     EIO_CASCADE = 3,
     EIO_NODE = 4,
     EIO_NODE_MAP = 5,
@@ -109,6 +115,7 @@ struct structure shortest_structure(uint8_t type);
 
 struct structure make_core(struct random *random, uint32_t uid, uint32_t physical_id, uint32_t flags);
 struct structure make_lio(struct random *random, const uint8_t cascades[2], const uint32_t masks[2]);
+struct structure make_ht(struct random *random, const uint8_t inputs[HT_GROUPS]);
 struct structure make_eio(struct random *random, uint8_t cascade, uint8_t node, uint64_t node_map);
 struct structure make_msi(struct random *random, uint32_t start, uint32_t count);
 struct structure make_bio(struct random *random, uint16_t hardware_id, uint16_t base);
@@ -175,6 +182,9 @@ size_t count_kind(const struct board *board, enum kind kind);
 /* The bytes of the structure of a kind with a number, counted in table order from 0; there must be one. */
 uint8_t *nth_of_kind(struct board *board, enum kind kind, size_t number);
 void remove_kind(struct board *board, enum kind kind);
+
+/* The first structure of a kind; NULL if there is none. */
+const uint8_t *first_of_kind(const struct board *board, enum kind kind);
 
 /* How many pins the bridges of a hardware ID have. A pair that is over 64 says nothing. */
 uint8_t pins_of(const struct board *board, uint16_t hardware_id);

@@ -46,6 +46,15 @@ static struct structure make_written_lpc(struct random *random, const uint32_t f
     return lpc;
 }
 
+static struct structure make_written_ht(struct random *random, const uint32_t field[HT_GROUPS])
+{
+    uint8_t inputs[HT_GROUPS];
+
+    for (size_t i = 0; i < HT_GROUPS; i++)
+        inputs[i] = (uint8_t)field[i];
+    return make_ht(random, inputs);
+}
+
 static struct structure make_written(const struct written *written)
 {
     const uint32_t *field = written->field;
@@ -57,7 +66,7 @@ static struct structure make_written(const struct written *written)
     case LIO:
         return make_lio(&random, (uint8_t[]){(uint8_t)field[0], (uint8_t)field[1]}, field + 2);
     case HT:
-        return random_structure(&random, HT);
+        return make_written_ht(&random, field);
     case EIO:
         return make_eio(&random, (uint8_t)field[0], (uint8_t)field[1], field[2]);
     case MSI:

@@ -38,12 +38,15 @@ extern const char A_READ[];
 void load_board_a(const char *boards, uint8_t revision, struct capture *a);
 
 /*
- * A structure as the documents write it: its kind, and its fields in the order of "MADT structures". Sizes are free, and bases
- * too, except that of an LPC, which names its bridge (W-208): it stands behind the cascade, as two numbers, the high half first.
+ * A structure as the documents write it: its kind, and its fields in the order of "MADT structures"; those of an HT are its eight
+ * bytes (W-201). Sizes are free, and bases too, except that of an LPC, which names its bridge (W-208): it stands behind the
+ * cascade, as two numbers, the high half first.
  */
+enum { WRITTEN_FIELDS = 8 };
+
 struct written {
     uint8_t kind; /* 0: none; a type that is passed over: two bytes, the shortest that there are */
-    uint32_t field[4];
+    uint32_t field[WRITTEN_FIELDS];
 };
 
 enum { WRITTEN_MAX = 10 };

@@ -103,8 +103,9 @@ unsigned refusal_number(uint64_t result)
 }
 
 const unsigned refusals[REFUSALS] = {1,  2,  3,  4,  5,  6,  7,  10, 11, 12, 13, 14, 20, 21, 22, 23,
-                                     24, 25, 26, 27, 28, 29, 30, 31, 32, 33, 34, 35, 71, 72, 73, 74,
-                                     75, 76, 77, 37, 38, 39, 40, 41, 42, 43, 45, 51, 52, 53, 54, LIST_TOO_SHORT};
+                                     24, 25, 26, 27, 28, 29, 30, 31, 32, 33, 35, 71, 72, 73, 74, 75,
+                                     76, 77, 78, 37, 38, 34, 39, 40, 41, 42, 43, 44, 45, 51, 52, 53,
+                                     54, LIST_TOO_SHORT};
 
 struct text tell_refusal(struct reference_refusal refusal)
 {

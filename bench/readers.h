@@ -52,8 +52,11 @@ unsigned refusal_number(uint64_t result);
 
 enum { NUMBERS = 1 << 16 }; /* room for any refusal number that a result can hold */
 
-/* Those that the entries can give, in the order of the rules: 71 to 77 stand in the place of 36. Only `read` gives 60. */
-enum { REFUSALS = 48, LIST_TOO_SHORT = 60 };
+/*
+ * Those that the entries can give, in the order of the rules: 71 to 78 stand in the place of 36 (W-202), and 34 behind all of a
+ * structure's own (W-201). Only `read` gives 60.
+ */
+enum { REFUSALS = 50, LIST_TOO_SHORT = 60 };
 extern const unsigned refusals[REFUSALS];
 
 /* A result in words. */

@@ -1,10 +1,11 @@
 /*
- * The reference: document 01 and requests W-202, W-203, W-206, W-207, W-208 and W-212 of document 02 written down in plain C,
- * from the documents alone, without a look at the proved reader, so that an error would have to be made twice to go unseen.
+ * The reference: document 01 and requests W-201, W-202, W-203, W-206, W-207, W-208 and W-212 of document 02 written down in
+ * plain C, from the documents alone, without a look at the proved reader, so that an error would have to be made twice to go
+ * unseen.
  *
  * Titles in quotation marks are sections of document 01; the numbers given to refuse() are those of its table
- * "Refusals in order", where W-202 puts 71 to 77 in the place of 36: after 35 and before 37. W-212 adds 7 and 45, and
- * W-208 gives 43 another meaning.
+ * "Refusals in order", where W-202 puts 71 to 78 in the place of 36: after 35 and before 37. W-212 adds 7 and 45, W-208 gives
+ * 43 another meaning, and W-201 adds 44 and puts 34 behind all structures, before 39.
  */
 #include "reference.h"
 
@@ -389,6 +390,9 @@ enum {
     EXTENDED_VECTORS = 256,
     BASE_MIN = 64,
     BASE_MAX = 65472,
+    LIO_INPUTS = 32,
+    HT_GROUPS = 8, /* of HT vectors: each has a byte, which names the LIO input that they go to (W-201) */
+    HT_GROUP = 32, /* vectors */
 };
 
 struct core {
@@ -404,6 +408,12 @@ struct half {
 struct lio {
     uint64_t place;
     struct half half[2];
+};
+
+/* W-201: byte n is for HT vectors 32n to 32n + 31. Its address and size are not kept. */
+struct ht {
+    uint64_t place;
+    uint8_t input[HT_GROUPS];
 };
 
 struct eio {
@@ -439,8 +449,10 @@ struct board {
     const uint8_t *pairs; /* NULL: none */
     uint64_t madt, fadt; /* places */
     uint16_t sci;
-    size_t cores, enabled, lios, eios, msis, bios, lpcs; /* `cores` counts all CORE, enabled or not */
+    size_t cores, enabled, lios, hts, eios, msis, bios, lpcs; /* `cores` counts all CORE, enabled or not */
+    uint64_t mixed; /* 0, or the place of the first structure that gives the board both HT and EIO, or a second HT: 34 */
     struct lio lio;
+    struct ht ht; /* the first one, if there are several */
     struct lpc lpc;
     struct eio eio[EIOS_MAX];
     struct msi msi[MSIS_MAX];
@@ -485,6 +497,29 @@ static uint64_t take_lio(struct board *board, const uint8_t *bytes, uint64_t pla
     return 0;
 }
 
+/* W-201: a board has HT or EIO. Which structure is the first to break this is known once it is there; 34 waits for the others. */
+static void note_mixed(struct board *board, uint64_t place)
+{
+    if (board->mixed == 0 && (board->hts > 1 || (board->hts == 1 && board->eios > 0)))
+        board->mixed = place;
+}
+
+/* There is no limit for 38: a second HT is 34. */
+static uint64_t take_ht(struct board *board, const uint8_t *bytes, uint64_t place)
+{
+    const uint8_t *input = bytes + 13;
+
+    for (size_t i = 0; i < HT_GROUPS; i++)
+        if (input[i] >= LIO_INPUTS)
+            return refuse(78, place);
+    if (board->hts++ == 0) {
+        board->ht.place = place;
+        memcpy(board->ht.input, input, HT_GROUPS);
+    }
+    note_mixed(board, place);
+    return 0;
+}
+
 static uint64_t take_eio(struct board *board, const uint8_t *bytes, uint64_t place)
 {
     struct eio eio = {place, bytes[3], bytes[4]};
@@ -499,6 +534,7 @@ static uint64_t take_eio(struct board *board, const uint8_t *bytes, uint64_t pla
     if (board->eios == EIOS_MAX)
         return refuse(38, place);
     board->eio[board->eios++] = eio;
+    note_mixed(board, place);
     return 0;
 }
 
@@ -561,7 +597,7 @@ static uint64_t take_lpc(struct board *board, const uint8_t *bytes, uint64_t pla
     return 0;
 }
 
-/* One structure through 32 to 35, 71 to 77, 37 and 38; types other than 17 to 23 are passed over. */
+/* One structure through 32, 33, 35, 71 to 78, 37 and 38; types other than 17 to 23 are passed over. */
 static uint64_t take_structure(struct board *board, const uint8_t *bytes, uint64_t place)
 {
     static const uint8_t length_of[] = {
@@ -581,20 +617,20 @@ static uint64_t take_structure(struct board *board, const uint8_t *bytes, uint64
         return take_core(board, bytes, place);
     case LIO:
         return take_lio(board, bytes, place);
+    case HT:
+        return take_ht(board, bytes, place);
     case EIO:
         return take_eio(board, bytes, place);
     case MSI:
         return take_msi(board, bytes, place);
     case BIO:
         return take_bio(board, bytes, place);
-    case LPC:
+    default: /* LPC */
         return take_lpc(board, bytes, place);
-    default: /* HT */
-        return refuse(34, place);
     }
 }
 
-/* The structures in turn, each through 31 to 38 with 71 to 77 among them. */
+/* The structures in turn, each through 31 to 38 without 34, and with 71 to 78 among them. */
 static uint64_t walk_madt(const struct capture *capture, const struct table *madt, struct board *board)
 {
     uint64_t end = madt->place + madt->length;
@@ -621,7 +657,8 @@ static uint64_t walk_madt(const struct capture *capture, const struct table *mad
 enum {
     LPC_INPUTS = 16,
     LIO_FIRST = 16, /* the global number of LIO input 0 */
-    LIO_INPUTS = 32,
+    HT_NODE = 0,    /* of slots on the HT, and the hardware ID of bridges on it */
+    HT_FIRST = 256, /* the number with which HT vector 0 arrives */
 };
 
 /* Answers as include/yasmirand.h codes them. */
@@ -663,12 +700,6 @@ static const struct bio *bridge_of_lpc(const struct board *board)
     return NULL;
 }
 
-/* The input of a BIO arrives through the EIO whose node is the BIO's hardware ID. */
-static uint64_t route_pin(const struct board *board, uint16_t hardware_id, uint32_t pin)
-{
-    return arrives(eio_of_node(board, hardware_id)->cascade, pin);
-}
-
 /* The half that a LIO input is wired to, if any. */
 static const struct half *half_of_input(const struct lio *lio, uint32_t input)
 {
@@ -678,16 +709,51 @@ static const struct half *half_of_input(const struct lio *lio, uint32_t input)
     return NULL;
 }
 
+/* W-201: a LIO input that the HT names leads to the HT. It is no source any more, and its global number has no owner. */
+static bool is_named_by_ht(const struct board *board, uint32_t input)
+{
+    for (size_t i = 0; i < HT_GROUPS && board->hts != 0; i++)
+        if (board->ht.input[i] == input)
+            return true;
+    return false;
+}
+
+/*
+ * Pins and slots land on a hub, each on the vector of its number there: on the EIO of the node, or on the HT. An EIO's vectors
+ * arrive at its cascade, with their number; those of the HT at the core vector of the LIO input that they go to, and behind the
+ * LIO's own numbers (W-201).
+ */
+static uint64_t arrives_by_eio(const struct eio *eio, uint32_t vector)
+{
+    return arrives(eio->cascade, vector);
+}
+
+static uint64_t arrives_by_ht(const struct board *board, uint32_t vector)
+{
+    return arrives(half_of_input(&board->lio, board->ht.input[vector / HT_GROUP])->cascade, HT_FIRST + vector);
+}
+
+/* The input of a BIO lands on the EIO whose node is the BIO's hardware ID, or on the HT if the board has that. */
+static uint64_t route_pin(const struct board *board, uint16_t hardware_id, uint32_t pin)
+{
+    return board->hts != 0 ? arrives_by_ht(board, pin) : arrives_by_eio(eio_of_node(board, hardware_id), pin);
+}
+
+static uint64_t route_lio_input(const struct board *board, uint32_t input)
+{
+    const struct half *half = half_of_input(&board->lio, input);
+
+    if (is_named_by_ht(board, input))
+        return NO_OWNER;
+    return half == NULL ? UNWIRED : arrives(half->cascade, input);
+}
+
 static uint64_t route(const struct board *board, uint32_t number)
 {
     if (number < LPC_INPUTS)
         return board->lpcs == 0 ? NO_OWNER : route_pin(board, board->lpc.node, board->lpc.cascade);
-    if (number < LIO_FIRST + LIO_INPUTS) {
-        uint32_t input = number - LIO_FIRST;
-        const struct half *half = half_of_input(&board->lio, input);
-
-        return half == NULL ? UNWIRED : arrives(half->cascade, input);
-    }
+    if (number < LIO_FIRST + LIO_INPUTS)
+        return route_lio_input(board, number - LIO_FIRST);
     for (size_t i = 0; i < board->bios; i++) {
         const struct bio *bio = &board->bio[i];
 
@@ -698,41 +764,59 @@ static uint64_t route(const struct board *board, uint32_t number)
 }
 
 /*
- * What arrives through one EIO with a number, its extended vector. BIO of one hardware ID have equally many inputs, so the
- * first that has this one is the earliest of its equals: if the LPC has their node, it is the LPC's.
+ * What lands on a vector of the hub of a node. BIO of one hardware ID have equally many inputs, so the first that has this one
+ * is the earliest of its equals: if the LPC has their node, it is the LPC's.
  */
-static uint64_t trace_eio(const struct board *board, const struct eio *eio, uint32_t number)
+static uint64_t trace_hub(const struct board *board, uint8_t node, uint32_t vector)
 {
     for (size_t i = 0; i < board->bios; i++) {
         const struct bio *bio = &board->bio[i];
 
-        if (bio->node != eio->node || number >= bio->pins)
+        if (bio->node != node || vector >= bio->pins)
             continue;
-        if (board->lpcs == 1 && bio->node == board->lpc.node && number == board->lpc.cascade)
-            return traced(LPC_CASCADE, 0, bio->base + number);
-        return traced(BIO_INPUT, 0, bio->base + number);
+        if (board->lpcs == 1 && bio->node == board->lpc.node && vector == board->lpc.cascade)
+            return traced(LPC_CASCADE, 0, bio->base + vector);
+        return traced(BIO_INPUT, 0, bio->base + vector);
     }
     for (size_t i = 0; i < board->msis; i++)
-        if (number >= board->msi[i].start && number - board->msi[i].start < board->msi[i].count)
-            return traced(MSI_SLOT, eio->node, number);
+        if (vector >= board->msi[i].start && vector - board->msi[i].start < board->msi[i].count)
+            return traced(MSI_SLOT, node, vector);
     return NOTHING;
 }
 
-static uint64_t trace(const struct board *board, uint32_t vector, uint32_t number)
+/* What arrives through the HT, each of whose vectors does so at one core vector. */
+static uint64_t trace_ht(const struct board *board, uint8_t vector, uint32_t number)
 {
-    if (number < LIO_INPUTS) {
-        const struct half *half = half_of_input(&board->lio, number);
+    if (number < HT_FIRST || number - HT_FIRST >= HT_GROUPS * HT_GROUP)
+        return NOTHING;
 
-        if (half != NULL && half->cascade == vector)
-            return traced(LIO_INPUT, 0, LIO_FIRST + number);
-    }
+    uint32_t ht_vector = number - HT_FIRST;
+    bool arrives_there = arrives_by_ht(board, ht_vector) == arrives(vector, number);
+
+    return arrives_there ? trace_hub(board, HT_NODE, ht_vector) : NOTHING;
+}
+
+/* What arrives through the EIO that enters a core vector. */
+static uint64_t trace_eio(const struct board *board, uint8_t vector, uint32_t number)
+{
     for (size_t i = 0; i < board->eios; i++)
         if (board->eio[i].cascade == vector)
-            return trace_eio(board, &board->eio[i], number);
+            return trace_hub(board, board->eio[i].node, number);
     return NOTHING;
 }
 
-/* ---- "Refusals in order", 39 to 54: rules about the board as a whole ---- */
+static uint64_t trace(const struct board *board, uint32_t asked, uint32_t number)
+{
+    uint8_t vector = (uint8_t)asked;
+
+    if (vector != asked) /* no cascade is so high */
+        return NOTHING;
+    if (number < LIO_INPUTS && route_lio_input(board, number) == arrives(vector, number))
+        return traced(LIO_INPUT, 0, LIO_FIRST + number);
+    return board->hts != 0 ? trace_ht(board, vector, number) : trace_eio(board, vector, number);
+}
+
+/* ---- "Refusals in order", 34 and 39 to 54: rules about the board as a whole ---- */
 
 static const struct clash NO_CLASH = {UINT64_MAX, 0};
 
@@ -766,34 +850,49 @@ static uint64_t check_ids(const struct board *board)
     return 0;
 }
 
-/* Rules 43 and 45, about the LPC if there is one. */
-static uint64_t check_lpc(const struct board *board)
+/* W-201: whether a bridge has a hub to land on. Those on the HT have hardware ID 0. */
+static bool has_hub(const struct board *board, const struct bio *bio)
 {
-    if (board->lpcs == 0)
-        return 0;
+    return board->hts != 0 ? bio->node == HT_NODE : eio_of_node(board, bio->node) != NULL;
+}
 
-    const struct bio *bridge = bridge_of_lpc(board);
+/* Rule 44: all bytes of the HT name wired inputs, also those for vectors that nothing lands on. */
+static uint64_t check_ht(const struct board *board)
+{
+    for (size_t i = 0; i < HT_GROUPS && board->hts != 0; i++)
+        if (half_of_input(&board->lio, board->ht.input[i]) == NULL)
+            return refuse(44, board->ht.place);
+    return 0;
+}
 
-    if (bridge == NULL)
+/* Rules 43 to 45: 43 and 45 are about the LPC if there is one, 44 about the HT. */
+static uint64_t check_lpc_and_ht(const struct board *board)
+{
+    const struct bio *bridge = board->lpcs == 0 ? NULL : bridge_of_lpc(board);
+    uint64_t refusal;
+
+    if (board->lpcs == 1 && bridge == NULL)
         return refuse(43, board->lpc.place);
-    if (board->lpc.cascade >= bridge->pins)
+    if ((refusal = check_ht(board)) != 0)
+        return refusal;
+    if (board->lpcs == 1 && board->lpc.cascade >= bridge->pins)
         return refuse(45, board->lpc.place);
     return 0;
 }
 
-/* Rules 40 to 45; 44 is about HT boards, which are refused with 34. */
+/* Rules 40 to 45. */
 static uint64_t check_parts(const struct board *board)
 {
-    if (board->enabled == 0 || board->lios == 0 || board->eios == 0)
+    if (board->enabled == 0 || board->lios == 0 || (board->eios == 0 && board->hts == 0))
         return refuse(40, board->madt);
     for (size_t i = 0; i < board->eios; i++)
         for (size_t j = 0; j < i; j++)
             if (board->eio[i].node == board->eio[j].node)
                 return refuse(41, board->eio[i].place);
     for (size_t i = 0; i < board->bios; i++)
-        if (eio_of_node(board, board->bio[i].node) == NULL)
+        if (!has_hub(board, &board->bio[i]))
             return refuse(42, board->bio[i].place);
-    return check_lpc(board);
+    return check_lpc_and_ht(board);
 }
 
 static bool numbers_meet(const struct bio *a, const struct bio *b)
@@ -817,8 +916,8 @@ static bool slots_meet(const struct msi *a, const struct msi *b)
 }
 
 /*
- * A BIO's pins are the vectors of its EIO from 0 on, and it has at least one; a slot is on every EIO, so it meets every BIO
- * with a pin of its number.
+ * A BIO's pins are the vectors of its hub from 0 on, and it has at least one; a slot is on every EIO, or on the HT, so it meets
+ * every BIO with a pin of its number. HT vectors count as extended ones do (W-201).
  */
 static uint64_t check_extended_vectors(struct board *board)
 {
@@ -837,7 +936,7 @@ static uint64_t check_extended_vectors(struct board *board)
     return refuse_clash(52, &board->clash);
 }
 
-/* Both halves of the LIO may use one vector; an unused half enters nowhere. */
+/* Both halves of the LIO may use one vector; an unused half enters nowhere. The HT enters the LIO, and no core vector (W-201). */
 static uint64_t check_core_vectors(struct board *board)
 {
     for (size_t i = 0; i < board->eios; i++) {
@@ -851,11 +950,13 @@ static uint64_t check_core_vectors(struct board *board)
     return refuse_clash(53, &board->clash);
 }
 
-/* Rules 39 to 54. */
+/* Rules 34 and 39 to 54. */
 static uint64_t check_board(struct board *board)
 {
     uint64_t refusal;
 
+    if (board->mixed != 0)
+        return refuse(34, board->mixed);
     if ((refusal = check_ids(board)) != 0)
         return refusal;
     if ((refusal = check_parts(board)) != 0)
@@ -889,7 +990,8 @@ static uint64_t read_board(const uint8_t *bytes, size_t length, struct board *bo
     board->fadt = tables.fadt.place;
     board->sci = u16(bytes + tables.fadt.place + 46);
     board->cores = board->enabled = 0;
-    board->lios = board->eios = board->msis = board->bios = board->lpcs = 0;
+    board->lios = board->hts = board->eios = board->msis = board->bios = board->lpcs = 0;
+    board->mixed = 0;
     if ((refusal = walk_madt(&capture, &tables.madt, board)) != 0)
         return refusal;
     return check_board(board);

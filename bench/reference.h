@@ -1,5 +1,5 @@
 /*
- * The reference: a second implementation of document 01 and of requests W-202, W-203, W-206, W-207, W-208 and W-212 of
+ * The reference: a second implementation of document 01 and of requests W-201, W-202, W-203, W-206, W-207, W-208 and W-212 of
  * document 02, in plain C, to compare Yasmirand with.
  *
  * The first three functions take and give what the entries of include/yasmirand.h do: a result of 2^48 or more is refusal

@@ -1,8 +1,8 @@
 /*
  * Random boards that keep every rule of document 01: see valid.h. They are varied on purpose in what the rules do not
  * fix: the order of structures and tables, the order of UIDs and of physical IDs, the IDs of disabled CORE, the pairs of
- * version 2, which bridge the LPC is behind, what is passed over, the segments, what runs across segments that touch, the
- * free bytes.
+ * version 2, HT or EIO, which inputs the HT names, which bridge the LPC is behind, what is passed over, the segments, what
+ * runs across segments that touch, the free bytes.
  */
 #include "valid.h"
 
@@ -248,10 +248,12 @@ uint8_t random_pins(struct random *random)
     return one_in(random, 2) ? edges[below(random, sizeof edges)] : (uint8_t)between(random, 1, PINS);
 }
 
-/* The last pin is where readers are told apart. */
+/* The last pin is where readers are told apart, and 31 and 32, which go to two LIO inputs on an HT board (W-201). */
 static uint16_t random_pin(struct random *random, uint8_t pins)
 {
-    return (uint16_t)(one_in(random, 4) ? pins - 1u : below(random, pins));
+    uint16_t pin = (uint16_t)(one_in(random, 4) ? HT_GROUP - below(random, 2) : below(random, pins));
+
+    return pin >= pins || one_in(random, 4) ? pins - 1 : pin;
 }
 
 static struct pair *pair_of(struct board *board, uint8_t hardware_id)
@@ -347,12 +349,12 @@ void name_bridge_beside_node(struct random *random, const struct board *board, u
         set_base_bits(lpc, bit, (uint8_t)hardware_id_of(bridge));
 }
 
-bool has_eio(const struct board *board, uint8_t node)
+bool has_hub(const struct board *board, uint8_t node)
 {
     for (size_t i = 0; i < board->structures; i++)
         if (board->structure[i].bytes[0] == EIO && board->structure[i].bytes[EIO_NODE] == node)
             return true;
-    return false;
+    return node == HT_NODE && is_ht_board(board);
 }
 
 /* A node whose low four bits, which are all that an LPC's base can hold, are those of an EIO's node; of any, if there is none. */
@@ -382,7 +384,7 @@ uint8_t unused_node(struct random *random, const struct board *board)
             node = (uint8_t)below(random, LPC_NODES);
             break;
         }
-    } while (has_eio(board, node));
+    } while (has_hub(board, node));
     return node;
 }
 
@@ -512,6 +514,101 @@ static void add_bio(struct random *random, struct board *board, uint8_t hardware
     append_structure(board, make_bio(random, hardware_id, base));
 }
 
+/* ---- HT boards ---- */
+
+bool is_ht_board(const struct board *board)
+{
+    return count_kind(board, HT) > 0;
+}
+
+uint32_t wired_inputs(const struct board *board)
+{
+    const uint8_t *lio = first_of_kind(board, LIO);
+
+    return lio == NULL ? 0 : get_u32(lio + LIO_MASKS) | get_u32(lio + LIO_MASKS + 4);
+}
+
+uint32_t named_inputs(const struct board *board)
+{
+    uint32_t named = 0;
+
+    for (size_t i = 0; i < board->structures; i++)
+        for (size_t group = 0; group < HT_GROUPS && board->structure[i].bytes[0] == HT; group++)
+            named |= UINT32_C(1) << board->structure[i].bytes[HT_BYTES + group] % LIO_INPUTS;
+    return named;
+}
+
+uint8_t some_input(struct random *random, uint32_t mask)
+{
+    uint8_t input = (uint8_t)below(random, LIO_INPUTS);
+
+    while ((mask >> input & 1) == 0)
+        input = (uint8_t)(input + 1) % LIO_INPUTS;
+    return input;
+}
+
+/* The inputs that an HT may name: all that are wired, but one for the SCI if that can arrive nowhere else. */
+static uint32_t inputs_to_name(struct random *random, const struct board *board)
+{
+    uint32_t wired = wired_inputs(board);
+
+    return count_kind(board, BIO) > 0 ? wired : wired & ~(UINT32_C(1) << some_input(random, wired));
+}
+
+struct structure wired_ht(struct random *random, const struct board *board)
+{
+    uint32_t inputs = inputs_to_name(random, board);
+    uint8_t named[HT_GROUPS], first = some_input(random, inputs), second = some_input(random, inputs);
+    uint64_t sort = below(random, 4);
+
+    for (size_t i = 0; i < HT_GROUPS; i++) {
+        named[i] = some_input(random, inputs);
+        if (sort == 0)
+            named[i] = first;
+        if (sort == 1)
+            named[i] = one_in(random, 2) ? first : second;
+    }
+    return make_ht(random, named);
+}
+
+static size_t count_bits(uint32_t mask)
+{
+    size_t count = 0;
+
+    for (; mask != 0; mask &= mask - 1)
+        count++;
+    return count;
+}
+
+/* Masks that have so many bits at least, for the HT to name inputs. Often they are few. */
+static void random_masks_for_ht(struct random *random, uint32_t masks[2], size_t least)
+{
+    random_masks(random, masks);
+    if (one_in(random, 4))
+        for (int half = 0; half < 2; half++)
+            masks[half] &= (uint32_t)(any(random) & any(random) & any(random));
+    while (count_bits(masks[0] | masks[1]) < least) {
+        size_t half = below(random, 2);
+
+        masks[half] |= UINT32_C(1) << below(random, LIO_INPUTS) & ~masks[1 - half];
+    }
+}
+
+/* An HT, the LIO whose inputs it names, and on most boards a BIO. Bridges on it have one hardware ID, so there is one at most. */
+static void add_lio_and_ht(struct random *random, struct board *board, struct lines *lines)
+{
+    bool bridge = !one_in(random, 4);
+    uint32_t masks[2];
+
+    random_masks_for_ht(random, masks, bridge ? 1 : 2);
+    add_lio(random, board, lines, masks);
+    if (bridge)
+        add_bio(random, board, HT_NODE);
+    append_structure(board, wired_ht(random, board));
+}
+
+/* ---- EIO boards ---- */
+
 /* EIOs of different nodes, and on most boards a BIO on each or on some of them; gives the number of BIOs. */
 static size_t add_hubs(struct random *random, struct board *board, struct lines *lines)
 {
@@ -527,6 +624,19 @@ static size_t add_hubs(struct random *random, struct board *board, struct lines 
     }
     return count_kind(board, BIO);
 }
+
+static void add_lio_and_eios(struct random *random, struct board *board, struct lines *lines)
+{
+    uint32_t masks[2];
+    size_t bios = add_hubs(random, board, lines);
+
+    random_masks(random, masks);
+    if (bios == 0 && (masks[0] | masks[1]) == 0) /* the SCI has to arrive somewhere */
+        masks[any(random) & 1] = 1;
+    add_lio(random, board, lines, masks);
+}
+
+/* ---- LPC, MSI, and what is passed over ---- */
 
 /* Behind any bridge that its base can name, on one of this bridge's pins: others may lack it. Many boards have none. */
 static void add_lpc(struct random *random, struct board *board)
@@ -544,18 +654,44 @@ static void add_lpc(struct random *random, struct board *board)
     append_structure(board, lpc);
 }
 
+/* Some slots of a range, at least one. */
+static struct structure msi_within(struct random *random, uint32_t first, uint32_t count)
+{
+    uint32_t left_out = one_in(random, 2) ? 0 : (uint32_t)below(random, count);
+
+    return make_msi(random, first + left_out, (uint32_t)between(random, 1, count - left_out));
+}
+
+/* A slot from one to another, just before a multiple of 32 or there, if one is near. */
+static uint32_t slot_beside_group(struct random *random, uint32_t first, uint32_t last)
+{
+    uint32_t group = (uint32_t)between(random, first / HT_GROUP, last / HT_GROUP + 1);
+    uint32_t slot = group == 0 ? 0 : group * HT_GROUP - (uint32_t)below(random, 2);
+
+    return slot < first ? first : slot > last ? last : slot;
+}
+
+/* Those that begin and end where the vectors of the HT go to another LIO input (W-201). */
+static struct structure msi_beside_groups(struct random *random, uint32_t first, uint32_t count)
+{
+    uint32_t start = slot_beside_group(random, first, first + count - 1);
+    uint32_t end = slot_beside_group(random, start, first + count - 1);
+
+    return make_msi(random, start, end - start + 1);
+}
+
 /* MSIs with slots of their own: behind the pins of all BIOs, from 0 if there is none. */
 static void add_msis(struct random *random, struct board *board)
 {
     size_t count = below(random, MSIS_MAX + 1);
     uint32_t first = most_pins(board);
+    bool beside_groups = is_ht_board(board) && one_in(random, 2);
 
     for (size_t i = 0; i < count; i++) {
         uint32_t share = (uint32_t)((SLOTS - first) / count);
         uint32_t start = first + share * (uint32_t)i;
-        uint32_t left_out = one_in(random, 2) ? 0 : (uint32_t)below(random, share);
 
-        append_structure(board, make_msi(random, start + left_out, (uint32_t)between(random, 1, share - left_out)));
+        append_structure(board, beside_groups ? msi_beside_groups(random, start, share) : msi_within(random, start, share));
     }
     if (count == 1 && one_in(random, 2)) /* all slots that there are */
         put_u32(board->structure[board->structures - 1].bytes + MSI_COUNT,
@@ -598,37 +734,29 @@ static void shuffle_structures(struct random *random, struct board *board)
     }
 }
 
-/* A global number that arrives: there is a wired LIO input, or a BIO. */
-static uint16_t arriving_number(struct random *random, const struct board *board, const uint32_t masks[2])
+uint16_t arriving_number(struct random *random, const struct board *board)
 {
-    uint32_t wired = masks[0] | masks[1];
+    uint32_t sources = wired_inputs(board) & ~named_inputs(board);
     const uint8_t *bio = some_bio(random, board);
 
     if (count_kind(board, LPC) == 1 && one_in(random, 3))
         return (uint16_t)below(random, 16);
-    if (bio != NULL && (wired == 0 || one_in(random, 2)))
+    if (bio != NULL && (sources == 0 || one_in(random, 2)))
         return (uint16_t)(get_u16(bio + BIO_BASE) + random_pin(random, pins_of_bio(board, bio)));
-
-    uint32_t input = (uint32_t)below(random, LIO_INPUTS);
-
-    while ((wired >> input & 1) == 0)
-        input = (input + 1) % LIO_INPUTS;
-    return (uint16_t)(LIO_FIRST + input);
+    return (uint16_t)(LIO_FIRST + some_input(random, sources));
 }
+
+enum { HT_BOARDS = 3 }; /* one board in so many has an HT */
 
 static void add_structures(struct random *random, struct board *board)
 {
     struct lines lines = shuffled_lines(random);
-    uint32_t masks[2];
 
-    random_masks(random, masks);
     add_cores(random, board);
-
-    size_t bios = add_hubs(random, board, &lines);
-
-    if (bios == 0 && (masks[0] | masks[1]) == 0) /* the SCI has to arrive somewhere */
-        masks[any(random) & 1] = 1;
-    add_lio(random, board, &lines, masks);
+    if (one_in(random, HT_BOARDS))
+        add_lio_and_ht(random, board, &lines);
+    else
+        add_lio_and_eios(random, board, &lines);
     add_msis(random, board);
     add_lpc(random, board);
     if (board->version == WITH_PAIRS)
@@ -637,7 +765,7 @@ static void add_structures(struct random *random, struct board *board)
         shuffle_structures(random, board);
     add_passed_over(random, board);
     give_ids(random, board); /* their orders are those of the table */
-    board->sci = arriving_number(random, board, masks);
+    board->sci = arriving_number(random, board);
 }
 
 /* ---- Tables and memory ---- */

@@ -1,8 +1,8 @@
 /*
- * Random boards that keep every rule of document 01, with the meaning that W-206 gives to a stretch that is present. W-203
- * leaves the IDs of disabled CORE free, and theirs often repeat others. A third of them have capture version 2, and many of
- * these keep the rules only because their bridges have fewer pins (W-212). Their LPC is behind any of their bridges that its
- * base can name (W-208). Their MADT has revision 1, which both readings of W-207 take.
+ * Random boards that keep every rule of document 01, with the meaning that W-206 gives to a stretch that is present. A third of
+ * them have an HT in place of EIOs (W-201). W-203 leaves the IDs of disabled CORE free, and theirs often repeat others. A third
+ * of them have capture version 2, and many of these keep the rules only because their bridges have fewer pins (W-212). Their LPC
+ * is behind any of their bridges that its base can name (W-208). Their MADT has revision 1, which both readings of W-207 take.
  */
 #ifndef VALID_H
 #define VALID_H
@@ -30,11 +30,11 @@ void make_version_2(struct random *random, struct board *board);
 /* Gives a number of inputs to the bridges of a hardware ID. Other bridges keep their pairs, unless they have all four. */
 void give_pair(struct random *random, struct board *board, uint8_t hardware_id, uint8_t number);
 
-/* A node that no EIO has. Most are 0 to 15, which an LPC's base can name; some are 16, 32 or 48 apart from an EIO's (W-208). */
+/* A node without a hub. Most are 0 to 15, which an LPC's base can name; some are 16, 32 or 48 apart from an EIO's (W-208). */
 uint8_t unused_node(struct random *random, const struct board *board);
 
-/* Whether some EIO has this node, and some BIO this hardware ID. */
-bool has_eio(const struct board *board, uint8_t node);
+/* Whether a bridge of this hardware ID has a hub, the EIO of this node or the HT (W-201), and whether there is such a bridge. */
+bool has_hub(const struct board *board, uint8_t node);
 bool has_bio(const struct board *board, uint16_t hardware_id);
 
 /* Some BIO; NULL if there is none. */
@@ -57,6 +57,26 @@ bool base_is_taken(const struct board *board, uint16_t base, uint8_t pins);
 
 /* A base that is free on a board with few bridges, for one more with so many pins; often just behind or before another. */
 uint16_t free_base(struct random *random, const struct board *board, uint8_t pins);
+
+/* ---- HT boards (W-201) ---- */
+
+bool is_ht_board(const struct board *board);
+
+/* LIO inputs as a mask: those that are wired, and those that an HT names. Without a LIO, or without an HT, there are none. */
+uint32_t wired_inputs(const struct board *board);
+uint32_t named_inputs(const struct board *board);
+
+/* Some LIO input of a mask, which is not 0. */
+uint8_t some_input(struct random *random, uint32_t mask);
+
+/*
+ * An HT whose bytes name wired inputs of the LIO, which has one, or two if there is no BIO: then one is left for the SCI. Often
+ * all bytes name one input, or two.
+ */
+struct structure wired_ht(struct random *random, const struct board *board);
+
+/* A global number that arrives: there is a BIO, or a wired LIO input that no HT names. */
+uint16_t arriving_number(struct random *random, const struct board *board);
 
 /* A structure of a type that is passed over, of any length that fits, often the shortest. */
 struct structure passed_over_structure(struct random *random);

@@ -11,7 +11,7 @@
 extern const struct way capture_ways[]; /* refusals 1 to 30 */
 extern const size_t capture_way_count;
 
-extern const struct way madt_ways[]; /* refusals 31 to 54, with 71 to 77 in the place of 36 */
+extern const struct way madt_ways[]; /* refusals 31 to 54, with 71 to 78 in the place of 36 */
 extern const size_t madt_way_count;
 
 #endif

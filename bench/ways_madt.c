@@ -1,6 +1,8 @@
 /*
- * Ways to break rules 31 to 54 of a board, with 71 to 77 in the place of 36: the MADT's structures one by one, then all
+ * Ways to break rules 31 to 54 of a board, with 71 to 78 in the place of 36: the MADT's structures one by one, then all
  * together. What ways_capture.c says of its ways goes for these.
+ *
+ * A board has an HT or EIOs (W-201). Most ways take it as it is; one that is about the other kind makes it such a board first.
  */
 #include "ways.h"
 
@@ -73,10 +75,20 @@ static struct structure fresh_eio(struct random *random, const struct board *boa
     return make_eio(random, cascade, node, node_map(random));
 }
 
-/* On the node of some EIO, if there is one. */
+/* Inputs that there are; whether they are wired is another matter. */
+static struct structure fresh_ht(struct random *random)
+{
+    uint8_t inputs[HT_GROUPS];
+
+    for (size_t i = 0; i < HT_GROUPS; i++)
+        inputs[i] = (uint8_t)below(random, LIO_INPUTS);
+    return make_ht(random, inputs);
+}
+
+/* On the HT, or on the node of some EIO, if there is one. */
 static struct structure fresh_bio(struct random *random, const struct board *board)
 {
-    uint8_t node = NODES;
+    uint8_t node = is_ht_board(board) ? HT_NODE : NODES;
 
     for (size_t i = 0; i < board->structures; i++)
         if (board->structure[i].bytes[0] == EIO && (node == NODES || one_in(random, 2)))
@@ -102,16 +114,16 @@ static struct structure fresh(struct random *random, const struct board *board, 
         return fresh_core(random, board);
     case LIO:
         return fresh_lio(random);
+    case HT:
+        return fresh_ht(random);
     case EIO:
         return fresh_eio(random, board);
     case MSI:
         return make_msi(random, (uint32_t)between(random, PINS, SLOTS - 1), 1);
     case BIO:
         return fresh_bio(random, board);
-    case LPC:
+    default: /* LPC */
         return fresh_lpc(random, board);
-    default: /* HT */
-        return random_structure(random, kind);
     }
 }
 
@@ -235,7 +247,7 @@ static void move_node(struct board *board, uint16_t from, uint8_t to)
     }
 }
 
-/* Makes sure of a bridge that an LPC's base can name: if there is none, one gets a node from 0 to 15 that no EIO has. */
+/* Makes sure of a bridge that an LPC's base can name: if there is none, one gets a node from 0 to 15 that no hub has. */
 static void have_bridge_for_lpc(struct random *random, struct board *board)
 {
     uint8_t *bio = some(random, board, BIO);
@@ -245,7 +257,7 @@ static void have_bridge_for_lpc(struct random *random, struct board *board)
         return;
     do
         node = (uint8_t)below(random, LPC_NODES);
-    while (has_eio(board, node));
+    while (has_hub(board, node));
     move_node(board, get_u16(bio + BIO_HARDWARE_ID), node);
 }
 
@@ -278,7 +290,114 @@ static uint16_t missing_pin(struct random *random, uint8_t pins)
     return pins == PINS || one_in(random, 2) ? pins : (uint16_t)between(random, pins, PINS - 1);
 }
 
-/* ---- 31 to 38 and 71 to 77: structures in turn ---- */
+/* ---- HT or EIO (W-201) ---- */
+
+static bool is_on_line(const struct board *board, uint8_t line)
+{
+    for (size_t i = 0; i < board->structures; i++) {
+        const uint8_t *bytes = board->structure[i].bytes;
+
+        if (bytes[0] == EIO && bytes[EIO_CASCADE] == line)
+            return true;
+        for (size_t half = 0; half < 2 && bytes[0] == LIO; half++)
+            if (get_u32(bytes + LIO_MASKS + 4 * half) != 0 && bytes[LIO_CASCADES + half] == line)
+                return true;
+    }
+    return false;
+}
+
+/* A line that neither an EIO nor the LIO enters; any, if there is none. */
+static uint8_t free_cascade(struct random *random, const struct board *board)
+{
+    const size_t lines = CASCADE_MAX - CASCADE_MIN + 1;
+    size_t first = below(random, lines);
+
+    for (size_t i = 0; i < lines; i++) {
+        uint8_t line = (uint8_t)(CASCADE_MIN + (first + i) % lines);
+
+        if (!is_on_line(board, line))
+            return line;
+    }
+    return cascade_in_range(random);
+}
+
+/* An HT board gets an EIO in the place of its HT, and keeps the rules that it kept: the node is that of its bridge. */
+static void become_eio_board(struct random *random, struct board *board)
+{
+    for (size_t i = 0; i < board->structures; i++)
+        if (board->structure[i].bytes[0] == HT) {
+            uint8_t cascade = free_cascade(random, board);
+
+            board->structure[i] = make_eio(random, cascade, HT_NODE, node_map(random));
+        }
+}
+
+/* All bridges go but one, the LPC's if there is an LPC. It keeps its pins, and gets hardware ID 0, as the LPC does. */
+static void keep_one_bridge(struct random *random, struct board *board)
+{
+    bool for_lpc = bridge_of_lpc(board) != NULL;
+    const uint8_t *bridge = for_lpc ? bridge_of_lpc(board) : some_bio(random, board);
+
+    if (bridge == NULL)
+        return;
+
+    uint8_t pins = pins_of_bio(board, bridge);
+    struct structure kept = make_bio(random, HT_NODE, get_u16(bridge + BIO_BASE));
+
+    remove_kind(board, BIO);
+    insert(random, board, kept);
+    if (for_lpc)
+        set_base_bits(nth_of_kind(board, LPC, 0), LPC_NODE_BIT, HT_NODE);
+    if (board->version == WITH_PAIRS)
+        give_pair(random, board, HT_NODE, pins);
+}
+
+/* Wires inputs of the LIO that are not, so many times. */
+static void wire_inputs(struct random *random, struct board *board, size_t count)
+{
+    uint8_t *lio = some(random, board, LIO);
+
+    for (; count > 0 && wired_inputs(board) != UINT32_MAX; count--) {
+        size_t half = below(random, 2);
+        uint8_t *mask = lio + LIO_MASKS + 4 * half;
+
+        if (get_u32(mask) == 0)
+            lio[LIO_CASCADES + half] = cascade_in_range(random);
+        put_u32(mask, get_u32(mask) | UINT32_C(1) << some_input(random, ~wired_inputs(board)));
+    }
+}
+
+/*
+ * An EIO board gets an HT in the place of its EIOs, and keeps the rules that it kept: there are inputs to name, one bridge is
+ * left at most, and the SCI arrives. Gives the HT's bytes.
+ */
+static uint8_t *become_ht_board(struct random *random, struct board *board)
+{
+    if (is_ht_board(board))
+        return nth_of_kind(board, HT, 0);
+    keep_one_bridge(random, board);
+    wire_inputs(random, board, 2);
+    remove_kind(board, EIO);
+    insert(random, board, wired_ht(random, board));
+    board->sci = arriving_number(random, board);
+    return nth_of_kind(board, HT, 0);
+}
+
+/* An input that is not wired. If all are, the LIO loses one that no HT names. */
+static uint8_t unwired_input(struct random *random, struct board *board)
+{
+    uint8_t *lio = some(random, board, LIO);
+
+    if (wired_inputs(board) == UINT32_MAX) {
+        uint32_t lost = UINT32_C(1) << some_input(random, ~named_inputs(board));
+
+        for (int half = 0; half < 2; half++)
+            put_u32(lio + LIO_MASKS + 4 * half, get_u32(lio + LIO_MASKS + 4 * half) & ~lost);
+    }
+    return some_input(random, ~wired_inputs(board));
+}
+
+/* ---- 31 to 38 and 71 to 78: structures in turn ---- */
 
 static void one_byte_left(struct random *random, struct board *board)
 {
@@ -328,11 +447,6 @@ static void wrong_structure_version(struct random *random, struct board *board)
     insert(random, board, structure);
 }
 
-static void ht(struct random *random, struct board *board)
-{
-    insert_fresh(random, board, HT);
-}
-
 static uint32_t reserved_flag(struct random *random)
 {
     return UINT32_C(1) << between(random, 1, 31);
@@ -353,7 +467,7 @@ static void reserved_flags_of_disabled(struct random *random, struct board *boar
     put_u32(core + CORE_FLAGS, reserved_flag(random));
 }
 
-/* 71 to 77. Of several fields out of their range the lowest number is told, so some ways break more than the field they name. */
+/* 71 to 78. Of several fields out of their range the lowest number is told, so some ways break more than the field they name. */
 
 static void lio_cascade(struct random *random, struct board *board)
 {
@@ -512,6 +626,39 @@ static void lpc_cascade_high_byte(struct random *random, struct board *board)
     put_high_byte(random, some(random, board, LPC) + LPC_CASCADE);
 }
 
+/* A byte over 31, often just above. */
+static void spoil_ht_byte(struct random *random, uint8_t *ht, size_t group)
+{
+    static const uint8_t edges[] = {LIO_INPUTS, LIO_INPUTS + 1, 2 * LIO_INPUTS, UINT8_MAX};
+    uint8_t any_above = (uint8_t)between(random, LIO_INPUTS, UINT8_MAX);
+
+    ht[HT_BYTES + group] = one_in(random, 4) ? any_above : edges[below(random, sizeof edges)];
+}
+
+/* On an EIO board the HT is one that must not be there: 78 comes before 34. */
+static void ht_byte(struct random *random, struct board *board)
+{
+    uint8_t *ht = some(random, board, HT);
+
+    spoil_ht_byte(random, ht, below(random, HT_GROUPS));
+}
+
+static void several_ht_bytes(struct random *random, struct board *board)
+{
+    uint8_t *ht = become_ht_board(random, board);
+
+    for (size_t group = below(random, HT_GROUPS); group < HT_GROUPS; group++)
+        spoil_ht_byte(random, ht, group);
+}
+
+/* There is no 38 for it. */
+static void surplus_ht_byte(struct random *random, struct board *board)
+{
+    (void)become_ht_board(random, board);
+    append_structure(board, fresh_ht(random));
+    spoil_ht_byte(random, board->structure[board->structures - 1].bytes, below(random, HT_GROUPS));
+}
+
 static void masks_share_a_bit(struct random *random, struct board *board)
 {
     uint8_t *lio = some(random, board, LIO);
@@ -536,7 +683,7 @@ static void have(struct random *random, struct board *board, enum kind kind, siz
         insert_fresh(random, board, kind);
 }
 
-/* One too many, which is also broken in itself: 35, 71 to 77 and 37 come before 38. */
+/* One too many, which is also broken in itself: 35, 71 to 78 and 37 come before 38. */
 
 static void surplus_core_with_flags(struct random *random, struct board *board)
 {
@@ -647,7 +794,73 @@ static void two_lpcs(struct random *random, struct board *board)
     have(random, board, LPC, 2);
 }
 
-/* ---- 39 to 54: the board as a whole ---- */
+/* Beside an HT too: 38 comes before 34, wherever the HT stands. */
+static void too_many_eios_beside_ht(struct random *random, struct board *board)
+{
+    have(random, board, HT, 1);
+    have(random, board, EIO, EIOS_MAX + 1);
+}
+
+/* ---- 34 and 39 to 54: the board as a whole ---- */
+
+/* 34: HT and EIO, or two HT. The first structure that gives the board both, or a second HT, is named. */
+
+/* Often of the node that the HT's bridge has. */
+static void insert_eio_beside_ht(struct random *random, struct board *board)
+{
+    struct structure eio = fresh_eio(random, board);
+
+    if (one_in(random, 2))
+        eio.bytes[EIO_NODE] = HT_NODE;
+    insert(random, board, eio);
+}
+
+/* One or two of the kind that the board has not. */
+static void ht_and_eio(struct random *random, struct board *board)
+{
+    bool eio = is_ht_board(board);
+
+    for (size_t more = between(random, 1, 2); more > 0; more--)
+        if (eio)
+            insert_eio_beside_ht(random, board);
+        else
+            insert_fresh(random, board, HT);
+}
+
+/* One is the first structure of all, the other the last. */
+static void ht_and_eio_far_apart(struct random *random, struct board *board)
+{
+    struct structure ht = fresh_ht(random), eio = fresh_eio(random, board);
+    bool ht_first = one_in(random, 2);
+
+    remove_kind(board, HT);
+    remove_kind(board, EIO);
+    add_structure(board, 0, ht_first ? &ht : &eio);
+    append_structure(board, ht_first ? eio : ht);
+}
+
+/* The second one may be the first one again. */
+static void two_hts(struct random *random, struct board *board)
+{
+    struct structure ht = fresh_ht(random);
+    const uint8_t *first = become_ht_board(random, board);
+
+    if (one_in(random, 2))
+        memcpy(ht.bytes, first, ht.length);
+    for (size_t more = between(random, 1, 2); more > 0; more--)
+        insert(random, board, ht);
+}
+
+/* Several of each, in any order: HT, EIO, HT among them. */
+static void hts_among_eios(struct random *random, struct board *board)
+{
+    remove_kind(board, HT);
+    remove_kind(board, EIO);
+    for (size_t more = between(random, 1, 3); more > 0; more--)
+        insert_fresh(random, board, HT);
+    for (size_t more = between(random, 1, EIOS_MAX); more > 0; more--)
+        insert_eio_beside_ht(random, board);
+}
 
 /*
  * Two enabled CORE have an ID in common (W-203). Spare ones that have it too are around them: a reader that names one of
@@ -789,24 +1002,111 @@ static void no_lio(struct random *random, struct board *board)
     remove_kind(board, LIO);
 }
 
-static void no_eio(struct random *random, struct board *board)
+static void no_hub(struct random *random, struct board *board)
 {
     (void)random;
     remove_kind(board, EIO);
+    remove_kind(board, HT);
 }
 
-static void repeated_node(struct random *random, struct board *board)
+/* The HT is not enough. */
+static void ht_without_lio(struct random *random, struct board *board)
+{
+    (void)become_ht_board(random, board);
+    remove_kind(board, LIO);
+}
+
+static void repeat_node(struct random *random, struct board *board)
 {
     struct two eios = some_two(random, board, EIO, EIOS_MAX);
 
     eios.second[EIO_NODE] = eios.first[EIO_NODE];
 }
 
-static void bio_without_eio(struct random *random, struct board *board)
+static void repeated_node(struct random *random, struct board *board)
+{
+    become_eio_board(random, board);
+    repeat_node(random, board);
+}
+
+/* On an HT board its hardware ID is other than 0 (W-201). */
+static void bio_without_hub(struct random *random, struct board *board)
 {
     uint8_t *bio = some(random, board, BIO);
 
     put_u16(bio + BIO_HARDWARE_ID, unused_node(random, board));
+}
+
+/* An LPC may be behind the bridge all the same. */
+static void bio_beside_ht(struct random *random, struct board *board)
+{
+    (void)become_ht_board(random, board);
+    bio_without_hub(random, board);
+    put_lpc_behind_a_bridge(random, board);
+}
+
+/* 34 comes before 39, 40, 41 and 42. */
+
+static void ht_and_eio_and_repeated_id(struct random *random, struct board *board)
+{
+    ht_and_eio(random, board);
+    repeated_id(random, board);
+}
+
+static void ht_and_eio_none_enabled(struct random *random, struct board *board)
+{
+    ht_and_eio(random, board);
+    none_enabled(random, board);
+}
+
+static void ht_and_eio_no_lio(struct random *random, struct board *board)
+{
+    ht_and_eio(random, board);
+    no_lio(random, board);
+}
+
+static void ht_and_repeated_node(struct random *random, struct board *board)
+{
+    have(random, board, HT, 1);
+    repeat_node(random, board);
+}
+
+static void ht_and_eio_and_bio_without_hub(struct random *random, struct board *board)
+{
+    ht_and_eio(random, board);
+    bio_without_hub(random, board);
+}
+
+/* It comes behind all that a structure can break, wherever that stands. */
+
+static void ht_and_eio_one_byte_left(struct random *random, struct board *board)
+{
+    ht_and_eio(random, board);
+    one_byte_left(random, board);
+}
+
+static void ht_and_eio_wrong_length(struct random *random, struct board *board)
+{
+    ht_and_eio(random, board);
+    wrong_length(random, board);
+}
+
+static void ht_and_eio_wrong_version(struct random *random, struct board *board)
+{
+    ht_and_eio(random, board);
+    wrong_structure_version(random, board);
+}
+
+static void ht_and_eio_reserved_flags(struct random *random, struct board *board)
+{
+    ht_and_eio(random, board);
+    reserved_flags(random, board);
+}
+
+static void ht_and_eio_shared_bit(struct random *random, struct board *board)
+{
+    ht_and_eio(random, board);
+    masks_share_a_bit(random, board);
 }
 
 static void lpc_without_bio(struct random *random, struct board *board)
@@ -838,6 +1138,7 @@ static void lpc_of_no_bridge(struct random *random, struct board *board)
 /* The bridge's hardware ID has the LPC's node in its low four bits, and more above them. */
 static void lpc_16_below_a_bridge(struct random *random, struct board *board)
 {
+    become_eio_board(random, board);
     have(random, board, BIO, 1);
     have(random, board, LPC, 1);
 
@@ -847,7 +1148,7 @@ static void lpc_16_below_a_bridge(struct random *random, struct board *board)
     do {
         node = node_without_bio(board, (uint8_t)below(random, LPC_NODES), 1);
         above = (uint8_t)(node + LPC_NODES * between(random, 1, NODES / LPC_NODES - 1));
-    } while (has_eio(board, above));
+    } while (has_hub(board, above));
     move_node(board, hardware_id, above);
     set_base_bits(some(random, board, LPC), LPC_NODE_BIT, node);
 }
@@ -865,6 +1166,7 @@ static void lpc_next_to_a_bridge(struct random *random, struct board *board)
 /* Every bridge has a higher hardware ID. */
 static void lpc_of_node_0_without_bio(struct random *random, struct board *board)
 {
+    become_eio_board(random, board);
     have(random, board, BIO, 1);
     if (has_bio(board, 0))
         move_node(board, 0, unused_node(random, board));
@@ -884,15 +1186,82 @@ static void lpc_past_its_bridge(struct random *random, struct board *board)
 }
 
 /* 42 comes before 43 and 45. */
-static void bio_without_eio_and_lpc_of_no_bridge(struct random *random, struct board *board)
+static void bio_without_hub_and_lpc_of_no_bridge(struct random *random, struct board *board)
 {
-    bio_without_eio(random, board);
+    bio_without_hub(random, board);
     lpc_of_no_bridge(random, board);
 }
 
-static void bio_without_eio_and_lpc_past_its_bridge(struct random *random, struct board *board)
+static void bio_without_hub_and_lpc_past_its_bridge(struct random *random, struct board *board)
 {
-    bio_without_eio(random, board);
+    bio_without_hub(random, board);
+    lpc_past_its_bridge(random, board);
+}
+
+/* 44: a byte of the HT names an unwired input (W-201), whether anything lands on its vectors or not. */
+
+/* A group of vectors that a pin or a slot lands on. */
+static size_t used_group(struct random *random, struct board *board)
+{
+    if (count_kind(board, BIO) > 0 && one_in(random, 2))
+        return 0;
+    return get_u32(some(random, board, MSI) + MSI_START) / HT_GROUP % HT_GROUPS;
+}
+
+static void unwired_byte(struct random *random, struct board *board)
+{
+    (void)become_ht_board(random, board);
+
+    uint8_t input = unwired_input(random, board);
+    size_t group = used_group(random, board);
+
+    nth_of_kind(board, HT, 0)[HT_BYTES + group] = input;
+}
+
+/* Without slots nothing lands on the vectors behind the pins. */
+static void unwired_byte_of_unused_vectors(struct random *random, struct board *board)
+{
+    (void)become_ht_board(random, board);
+    remove_kind(board, MSI);
+
+    uint8_t input = unwired_input(random, board);
+
+    nth_of_kind(board, HT, 0)[HT_BYTES + between(random, PINS / HT_GROUP, HT_GROUPS - 1)] = input;
+}
+
+/* The LIO loses an input that the HT names, or all. */
+static void named_input_unwired(struct random *random, struct board *board)
+{
+    (void)become_ht_board(random, board);
+
+    uint8_t *lio = some(random, board, LIO);
+    uint32_t lost = one_in(random, 4) ? UINT32_MAX : UINT32_C(1) << some_input(random, named_inputs(board));
+
+    for (int half = 0; half < 2; half++)
+        put_u32(lio + LIO_MASKS + 4 * half, get_u32(lio + LIO_MASKS + 4 * half) & ~lost);
+}
+
+/* 42 and 43 come before it, and 45 behind it. */
+
+static void bio_beside_ht_and_unwired_byte(struct random *random, struct board *board)
+{
+    bio_beside_ht(random, board);
+    named_input_unwired(random, board);
+}
+
+static void lpc_of_no_bridge_and_unwired_byte(struct random *random, struct board *board)
+{
+    (void)become_ht_board(random, board);
+    lpc_of_no_bridge(random, board);
+    if (one_in(random, 2))
+        unwired_byte(random, board);
+    else
+        named_input_unwired(random, board);
+}
+
+static void unwired_byte_and_lpc_past_its_bridge(struct random *random, struct board *board)
+{
+    unwired_byte(random, board);
     lpc_past_its_bridge(random, board);
 }
 
@@ -1024,17 +1393,33 @@ static void bio_behind_several_msis(struct random *random, struct board *board)
         }
 }
 
+/* 44 comes before 51 and 52. */
+static void unwired_byte_and_clashes(struct random *random, struct board *board)
+{
+    unwired_byte(random, board);
+    bases_too_close_and_slots_on_pins(random, board);
+}
+
+/* Bridges on the HT have one hardware ID. */
+static void two_bios_on_the_ht(struct random *random, struct board *board)
+{
+    (void)become_ht_board(random, board);
+    two_bios_of_a_node(random, board);
+}
+
 /* Bridges on any of the nodes and some slots anywhere: one pair is sure to meet, others may. */
 static void crowded_vectors(struct random *random, struct board *board)
 {
-    have(random, board, EIO, 1);
+    bool on_ht = is_ht_board(board);
+
+    have(random, board, EIO, on_ht ? 0 : 1);
     have(random, board, BIO, between(random, 1, BIOS_MAX));
     have(random, board, MSI, between(random, 1, MSIS_MAX));
     for (size_t i = 0; i < board->structures; i++) {
         uint8_t *bytes = board->structure[i].bytes;
 
         if (bytes[0] == BIO)
-            put_u16(bytes + BIO_HARDWARE_ID, some(random, board, EIO)[EIO_NODE]);
+            put_u16(bytes + BIO_HARDWARE_ID, on_ht ? HT_NODE : some(random, board, EIO)[EIO_NODE]);
         if (bytes[0] == MSI) {
             put_u32(bytes + MSI_START, (uint32_t)between(random, PINS / 2, SLOTS - PINS));
             put_u32(bytes + MSI_COUNT, (uint32_t)between(random, 1, PINS));
@@ -1045,10 +1430,13 @@ static void crowded_vectors(struct random *random, struct board *board)
     slots_on_slots(random, board);
 }
 
+/* 53 is about EIOs and the LIO: an HT enters no core vector (W-201). */
+
 static void eio_on_the_lio(struct random *random, struct board *board)
 {
     size_t half = below(random, 2);
 
+    become_eio_board(random, board);
     if (count_kind(board, EIO) == 0)
         insert_fresh(random, board, EIO);
 
@@ -1065,6 +1453,8 @@ static void eio_on_the_lio(struct random *random, struct board *board)
 
 static void eio_on_an_eio(struct random *random, struct board *board)
 {
+    become_eio_board(random, board);
+
     struct two eios = some_two(random, board, EIO, EIOS_MAX);
 
     eios.second[EIO_CASCADE] = eios.first[EIO_CASCADE];
@@ -1076,6 +1466,7 @@ static void crowded_lines(struct random *random, struct board *board)
     uint64_t first = between(random, CASCADE_MIN, CASCADE_MAX - 1);
     bool lio_too = one_in(random, 2);
 
+    become_eio_board(random, board);
     have(random, board, EIO, between(random, 3, EIOS_MAX));
     for (size_t i = 0; i < board->structures; i++) {
         uint8_t *bytes = board->structure[i].bytes;
@@ -1092,6 +1483,9 @@ static void crowded_lines(struct random *random, struct board *board)
 static void lio_behind_two_eios(struct random *random, struct board *board)
 {
     static const uint32_t masks[2] = {UINT32_C(0x0000FFFF), UINT32_C(0xFFFF0000)};
+
+    become_eio_board(random, board);
+
     struct two eios = some_two(random, board, EIO, EIOS_MAX);
     uint8_t cascades[2] = {eios.first[EIO_CASCADE], eios.second[EIO_CASCADE]};
 
@@ -1132,11 +1526,11 @@ static void sci_on_a_missing_pin(struct random *random, struct board *board)
         sci_behind_the_bridges(random, board);
 }
 
-/* The LIO loses the input that the SCI is put on. */
+/* The LIO loses the input that the SCI is put on, which is none that an HT names: that would be 44. */
 static void sci_unwired(struct random *random, struct board *board)
 {
     uint8_t *lio = some(random, board, LIO);
-    uint32_t input = (uint32_t)below(random, LIO_INPUTS);
+    uint32_t input = some_input(random, ~named_inputs(board));
 
     for (int half = 0; half < 2; half++)
         put_u32(lio + LIO_MASKS + 4 * half, get_u32(lio + LIO_MASKS + 4 * half) & ~(UINT32_C(1) << input));
@@ -1149,16 +1543,33 @@ static void sci_without_lpc(struct random *random, struct board *board)
     board->sci = (uint16_t)below(random, 16);
 }
 
+/* The input is wired, but it leads to the HT, and its number has no owner. */
+static void sci_on_a_named_input(struct random *random, struct board *board)
+{
+    (void)become_ht_board(random, board);
+    board->sci = (uint16_t)(LIO_FIRST + some_input(random, named_inputs(board)));
+}
+
+/* 44 comes before 54. */
+static void sci_on_a_named_input_that_is_unwired(struct random *random, struct board *board)
+{
+    sci_on_a_named_input(random, board);
+    named_input_unwired(random, board);
+}
+
 /* ---- All of them ---- */
 
 const struct way madt_ways[] = {
     {31, "one byte left", .in_board = one_byte_left},
     {31, "structure length under 2", .in_board = length_under_2},
     {31, "structure past the end", .in_board = past_the_end},
+    {31, "HT and EIO, and one byte left", .in_board = ht_and_eio_one_byte_left},
     {32, "length of a known type", .in_board = wrong_length},
+    {32, "HT and EIO, and length of a known type", .in_board = ht_and_eio_wrong_length},
     {33, "structure version", .in_board = wrong_structure_version},
-    {34, "HT", .in_board = ht},
+    {33, "HT and EIO, and structure version", .in_board = ht_and_eio_wrong_version},
     {35, "reserved CORE flags", .in_board = reserved_flags},
+    {35, "HT and EIO, and reserved CORE flags", .in_board = ht_and_eio_reserved_flags},
     {35, "reserved flags of a disabled CORE", .in_board = reserved_flags_of_disabled},
     {35, "reserved flags of the 257th CORE", .in_board = surplus_core_with_flags},
     {71, "LIO cascade", .in_board = lio_cascade},
@@ -1187,15 +1598,29 @@ const struct way madt_ways[] = {
     {77, "LPC cascade", .in_board = lpc_cascade},
     {77, "LPC cascade, high byte", .in_board = lpc_cascade_high_byte},
     {77, "cascade of the second LPC", .in_board = surplus_lpc_cascade},
+    {78, "HT byte", .in_board = ht_byte},
+    {78, "several HT bytes", .in_board = several_ht_bytes},
+    {78, "byte of a second HT", .in_board = surplus_ht_byte},
     {37, "LIO masks share a bit", .in_board = masks_share_a_bit},
+    {37, "HT and EIO, and LIO masks share a bit", .in_board = ht_and_eio_shared_bit},
     {37, "second LIO whose masks share a bit", .in_board = surplus_lio_with_shared_bit},
     {38, "257 CORE", .in_board = too_many_cores},
     {38, "257 CORE, alike, at most one of them enabled", .in_board = too_many_spare_cores},
     {38, "two LIO", .in_board = two_lios},
     {38, "five EIO", .in_board = too_many_eios},
+    {38, "five EIO beside an HT", .in_board = too_many_eios_beside_ht},
     {38, "five MSI", .in_board = too_many_msis},
     {38, "five BIO", .in_board = too_many_bios},
     {38, "two LPC", .in_board = two_lpcs},
+    {34, "HT and EIO", .in_board = ht_and_eio},
+    {34, "HT and EIO, first and last of all", .in_board = ht_and_eio_far_apart},
+    {34, "two HT", .in_board = two_hts},
+    {34, "HT among EIO", .in_board = hts_among_eios},
+    {34, "HT and EIO, and repeated ID", .in_board = ht_and_eio_and_repeated_id},
+    {34, "HT and EIO, no enabled CORE", .in_board = ht_and_eio_none_enabled},
+    {34, "HT and EIO, no LIO", .in_board = ht_and_eio_no_lio},
+    {34, "HT and two EIO of a node", .in_board = ht_and_repeated_node},
+    {34, "HT and EIO, BIO without its hub", .in_board = ht_and_eio_and_bio_without_hub},
     {39, "repeated ID", .in_board = repeated_id},
     {39, "repeated ID, the first two CORE", .in_board = repeated_id_of_first_two},
     {39, "repeated ID, the last two CORE", .in_board = repeated_id_of_last_two},
@@ -1207,23 +1632,34 @@ const struct way madt_ways[] = {
     {40, "no enabled CORE", .in_board = none_enabled},
     {40, "all CORE alike, none of them enabled", .in_board = make_all_spare},
     {40, "no LIO", .in_board = no_lio},
-    {40, "no EIO", .in_board = no_eio},
+    {40, "neither EIO nor HT", .in_board = no_hub},
+    {40, "HT without a LIO", .in_board = ht_without_lio},
     {41, "repeated node", .in_board = repeated_node},
-    {42, "BIO without its EIO", .in_board = bio_without_eio},
-    {42, "BIO without its EIO, LPC of no bridge", .in_board = bio_without_eio_and_lpc_of_no_bridge},
-    {42, "BIO without its EIO, LPC past its bridge", .in_board = bio_without_eio_and_lpc_past_its_bridge},
+    {42, "BIO without its hub", .in_board = bio_without_hub},
+    {42, "BIO without its hub, LPC of no bridge", .in_board = bio_without_hub_and_lpc_of_no_bridge},
+    {42, "BIO without its hub, LPC past its bridge", .in_board = bio_without_hub_and_lpc_past_its_bridge},
+    {42, "BIO of another hardware ID beside an HT", .in_board = bio_beside_ht},
+    {42, "BIO of another hardware ID, HT byte unwired", .in_board = bio_beside_ht_and_unwired_byte},
     {43, "LPC without a BIO", .in_board = lpc_without_bio},
     {43, "LPC of no bridge, bits beside its node name one", .in_board = lpc_of_no_bridge},
     {43, "LPC of no bridge, 16 or more below one", .in_board = lpc_16_below_a_bridge},
     {43, "LPC of no bridge, next to one", .in_board = lpc_next_to_a_bridge},
     {43, "LPC of node 0, all bridges above it", .in_board = lpc_of_node_0_without_bio},
     {43, "LPC of no bridge, bases too close, slots on pins", .in_board = lpc_of_no_bridge_and_clashes},
+    {43, "LPC of no bridge, HT byte unwired", .in_board = lpc_of_no_bridge_and_unwired_byte},
+    {44, "HT byte unwired", .in_board = unwired_byte},
+    {44, "HT byte of unused vectors unwired", .in_board = unwired_byte_of_unused_vectors},
+    {44, "LIO input that the HT names unwired", .in_board = named_input_unwired},
+    {44, "HT byte unwired, LPC past its bridge", .in_board = unwired_byte_and_lpc_past_its_bridge},
+    {44, "HT byte unwired, bases too close, slots on pins", .in_board = unwired_byte_and_clashes},
+    {44, "SCI on the input of an HT byte that is unwired", .in_board = sci_on_a_named_input_that_is_unwired},
     {45, "LPC past its bridge", .in_board = lpc_past_its_bridge},
     {45, "LPC past its bridge, bases too close, slots on pins", .in_board = lpc_past_its_bridge_and_clashes},
     {51, "bases too close", .in_board = bases_too_close},
     {51, "base between two", .in_board = base_between_two},
     {51, "bases too close, and slots on pins", .in_board = bases_too_close_and_slots_on_pins},
     {52, "two BIO of a node", .in_board = two_bios_of_a_node},
+    {52, "two BIO on the HT", .in_board = two_bios_on_the_ht},
     {52, "slots on slots", .in_board = slots_on_slots},
     {52, "slots on pins", .in_board = slots_on_pins},
     {52, "slots behind one bridge's pins, on another's", .in_board = slots_between_counts},
@@ -1237,6 +1673,7 @@ const struct way madt_ways[] = {
     {54, "SCI behind the bridges", .in_board = sci_behind_the_bridges},
     {54, "SCI on a pin that is not there", .in_board = sci_on_a_missing_pin},
     {54, "SCI unwired", .in_board = sci_unwired},
+    {54, "SCI on an input that the HT names", .in_board = sci_on_a_named_input},
     {54, "SCI without LPC", .in_board = sci_without_lpc},
 };
 
