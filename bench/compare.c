@@ -4,8 +4,8 @@
  *     compare BOARDS DIFFERENCES PRINTED ASKED [SEED [COUNT]]
  *
  * First the cases of documents 01 and 02 and the captures of the folder BOARDS. Then COUNT generated captures: boards that
- * keep all rules, boards broken on purpose in one or two ways, and noise; a third of them have version 2, and the MADTs of
- * some a revision other than 1.
+ * keep all rules, boards broken on purpose in one or two ways, and noise; a third of them have version 2, a third an HT in place
+ * of EIOs, and the MADTs of some a revision other than 1.
  * Of each, the result of `read`, every byte of the list lent to it, and the answers of `route` and `trace` to a sample of
  * questions are compared. A capture that the two sides tell differently is written to the folder DIFFERENCES.
  *
@@ -377,10 +377,19 @@ static uint32_t number_near_bridge(struct random *random, const struct board *bo
 /* The LPC's cascade; 0 if there is no LPC. */
 static uint32_t pin_of_lpc(const struct board *board)
 {
-    for (size_t i = 0; i < board->structures; i++)
-        if (board->structure[i].bytes[0] == LPC)
-            return get_u16(board->structure[i].bytes + LPC_CASCADE);
-    return 0;
+    const uint8_t *lpc = first_of_kind(board, LPC);
+
+    return lpc == NULL ? 0 : get_u16(lpc + LPC_CASCADE);
+}
+
+/* W-201: the global number of a LIO input that the HT names, or of one next to it, or of a pin whose vector begins or ends a group. */
+static uint32_t number_on_ht_board(struct random *random, const struct board *board, const uint8_t *bio)
+{
+    uint32_t input = some_input(random, named_inputs(board)), group_end = HT_GROUP - (uint32_t)below(random, 2);
+
+    if (bio != NULL && one_in(random, 3))
+        return get_u16(bio + BIO_BASE) + group_end;
+    return near_edge(random, LIO_FIRST + input, 1);
 }
 
 /* A global number that tells readers apart. */
@@ -389,6 +398,8 @@ static uint32_t interesting_number(struct random *random, const struct board *bo
     const uint8_t *bio = some_bio(random, board);
     uint32_t low = (uint32_t)below(random, BASE_MIN); /* LPC, LIO and what lies between LIO and BIO */
 
+    if (is_ht_board(board) && one_in(random, 3))
+        return number_on_ht_board(random, board, bio);
     switch (below(random, 10)) {
     case 0:
         return (uint32_t)any(random);
@@ -418,11 +429,37 @@ static struct arrival arrival_of(uint64_t answer)
     return (struct arrival){(uint32_t)(answer >> 32), (uint32_t)answer};
 }
 
-/* One with a number, at the vector of a bridge's EIO if there is one. */
+/* The core vector that a half of the LIO enters; 0 if there is no LIO. */
+static uint8_t cascade_of_half(const struct board *board, size_t half)
+{
+    const uint8_t *lio = first_of_kind(board, LIO);
+
+    return lio == NULL ? 0 : lio[LIO_CASCADES + half];
+}
+
+/* The half that a LIO input is wired to; the low one, if it is to none. */
+static size_t half_of_input(const struct board *board, uint32_t input)
+{
+    const uint8_t *lio = first_of_kind(board, LIO);
+
+    return lio != NULL && input < LIO_INPUTS && get_u32(lio + LIO_MASKS + 4) >> input & 1;
+}
+
+/* W-201: where a vector of the HT arrives, if it is a vector. */
+static struct arrival arrival_from_ht(const struct board *board, uint32_t vector)
+{
+    uint8_t input = first_of_kind(board, HT)[HT_BYTES + vector / HT_GROUP % HT_GROUPS];
+
+    return (struct arrival){cascade_of_half(board, half_of_input(board, input)), HT_FIRST + vector};
+}
+
+/* One with a number, at the vector of a bridge's EIO if there is one, or from the HT. */
 static struct arrival arrival_at_bridge(const struct board *board, const uint8_t *bio, uint32_t number)
 {
     struct arrival arrival = {CASCADE_MIN, number};
 
+    if (is_ht_board(board))
+        return arrival_from_ht(board, number);
     for (size_t i = 0; i < board->structures; i++) {
         const uint8_t *bytes = board->structure[i].bytes;
 
@@ -432,14 +469,52 @@ static struct arrival arrival_at_bridge(const struct board *board, const uint8_t
     return arrival;
 }
 
+/* A vector of the HT: any, one that begins or ends a group, or one at an end of an MSI's slots. */
+static uint32_t vector_of_ht(struct random *random, const struct board *board)
+{
+    const uint8_t *msi = first_of_kind(board, MSI);
+
+    switch (below(random, 3)) {
+    case 0:
+        return (uint32_t)below(random, SLOTS);
+    case 1:
+        return msi == NULL ? 0 : near_edge(random, get_u32(msi + MSI_START), get_u32(msi + MSI_COUNT));
+    default: /* up to one more than there are */
+        return HT_GROUP * (uint32_t)between(random, 1, HT_GROUPS) - (uint32_t)below(random, 2);
+    }
+}
+
+/* W-201: one that tells readers of an HT board apart. */
+static struct arrival arrival_on_ht_board(struct random *random, const struct board *board)
+{
+    struct arrival arrival = arrival_from_ht(board, vector_of_ht(random, board));
+    uint8_t input = some_input(random, named_inputs(board));
+
+    switch (below(random, 6)) {
+    case 0: /* at the vector of a half, which may be the other one */
+        arrival.vector = cascade_of_half(board, below(random, 2));
+        break;
+    case 1: /* with the number that the vector has on an EIO */
+        arrival.number -= HT_FIRST;
+        break;
+    case 2: /* an input that the HT names */
+        return (struct arrival){cascade_of_half(board, half_of_input(board, input)), input};
+    default:
+        break;
+    }
+    return arrival;
+}
+
 /* One that tells readers apart. */
 static struct arrival interesting_arrival(struct random *random, const struct board *board)
 {
-    static const uint32_t edges[] = {0, 31, 32, 63, 64, 255, 256};
+    static const uint32_t edges[] = {0, 31, 32, 63, 64, 255, 256, 511, 512};
     const uint8_t *bio = some_bio(random, board);
     uint32_t vector = (uint32_t)between(random, CASCADE_MIN - 1, CASCADE_MAX + 1);
     uint32_t number = (uint32_t)below(random, SLOTS);
 
+    if (is_ht_board(board) && !one_in(random, 3))
+        return arrival_on_ht_board(random, board);
     for (size_t i = 0; i < board->structures; i++)
         if (board->structure[i].bytes[0] == EIO && one_in(random, 2))
             vector = board->structure[i].bytes[EIO_CASCADE];
@@ -501,6 +576,9 @@ static void compare_thoroughly(const struct test *test, const uint8_t *capture)
         if (bytes[0] == EIO)
             for (uint32_t number = 0; number <= SLOTS; number++)
                 compare_trace(test, capture, bytes[EIO_CASCADE], number);
+        for (size_t half = 0; half < 2 && bytes[0] == LIO; half++)
+            for (uint32_t number = 0; number <= HT_FIRST + SLOTS; number++)
+                compare_trace(test, capture, bytes[LIO_CASCADES + half], number);
     }
 }
 
