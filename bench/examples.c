@@ -1,8 +1,8 @@
 /*
  * Board A and its neighbours, the five errors that look right, the refusals of request W-202, board A with spare CORE and
- * repeated IDs for requests W-203 and W-205, cut into segments for request W-206, as version 2 for request W-212, and with
- * other bridges for request W-208, all of it with the MADT revisions of request W-207, and the captures of boards/: see
- * examples.h.
+ * repeated IDs for requests W-203 and W-205, cut into segments for request W-206, as version 2 for request W-212, with other
+ * bridges for request W-208, and with an HT for request W-201, all of it with the MADT revisions of request W-207, and the
+ * captures of boards/: see examples.h.
  */
 #define _DEFAULT_SOURCE /* opendir */
 
@@ -21,6 +21,7 @@
 #include "board_a.h"
 #include "bridges.h"
 #include "files.h"
+#include "ht.h"
 #include "pins.h"
 #include "questions.h"
 #include "readings.h"
@@ -138,11 +139,12 @@ static void ask_neighbours(struct tally *tally, const struct reader *reader, con
 
 /* ---- Captures with their printed maps ---- */
 
-/* A map as the program prints it ("Board A and its neighbours"). */
+/* A map as the program prints it ("Board A and its neighbours"). An `ht` line stands where `eio` ones do (W-201). */
 struct printed {
-    size_t cores, lios, eios, bios, msis, lpcs;
+    size_t cores, lios, hts, eios, bios, msis, lpcs;
     uint32_t uid[CORES_MAX], physical_id[CORES_MAX];
     struct { uint32_t cascade, mask; } lio[2];
+    uint32_t ht[HT_GROUPS];
     struct { uint32_t node, cascade; } eio[EIOS_MAX];
     struct { uint32_t node, first, last; } bio[BIOS_MAX];
     struct { uint32_t first, last; } msi[MSIS_MAX];
@@ -174,6 +176,10 @@ static void take_line(struct printed *map, char *line)
     } else if (take_word(&line, "lio ") && map->lios < 2) {
         map->lio[map->lios].cascade = take_number(&line);
         map->lio[map->lios++].mask = take_number(&line);
+    } else if (take_word(&line, "ht ")) {
+        map->hts = 1;
+        for (size_t i = 0; i < HT_GROUPS; i++)
+            map->ht[i] = take_number(&line);
     } else if (take_word(&line, "eio ") && map->eios < EIOS_MAX) {
         map->eio[map->eios].node = take_number(&line);
         map->eio[map->eios++].cascade = take_number(&line);
@@ -195,12 +201,43 @@ static void take_line(struct printed *map, char *line)
     }
 }
 
-static uint32_t cascade_of(const struct printed *map, uint32_t node)
+/* The core vector of a LIO input; 0 if it is unwired. */
+static uint32_t vector_of_input(const struct printed *map, uint32_t input)
 {
+    for (size_t half = 0; half < map->lios; half++)
+        if (map->lio[half].mask >> input & 1)
+            return map->lio[half].cascade;
+    return 0;
+}
+
+static bool is_named(const struct printed *map, uint32_t input)
+{
+    for (size_t i = 0; i < HT_GROUPS && map->hts == 1; i++)
+        if (map->ht[i] == input)
+            return true;
+    return false;
+}
+
+struct arrival {
+    uint32_t vector, number;
+};
+
+/* Where what lands on a vector of the hub of a node arrives: through the EIO of the node, or through the HT. */
+static struct arrival arrival_by_hub(const struct printed *map, uint32_t node, uint32_t vector)
+{
+    if (map->hts == 1)
+        return (struct arrival){vector_of_input(map, map->ht[vector / HT_GROUP]), HT_FIRST + vector};
     for (size_t i = 0; i < map->eios; i++)
         if (map->eio[i].node == node)
-            return map->eio[i].cascade;
-    return 0;
+            return (struct arrival){map->eio[i].cascade, vector};
+    return (struct arrival){0, vector};
+}
+
+static uint64_t arrives_by_hub(const struct printed *map, uint32_t node, uint32_t vector)
+{
+    struct arrival arrival = arrival_by_hub(map, node, vector);
+
+    return arrives(arrival.vector, arrival.number);
 }
 
 /* One capture, asked about by one reader; answers are counted in one tally. */
@@ -239,20 +276,19 @@ static void expect_cores(const struct talk *talk, const struct printed *map)
     }
 }
 
+/* An input that the HT names is wired, and no source: nothing arrives with its number where it did (W-201). */
 static void expect_lio(const struct talk *talk, const struct printed *map)
 {
-    uint32_t wired = 0;
+    for (uint32_t input = 0; input < LIO_INPUTS; input++) {
+        uint32_t vector = vector_of_input(map, input), number = LIO_FIRST + input;
 
-    for (size_t half = 0; half < map->lios; half++)
-        for (uint32_t input = 0; input < LIO_INPUTS; input++)
-            if (map->lio[half].mask >> input & 1) {
-                wired |= UINT32_C(1) << input;
-                expect_route(talk, LIO_FIRST + input, arrives(map->lio[half].cascade, input));
-                expect_trace(talk, map->lio[half].cascade, input, lio_input(LIO_FIRST + input));
-            }
-    for (uint32_t input = 0; input < LIO_INPUTS; input++)
-        if ((wired >> input & 1) == 0)
-            expect_route(talk, LIO_FIRST + input, unwired());
+        if (vector == 0) {
+            expect_route(talk, number, unwired());
+            continue;
+        }
+        expect_route(talk, number, is_named(map, input) ? no_owner() : arrives(vector, input));
+        expect_trace(talk, vector, input, is_named(map, input) ? nothing() : lio_input(number));
+    }
 }
 
 /* Where a number from 64 on arrives. */
@@ -260,17 +296,34 @@ static uint64_t printed_route(const struct printed *map, uint32_t number)
 {
     for (size_t i = 0; i < map->bios; i++)
         if (number >= map->bio[i].first && number <= map->bio[i].last)
-            return arrives(cascade_of(map, map->bio[i].node), number - map->bio[i].first);
+            return arrives_by_hub(map, map->bio[i].node, number - map->bio[i].first);
     return no_owner();
 }
 
-/* What arrives through an EIO with a number that no bridge of its has. */
-static uint64_t printed_slot(const struct printed *map, uint32_t node, uint32_t number)
+/* What lands on a vector of the hub of a node. */
+static uint64_t printed_source(const struct printed *map, uint32_t node, uint32_t vector)
 {
+    for (size_t i = 0; i < map->bios; i++) {
+        uint32_t number = map->bio[i].first + vector;
+
+        if (map->bio[i].node == node && number <= map->bio[i].last) {
+            bool is_lpc = map->lpcs == 1 && map->lpc.node == node && map->lpc.input == vector;
+
+            return is_lpc ? lpc_cascade(number) : bio_input(number);
+        }
+    }
     for (size_t i = 0; i < map->msis; i++)
-        if (number >= map->msi[i].first && number <= map->msi[i].last)
-            return msi_slot(number, node);
+        if (vector >= map->msi[i].first && vector <= map->msi[i].last)
+            return msi_slot(vector, node);
     return nothing();
+}
+
+/* Asks where it arrives. */
+static void expect_source(const struct talk *talk, const struct printed *map, uint32_t node, uint32_t vector)
+{
+    struct arrival arrival = arrival_by_hub(map, node, vector);
+
+    expect_trace(talk, arrival.vector, arrival.number, printed_source(map, node, vector));
 }
 
 /* Behind the last pin of a bridge its numbers end (W-212): up to where they would with one pin more than there can be. */
@@ -278,10 +331,8 @@ static void expect_missing_pins(const struct talk *talk, const struct printed *m
 {
     for (size_t i = 0; i < map->bios; i++)
         for (uint32_t pin = map->bio[i].last - map->bio[i].first + 1; pin <= PINS; pin++) {
-            uint32_t node = map->bio[i].node;
-
             expect_route(talk, map->bio[i].first + pin, printed_route(map, map->bio[i].first + pin));
-            expect_trace(talk, cascade_of(map, node), pin, printed_slot(map, node, pin));
+            expect_source(talk, map, map->bio[i].node, pin);
         }
 }
 
@@ -289,11 +340,8 @@ static void expect_bios(const struct talk *talk, const struct printed *map)
 {
     for (size_t i = 0; i < map->bios; i++)
         for (uint32_t pin = 0; pin <= map->bio[i].last - map->bio[i].first; pin++) {
-            uint32_t vector = cascade_of(map, map->bio[i].node), number = map->bio[i].first + pin;
-            bool is_lpc = map->lpcs == 1 && map->lpc.node == map->bio[i].node && map->lpc.input == pin;
-
-            expect_route(talk, number, arrives(vector, pin));
-            expect_trace(talk, vector, pin, is_lpc ? lpc_cascade(number) : bio_input(number));
+            expect_route(talk, map->bio[i].first + pin, arrives_by_hub(map, map->bio[i].node, pin));
+            expect_source(talk, map, map->bio[i].node, pin);
         }
 }
 
@@ -302,7 +350,22 @@ static void expect_msis(const struct talk *talk, const struct printed *map)
     for (size_t i = 0; i < map->msis; i++)
         for (size_t j = 0; j < map->eios; j++)
             for (uint32_t slot = map->msi[i].first; slot <= map->msi[i].last; slot++)
-                expect_trace(talk, map->eio[j].cascade, slot, msi_slot(slot, map->eio[j].node));
+                expect_source(talk, map, map->eio[j].node, slot);
+}
+
+/* W-201: behind the LIO's own numbers, what arrives at its vectors comes through the HT, each HT vector at one of them. */
+static void expect_ht(const struct talk *talk, const struct printed *map)
+{
+    const uint32_t ht_last = HT_FIRST + HT_GROUPS * HT_GROUP - 1;
+
+    for (size_t half = 0; half < map->lios && map->hts == 1; half++)
+        for (uint32_t number = LIO_INPUTS; number <= ht_last + 1; number++) {
+            bool from_ht = number >= HT_FIRST && number <= ht_last;
+            uint32_t vector = map->lio[half].cascade;
+            bool there = from_ht && arrival_by_hub(map, HT_NODE, number - HT_FIRST).vector == vector;
+
+            expect_trace(talk, vector, number, there ? printed_source(map, HT_NODE, number - HT_FIRST) : nothing());
+        }
 }
 
 /* Every line of the printed map, as the answers that it stands for. The EIO's map of nodes shows in no answer. */
@@ -313,8 +376,9 @@ static void expect_map(const struct talk *talk, const struct printed *map)
     expect_bios(talk, map);
     expect_missing_pins(talk, map);
     expect_msis(talk, map);
+    expect_ht(talk, map);
     for (uint32_t line = 0; line < LIO_FIRST; line++)
-        expect_route(talk, line, map->lpcs == 1 ? arrives(cascade_of(map, map->lpc.node), map->lpc.input) : no_owner());
+        expect_route(talk, line, map->lpcs == 1 ? arrives_by_hub(map, map->lpc.node, map->lpc.input) : no_owner());
     expect_route(talk, map->sci.number, arrives(map->sci.vector, map->sci.arrival));
 }
 
@@ -536,7 +600,7 @@ static const struct refused_example refused_examples[] = {
     {"unused LIO half with byte 3, two EIO of cascade 3", A_LIO,
      {{LIO, {2, 3, 0xFF, 0}}, {EIO, {3, 0, 1}}, {EIO, {3, 5, 1}}}, "refused 53 at 243 with 230"},
     /* All others have no second place, though a structure that is one too many, or repeats, has a partner too. */
-    {"an HT beside the EIO", A_FADT, {{HT, {0}}}, "refused 34 at 294"},
+    {"an HT behind the EIO", A_FADT, {{HT, {0}}}, "refused 34 at 294"},
     {"a second LPC", A_FADT, {{LPC, {20}}}, "refused 38 at 294"},
     {"a second EIO of the node", A_FADT, {{EIO, {4, 0, 1}}}, "refused 41 at 294"},
     {"a fourth CORE with the first one's UID", A_FADT, {{CORE, {0, 3, 1}}}, "refused 39 at 294"},
@@ -910,15 +974,25 @@ static struct revised cut_example(const char *boards, size_t number, uint8_t rev
     return (struct revised){example->what, example->printed, revision, &capture};
 }
 
-/* ---- Board A as version 2, and with other bridges ---- */
+/* ---- Board A as version 2, with other bridges, and with an HT ---- */
 
-/* As refused_example(): those of pins.c, and behind them those of bridges.c. */
+/* Those of pins.c, behind them those of bridges.c, and behind these those of ht.c. */
+static struct made_example make_variant_example(const char *boards, size_t number, uint8_t revision, struct capture *capture)
+{
+    size_t pins = count_pin_examples(), bridges = count_bridge_examples();
+
+    if (number < pins)
+        return make_pin_example(boards, number, revision, capture);
+    if (number < pins + bridges)
+        return make_bridge_example(boards, number - pins, revision, capture);
+    return make_ht_example(boards, number - pins - bridges, revision, capture);
+}
+
+/* As refused_example(). */
 static struct revised variant_example(const char *boards, size_t number, uint8_t revision)
 {
     static struct capture capture;
-    size_t pins = count_pin_examples();
-    struct made_example example = number < pins ? make_pin_example(boards, number, revision, &capture)
-                                                : make_bridge_example(boards, number - pins, revision, &capture);
+    struct made_example example = make_variant_example(boards, number, revision, &capture);
 
     return (struct revised){example.what, example.printed, revision, &capture};
 }
@@ -929,7 +1003,7 @@ enum { OWN_EXAMPLES = REFUSED_EXAMPLES + CORE_EXAMPLES + FULL_EXAMPLES + CUT_EXA
 
 static size_t count_revised_examples(void)
 {
-    return OWN_EXAMPLES + count_pin_examples() + count_bridge_examples();
+    return OWN_EXAMPLES + count_pin_examples() + count_bridge_examples() + count_ht_examples();
 }
 
 static struct revised revised_example(const char *boards, size_t number, uint8_t revision)
@@ -1077,6 +1151,7 @@ void ask_vectors_examples(const char *boards)
     ask_vectors_revised_examples(boards);
     ask_vectors_pin_answers(boards);
     ask_vectors_bridge_answers(boards);
+    ask_vectors_ht_answers(boards);
     ask_vectors_reading_examples(boards);
     ask_vectors_real_captures(boards);
 }
@@ -1090,6 +1165,7 @@ struct tally ask_examples(const struct reader *reader, const char *boards)
     ask_revised_examples(&tally, reader, boards);
     ask_pin_answers(&tally, reader, boards);
     ask_bridge_answers(&tally, reader, boards);
+    ask_ht_answers(&tally, reader, boards);
     ask_reading_examples(&tally, reader, boards);
     ask_real_captures(&tally, reader, boards);
     return tally;

@@ -1,6 +1,6 @@
 /*
- * The cases that document 01 writes down, cases of requests W-202, W-203, W-205, W-206, W-207, W-208 and W-212 of document 02,
- * and the captures of boards/ with their printed maps: asked of one reader.
+ * The cases that document 01 writes down, cases of requests W-201, W-202, W-203, W-205, W-206, W-207, W-208 and W-212 of
+ * document 02, and the captures of boards/ with their printed maps: asked of one reader.
  */
 #ifndef EXAMPLES_H
 #define EXAMPLES_H
@@ -18,8 +18,9 @@ enum { WRONG_TOLD = 20 }; /* more are only counted */
 struct tally ask_examples(const struct reader *reader, const char *boards);
 
 /*
- * Saves the refused cases among them, and all of version 2 and of W-208, for ./map to print, in a folder (files.h). Only there
- * do Yasmirand's second places show, the version, and the last numbers of bridges and the LPC's node as they are printed.
+ * Saves the refused cases among them, and all of version 2, of W-208 and of W-201, for ./map to print, in a folder (files.h).
+ * Only there do Yasmirand's second places show, the version, and the last numbers of bridges, the LPC's node and the HT's bytes
+ * as they are printed.
  */
 void save_examples_for_map(const char *boards, const char *folder);
 

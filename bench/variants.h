@@ -1,6 +1,6 @@
 /*
  * Boards that are made of board A by giving it other structures, another SCI and pairs, and questions about them with the
- * answers that the documents fix. pins.c and bridges.c write such boards down.
+ * answers that the documents fix. pins.c, bridges.c and ht.c write such boards down.
  */
 #ifndef VARIANTS_H
 #define VARIANTS_H
@@ -40,8 +40,10 @@ struct variant_answer {
 
 /* Answers as `vectors` prints them. */
 #define ARRIVES(vector, number) "kind 0 " #vector " " #number
+#define UNWIRED "kind 1 0 0"
 #define NO_OWNER "kind 2 0 0"
 #define NOTHING "kind 0 0 0"
+#define LIO_INPUT(number) "kind 1 0 " #number
 #define BIO_INPUT(number) "kind 2 0 " #number
 #define LPC_INPUT(number) "kind 3 0 " #number
 #define SLOT(slot, node) "kind 4 " #node " " #slot
