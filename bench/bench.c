@@ -103,6 +103,7 @@ static const struct row rows[] = {
     {READ, TABLE_NAMED_OFTEN, NO_MORE},
     {READ, TOUCHING_SEGMENTS, NO_MORE},
     {READ, SHORT_BRIDGE, NO_MORE},
+    {READ, ON_HT, NO_MORE},
     {ROUTE, BOARD_A, NO_MORE},
     {TRACE, BOARD_A, NO_MORE},
 };

@@ -96,6 +96,21 @@ static void make_short_bridge(struct random *random, struct capture *capture)
     lay_out(&board, capture);
 }
 
+/* ---- HT ---- */
+
+/* Request W-201's board: both halves of the LIO are used, and the HT names inputs of both. */
+static void make_on_ht(struct random *random, struct capture *capture)
+{
+    static const uint8_t cascades[2] = {2, 3}, inputs[HT_GROUPS] = {16, 1, 2, 3, 4, 5, 6, 7};
+    static const uint32_t masks[2] = {0xFFFF, 0xFF0000};
+    const uint32_t processors = 2; /* behind them stand the LIO and the EIO */
+
+    start_like_board_a(random, processors, false);
+    board.structure[processors] = make_lio(random, cascades, masks);
+    board.structure[processors + 1] = make_ht(random, inputs);
+    lay_out(&board, capture);
+}
+
 /* ---- CORE ---- */
 
 static void make_rising(struct random *random, struct capture *capture)
@@ -204,6 +219,7 @@ void make_hard_captures(const char *boards, struct hard_capture captures[HARD_CA
         [TABLE_NAMED_OFTEN] = {"32 XSDT entries, 30 of them naming one large table", make_table_named_often},
         [TOUCHING_SEGMENTS] = {"a board like A, each table across 4 of 16 segments", make_touching_segments},
         [SHORT_BRIDGE] = {"a board like A, version 2, its bridge with 32 pins", make_short_bridge},
+        [ON_HT] = {"a board like A with an HT", make_on_ht},
     };
     struct random random = random_for_case(1, 0);
 

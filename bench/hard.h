@@ -21,6 +21,7 @@ enum hard {
     TABLE_NAMED_OFTEN,
     TOUCHING_SEGMENTS,
     SHORT_BRIDGE, /* version 2 with four pairs, the last of them the bridge's */
+    ON_HT,        /* an HT in place of the EIO */
     HARD_CAPTURES
 };
 

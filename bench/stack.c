@@ -95,14 +95,15 @@ static void measure_way_and_back(const char *what, const struct capture *capture
 
 /*
  * The questions are those of document 01's examples about board A, where they have every sort of answer, one about the number
- * that a bridge of 32 pins does not own any more (W-212), and the SCI.
+ * that a bridge of 32 pins does not own any more (W-212), those about an input that an HT names, and about what arrives through
+ * an HT (W-201), and the SCI.
  */
 static void measure_capture(const char *what, const struct capture *capture)
 {
-    static const uint32_t numbers[] = {3, 26, 45, 50, 72, 96};
+    static const uint32_t numbers[] = {3, 17, 26, 45, 50, 72, 96};
     static const struct {
         uint32_t vector, number;
-    } arrivals[] = {{3, 64}, {2, 24}};
+    } arrivals[] = {{3, 64}, {2, 24}, {3, 264}, {2, 264}, {2, 320}};
     bool accepted = measure_read(what, capture);
 
     for (size_t i = 0; i < sizeof numbers / sizeof numbers[0]; i++)
