@@ -540,11 +540,12 @@ uint32_t named_inputs(const struct board *board)
 
 uint8_t some_input(struct random *random, uint32_t mask)
 {
-    uint8_t input = (uint8_t)below(random, LIO_INPUTS);
+    uint8_t first = (uint8_t)below(random, LIO_INPUTS);
 
-    while ((mask >> input & 1) == 0)
-        input = (uint8_t)(input + 1) % LIO_INPUTS;
-    return input;
+    for (uint8_t i = 0; i < LIO_INPUTS; i++)
+        if (mask >> (first + i) % LIO_INPUTS & 1)
+            return (uint8_t)(first + i) % LIO_INPUTS;
+    return first;
 }
 
 /* The inputs that an HT may name: all that are wired, but one for the SCI if that can arrive nowhere else. */

@@ -62,11 +62,11 @@ uint16_t free_base(struct random *random, const struct board *board, uint8_t pin
 
 bool is_ht_board(const struct board *board);
 
-/* LIO inputs as a mask: those that are wired, and those that an HT names. Without a LIO, or without an HT, there are none. */
+/* LIO inputs as a mask: those that are wired, to the first LIO if there are two, and those that an HT names. */
 uint32_t wired_inputs(const struct board *board);
 uint32_t named_inputs(const struct board *board);
 
-/* Some LIO input of a mask, which is not 0. */
+/* Some LIO input of a mask; any, if the mask is 0. */
 uint8_t some_input(struct random *random, uint32_t mask);
 
 /*

@@ -137,6 +137,13 @@ static void insert_fresh(struct random *random, struct board *board, enum kind k
     insert(random, board, fresh(random, board, kind));
 }
 
+/* Makes sure of so many structures of a kind. */
+static void have(struct random *random, struct board *board, enum kind kind, size_t count)
+{
+    while (count_kind(board, kind) < count)
+        insert_fresh(random, board, kind);
+}
+
 /* The bytes of some structure of a kind; one is made if there is none. */
 static uint8_t *some(struct random *random, struct board *board, enum kind kind)
 {
@@ -352,10 +359,17 @@ static void keep_one_bridge(struct random *random, struct board *board)
         give_pair(random, board, HT_NODE, pins);
 }
 
+/* The first LIO, if another way has made two; made if there is none. */
+static uint8_t *first_lio(struct random *random, struct board *board)
+{
+    have(random, board, LIO, 1);
+    return nth_of_kind(board, LIO, 0);
+}
+
 /* Wires inputs of the LIO that are not, so many times. */
 static void wire_inputs(struct random *random, struct board *board, size_t count)
 {
-    uint8_t *lio = some(random, board, LIO);
+    uint8_t *lio = first_lio(random, board);
 
     for (; count > 0 && wired_inputs(board) != UINT32_MAX; count--) {
         size_t half = below(random, 2);
@@ -386,7 +400,7 @@ static uint8_t *become_ht_board(struct random *random, struct board *board)
 /* An input that is not wired. If all are, the LIO loses one that no HT names. */
 static uint8_t unwired_input(struct random *random, struct board *board)
 {
-    uint8_t *lio = some(random, board, LIO);
+    uint8_t *lio = first_lio(random, board);
 
     if (wired_inputs(board) == UINT32_MAX) {
         uint32_t lost = UINT32_C(1) << some_input(random, ~named_inputs(board));
@@ -675,12 +689,6 @@ static void lio_cascade_and_shared_bit(struct random *random, struct board *boar
 {
     masks_share_a_bit(random, board);
     lio_cascade(random, board);
-}
-
-static void have(struct random *random, struct board *board, enum kind kind, size_t count)
-{
-    while (count_kind(board, kind) < count)
-        insert_fresh(random, board, kind);
 }
 
 /* One too many, which is also broken in itself: 35, 71 to 78 and 37 come before 38. */
@@ -1234,7 +1242,7 @@ static void named_input_unwired(struct random *random, struct board *board)
 {
     (void)become_ht_board(random, board);
 
-    uint8_t *lio = some(random, board, LIO);
+    uint8_t *lio = first_lio(random, board);
     uint32_t lost = one_in(random, 4) ? UINT32_MAX : UINT32_C(1) << some_input(random, named_inputs(board));
 
     for (int half = 0; half < 2; half++)
