@@ -560,13 +560,13 @@ struct structure wired_ht(struct random *random, const struct board *board)
 {
     uint32_t inputs = inputs_to_name(random, board);
     uint8_t named[HT_GROUPS], first = some_input(random, inputs), second = some_input(random, inputs);
-    uint64_t sort = below(random, 4);
+    uint64_t sort = below(random, 6);
 
     for (size_t i = 0; i < HT_GROUPS; i++) {
         named[i] = some_input(random, inputs);
         if (sort == 0)
             named[i] = first;
-        if (sort == 1)
+        if (sort == 1 || sort == 2)
             named[i] = one_in(random, 2) ? first : second;
     }
     return make_ht(random, named);
@@ -581,10 +581,14 @@ static size_t count_bits(uint32_t mask)
     return count;
 }
 
-/* Masks that have so many bits at least, for the HT to name inputs. Often they are few. */
+/* Masks that have so many bits at least, for the HT to name inputs. On many boards both halves are used, on some there are few. */
 static void random_masks_for_ht(struct random *random, uint32_t masks[2], size_t least)
 {
     random_masks(random, masks);
+    if (one_in(random, 2)) {
+        masks[0] = (uint32_t)any(random);
+        masks[1] = (uint32_t)any(random) & ~masks[0];
+    }
     if (one_in(random, 4))
         for (int half = 0; half < 2; half++)
             masks[half] &= (uint32_t)(any(random) & any(random) & any(random));
