@@ -473,14 +473,15 @@ static struct arrival arrival_at_bridge(const struct board *board, const uint8_t
 static uint32_t vector_of_ht(struct random *random, const struct board *board)
 {
     const uint8_t *msi = first_of_kind(board, MSI);
+    uint32_t next_group = HT_GROUP * (uint32_t)between(random, 1, HT_GROUPS); /* up to one vector more than there are */
 
     switch (below(random, 3)) {
     case 0:
         return (uint32_t)below(random, SLOTS);
     case 1:
         return msi == NULL ? 0 : near_edge(random, get_u32(msi + MSI_START), get_u32(msi + MSI_COUNT));
-    default: /* up to one more than there are */
-        return HT_GROUP * (uint32_t)between(random, 1, HT_GROUPS) - (uint32_t)below(random, 2);
+    default:
+        return next_group - (uint32_t)below(random, 2);
     }
 }
 

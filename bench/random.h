@@ -1,6 +1,7 @@
 /*
  * Numbers that look random and are the same on every machine and in every run: splitmix64 over a seed. C leaves it to the
- * compiler which argument of a call comes first, so at most one of them may draw a number.
+ * compiler which argument of a call comes first, and which side of an assignment or of a sum, so at most one of them may draw
+ * a number.
  */
 #ifndef RANDOM_H
 #define RANDOM_H

@@ -240,7 +240,10 @@ static uint8_t number_over_64(struct random *random)
 static void too_many_inputs(struct random *random, struct board *board)
 {
     make_version_2(random, board);
-    board->pair[below(random, PAIRS)].number = number_over_64(random);
+
+    uint8_t number = number_over_64(random);
+
+    board->pair[below(random, PAIRS)].number = number;
 }
 
 /* Two pairs, neither of them empty, give one ID. Their numbers may be equal: it is given twice all the same. */
@@ -266,7 +269,10 @@ static void crowded_pairs(struct random *random, struct board *board)
         board->pair[i].hardware_id = (uint8_t)(id + below(random, 2));
         board->pair[i].number = numbers[below(random, sizeof numbers)];
     }
-    board->pair[between(random, 1, PAIRS - 1)].number = number_over_64(random);
+
+    uint8_t number = number_over_64(random);
+
+    board->pair[between(random, 1, PAIRS - 1)].number = number;
 }
 
 /* ---- 10 to 14: the RSDP ---- */
