@@ -42,7 +42,7 @@ accepted-keeps-rules strictness capture h =
     let found = walkOf capture t .found in
     let b = books capture s in
     rw (s .map)
-    (places-do-not-matter (found .map) (found .places) (t .madt .place) (t .fadt .place) (b .placed) .0 (b .ranges) (b .r37)
+    (places-do-not-matter (found .map) (found .places) (t .madt .place) (t .fadt .place) (b .placed) .0 (b .ranges) (b .r37) (b .r34)
     (rules-kept capture t (s .rules) (b .r38)))
 
 -- a question to it has its answer without 61

@@ -1,5 +1,5 @@
 -- How long a text can be: a line by its word and its numbers, of 20 digits at most, and a list of lines by its length.
-use mathlib.Core.Path.{_≡_}
+use mathlib.Core.Path.{_≡_, refl}
 use mathlib.Core.List.{List, [], _∷_}
 use Prim.Native.Nat.{ℕ, _+_, _*_, _≤_}
 use native.Mathlib.Nat.{mul-suc, le-trans, mul-le-mul-left}
@@ -8,7 +8,9 @@ use lib.ListN.{length, length-append, length-take, take}
 use Rattle.words.specs.declared.Refusal.{Refusal}
 use Rattle.kinds.specs.declared.Half.{Half}
 use Rattle.kinds.specs.declared.Lio.{Lio}
+use Rattle.kinds.specs.declared.Ht.{Ht}
 use Rattle.kinds.specs.declared.Eio.{Eio}
+use Rattle.kinds.specs.Used.{saidHt, noHt}
 use Rattle.kinds.specs.declared.Bio.{Bio}
 use Rattle.kinds.specs.declared.Msi.{Msi}
 use Rattle.kinds.specs.declared.Lpc.{Lpc}
@@ -17,7 +19,7 @@ use Rattle.lines.specs.declared.Route.{Route}
 use Rattle.lines.specs.declared.Route.the-variants.{Arrives, Unwired, NoOwner, Refused}
 use Rattle.words.proofs.Choices.{if-cases}
 use Rattle.text.specs.Numerals.{letters}
-use Rattle.text.specs.Lines.{each, field, phrase, line, versionLine, coreLine, coreLines, halfLine, lioLines, eioLine, bioLine, msiLine, lpcLine, sciLine, placesLine, refusalLine}
+use Rattle.text.specs.Lines.{each, field, phrase, line, versionLine, coreLine, coreLines, halfLine, lioLines, htLine, eioLine, bioLine, msiLine, lpcLine, sciLine, placesLine, refusalLine}
 use Rattle.text.specs.Text.{joined, mapParts, mapText}
 use Rattle.text.specs.Rooms.{Fits}
 use Rattle.text.proofs.Numerals.{decimal-length}
@@ -77,6 +79,18 @@ lio-length lio =
     let low = half-length (lio .low) in
     let high = half-length (lio .high) in
     omega (arith, length-append (halfLine (lio .low)) (halfLine (lio .high)))
+
+ht-length : (ht : Ht) → length (ht .bytes) ≡ 8 → length (htLine ht) ≤ 171
+unfolding htLine letters
+ht-length ht eight =
+    if-cases (λ (l : List ℕ). length l ≤ 171) _ _ _
+    (λ t. let most = line-length (letters "ht") (ht .bytes) in omega arith)
+    (λ t. omega arith)
+
+-- what is said of an HT has eight bytes too
+said-eight : (ht : Ht) → length (ht .bytes) ≡ 8 → length (saidHt ht .bytes) ≡ 8
+unfolding saidHt
+said-eight ht eight = if-cases (λ (x : Ht). length (x .bytes) ≡ 8) (ht .present) ht noHt (λ t. eight) (λ t. refl)
 
 eio-length : (eio : Eio) → length (eioLine eio) ≤ 67
 unfolding eioLine letters
@@ -142,18 +156,19 @@ four-length f most h array n held =
     le-trans (each-length f most h (take n array)) (mul-le-mul-left most (omega (arith, length-take n array)))
 
 pub map-fits : (version : ℕ) (list : List ℕ) (map : Map) → length list ≤ 512
-    → length (map .eios) ≡ 4 → length (map .bios) ≡ 4 → length (map .msis) ≡ 4 → Fits 0 (mapText version list map)
+    → length (map .ht .bytes) ≡ 8 → length (map .eios) ≡ 4 → length (map .bios) ≡ 4 → length (map .msis) ≡ 4 → Fits 0 (mapText version list map)
 unfolding mapText mapParts
-map-fits version list map few eios bios msis =
+map-fits version list map few eight eios bios msis =
     let cores : length (coreLines list) ≤ 12032 = omega (arith, cores-length list) in
-    let all : Most (mapText version list map) 12982 =
+    let all : Most (mapText version list map) 13153 =
     and-more _ _ (version-length version)
     (and-more _ _ cores
     (and-more _ _ (lio-length _)
+    (and-more _ _ (ht-length (saidHt (map .ht)) (said-eight (map .ht) eight))
     (and-more _ _ (four-length eioLine 67 eio-length (map .eios) (map .eiocount) eios)
     (and-more _ _ (four-length bioLine 67 bio-length (map .bios) (map .biocount) bios)
     (and-more _ _ (four-length msiLine 46 msi-length (map .msis) (map .msicount) msis)
     (and-more _ _ (lpc-length _)
-    (and-more _ _ (sci-length _ _) none-more))))))) in
-    let most : length (mapText version list map) ≤ 12982 = all .small in
+    (and-more _ _ (sci-length _ _) none-more)))))))) in
+    let most : length (mapText version list map) ≤ 13153 = all .small in
     omega arith

@@ -1,5 +1,5 @@
--- Document 01, "Board A and its neighbours": the lines of the printed map, kind by kind, and the line of a refusal, to which W-202
--- of document 02 adds the second place.
+-- Document 01, "Board A and its neighbours": the lines of the printed map, kind by kind, with the `ht` line of W-201 of document 02, and the
+-- line of a refusal, to which W-202 adds the second place.
 use Prim.Native.Nat.{ℕ, _+_, _-_}
 use Prim.Native.Char.{code}
 use mathlib.Core.List.{List, [], _∷_, _++_}
@@ -8,6 +8,7 @@ use Rattle.words.specs.Choice.{if}
 use Rattle.words.specs.declared.Refusal.{Refusal}
 use Rattle.kinds.specs.declared.Half.{Half}
 use Rattle.kinds.specs.declared.Lio.{Lio}
+use Rattle.kinds.specs.declared.Ht.{Ht}
 use Rattle.kinds.specs.declared.Eio.{Eio}
 use Rattle.kinds.specs.declared.Bio.{Bio}
 use Rattle.kinds.specs.declared.Msi.{Msi}
@@ -56,6 +57,10 @@ halfLine half = if (eqb (half .mask) 0) [] (line (letters "lio") (half .cascade 
 -- "low first"
 unfoldable pub lioLines : Lio → List ℕ
 lioLines lio = halfLine (lio .low) ++ halfLine (lio .high)
+
+-- "The map prints `ht` and the eight bytes where `eio` stood": an HT that is there
+unfoldable pub htLine : Ht → List ℕ
+htLine ht = if (ht .present) (line (letters "ht") (ht .bytes)) []
 
 -- "node, cascade, map"
 unfoldable pub eioLine : Eio → List ℕ

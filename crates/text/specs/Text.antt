@@ -12,7 +12,7 @@ use Rattle.lines.specs.declared.Map.{Map}
 use Rattle.processors.specs.Listing.{processors, hasRoom}
 use Rattle.reading.specs.Scan.{scan}
 use Rattle.reading.specs.Reading.{madtFound}
-use Rattle.text.specs.Lines.{each, versionLine, coreLines, lioLines, eioLine, bioLine, msiLine, lpcLine, sciLine, refusalLine}
+use Rattle.text.specs.Lines.{each, versionLine, coreLines, lioLines, htLine, eioLine, bioLine, msiLine, lpcLine, sciLine, refusalLine}
 use Rattle.text.specs.declared.Written.{Written}
 use Rattle.text.specs.declared.Written.the-variants.{Whole, NoRoom}
 
@@ -26,6 +26,7 @@ mapParts version list map =
     versionLine version
     ∷ coreLines list
     ∷ lioLines (says map .lio)
+    ∷ htLine (says map .ht)
     ∷ each eioLine (says map .eios)
     ∷ each bioLine (says map .bios)
     ∷ each msiLine (says map .msis)

@@ -41,10 +41,12 @@ fn put_map(room: &mut [u8], version: u16, list: &[u32], map: Map) -> usize
     let bios = map.bios;
     let msis = map.msis;
     let lio = kinds::said_lio(map.lio);
+    let ht = kinds::said_ht(map.ht);
     let lpc = kinds::said_lpc(map.lpc);
     let mut n = tell::put_version(room, 0, version);
     n = tell::put_cores(room, n, list);
     n = tell::put_lio(room, n, lio);
+    n = tell::put_ht(room, n, ht);
     n = tell::put_eios(room, n, eios, used(map.eiocount));
     n = tell::put_bios(room, n, bios, used(map.biocount));
     n = tell::put_msis(room, n, msis, used(map.msicount));

@@ -4,6 +4,7 @@ use crate::put::put_phrase;
 use kinds::Bio;
 use kinds::Eio;
 use kinds::Half;
+use kinds::Ht;
 use kinds::Lio;
 use kinds::Lpc;
 use kinds::Msi;
@@ -13,7 +14,7 @@ ghost use mathlib.Core.Path.{_≡_};
 ghost use Prim.Native.Nat.{_+_, _≤_};
 ghost use lib.ListN.{length, take};
 ghost use lib.Seq.{sets};
-ghost use Rattle.text.specs.Lines.{each, versionLine, coreLine, coreLines, halfLine, lioLines, eioLine, lastOf, bioLine, msiLine, lpcLine, sciLine, placesLine, refusalLine};
+ghost use Rattle.text.specs.Lines.{each, versionLine, coreLine, coreLines, halfLine, lioLines, htLine, eioLine, lastOf, bioLine, msiLine, lpcLine, sciLine, placesLine, refusalLine};
 ghost use Rattle.text.specs.Rooms.{Fits};
 
 // The capture's version.
@@ -74,6 +75,29 @@ pub(crate) fn put_lio(room: &mut [u8], n: usize, lio: Lio) -> usize
     let high = lio.high;
     let end = put_half(room, n, low);
     put_half(room, end, high)
+}
+
+// The HT, if there is one: its eight bytes.
+pub(crate) fn put_ht(room: &mut [u8], n: usize, ht: Ht) -> usize
+    requires { ⌜ Fits n (htLine ht) ⌝ }
+    ensures { λ r. ⌜ r ≡ n + length (htLine ht) ⌝ }
+    ensures { λ r. ⌜ now (room .exit) ≡ sets (now (room .entry)) n (htLine ht) ⌝ }
+{
+    if !ht.present {
+        return n;
+    }
+    let b = ht.bytes;
+    let numbers = [
+        b[0] as u64,
+        b[1] as u64,
+        b[2] as u64,
+        b[3] as u64,
+        b[4] as u64,
+        b[5] as u64,
+        b[6] as u64,
+        b[7] as u64,
+    ];
+    put_line(room, n, b"ht", &numbers)
 }
 
 // An EIO.

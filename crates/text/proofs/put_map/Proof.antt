@@ -7,7 +7,7 @@ use lib.ListN.{length, take, drop}
 use Rattle.clashes.proofs.Arrays.{length-mapped}
 use Rattle.lines.proofs.Counts.{take-used}
 use Rattle.lines.specs.Says.{says}
-use Rattle.text.specs.Lines.{each, lioLines, eioLine, bioLine, msiLine, lpcLine, sciLine}
+use Rattle.text.specs.Lines.{each, lioLines, htLine, eioLine, bioLine, msiLine, lpcLine, sciLine}
 use Rattle.text.specs.Text.{joined, mapParts, mapText}
 use Rattle.text.proofs.Bounds.{map-fits}
 use Rattle.text.proofs.Printing.{Printing, named, begin, ahead, next, over, short, joined-split, nothing-left}
@@ -17,7 +17,7 @@ use Rattle.text.proofs.put_map.Tie as tie
 
 -- ---- the way back, from the place ahead of each kind to that ahead of the version, and to the start
 abbrev start : tie.After-put-version-arg → tie.Start
-start v = v .before .before .before .before .before .before .before .before
+start v = v .before .before .before .before .before .before .before .before .before
 
 abbrev from-cores : tie.After-put-cores-arg → tie.After-put-version-arg
 from-cores c = c .before .before .before .before
@@ -25,8 +25,11 @@ from-cores c = c .before .before .before .before
 abbrev from-lio : tie.After-put-lio-arg → tie.After-put-version-arg
 from-lio c = from-cores (c .before .before .before .before)
 
+abbrev from-ht : tie.After-put-ht-arg → tie.After-put-version-arg
+from-ht c = from-lio (c .before .before .before .before)
+
 abbrev from-eios : tie.After-put-eios-arg → tie.After-put-version-arg
-from-eios c = from-lio (c .before .before .before .before)
+from-eios c = from-ht (c .before .before .before .before)
 
 abbrev from-bios : tie.After-put-bios-arg → tie.After-put-version-arg
 from-bios c = from-eios (c .before .before .before .before .before)
@@ -40,7 +43,7 @@ from-lpc c = from-msis (c .before .before .before .before .before)
 abbrev from-sci : tie.After-struct-known → tie.After-put-version-arg
 from-sci c = from-lpc (c .before .before .before .before .before)
 
-abbrev from-end : tie.After-slice-known9 → tie.After-put-version-arg
+abbrev from-end : tie.After-slice-known10 → tie.After-put-version-arg
 from-end c = from-sci (c .before .before .before .before)
 
 -- ---- the first k kinds are written
@@ -49,6 +52,9 @@ Told v k room n =
     let a = start v .args in
     Printing (mapText (a .version) (a .list .now) (a .map)) (a .room .now) 0
     (joined (drop k (mapParts (a .version) (a .list .now) (a .map)))) room n
+
+eight-bytes : (s : tie.Start) → length (s .args .map .ht .bytes) ≡ 8
+eight-bytes s = search needs
 
 four-eios : (s : tie.Start) → length (s .args .map .eios) ≡ 4
 four-eios s = search (needs, length-mapped)
@@ -61,11 +67,14 @@ four-msis s = search (needs, length-mapped)
 
 nothing-told : (v : tie.After-put-version-arg) → Told v 0 (start v .args .room .now) 0
 unfolding mapText
-nothing-told v = let s = start v in begin _ _ _ (map-fits _ _ _ (s .pre) (four-eios s) (four-bios s) (four-msis s))
+nothing-told v = let s = start v in begin _ _ _ (map-fits _ _ _ (s .pre) (eight-bytes s) (four-eios s) (four-bios s) (four-msis s))
 
 -- what is written is what the map says
-lio-said : (v : tie.After-put-version-arg) → lioLines (v .before .before .said-lio .result) ≡ lioLines (says (start v .args .map) .lio)
-lio-said v = ap lioLines (v .before .before .said-lio .ensures)
+lio-said : (v : tie.After-put-version-arg) → lioLines (v .before .before .before .said-lio .result) ≡ lioLines (says (start v .args .map) .lio)
+lio-said v = ap lioLines (v .before .before .before .said-lio .ensures)
+
+ht-said : (v : tie.After-put-version-arg) → htLine (v .before .before .said-ht .result) ≡ htLine (says (start v .args .map) .ht)
+ht-said v = ap htLine (v .before .before .said-ht .ensures)
 
 eios-said : (v : tie.After-put-version-arg) {n : ℕ} → n ≡ min (start v .args .map .eiocount) 4
     → each eioLine (take n (start v .args .map .eios)) ≡ each eioLine (says (start v .args .map) .eios)
@@ -90,33 +99,40 @@ cores-told : (c : tie.After-put-lio-arg) → Told (from-lio c) 2 (c .before .bef
 unfolding mapParts
 cores-told c = next (version-told (c .before .before .before .before)) (joined-split _ _) (c .before .before .before .put-cores .ensures)
 
-lio-told : (c : tie.After-put-eios-arg) → Told (from-eios c) 3 (c .before .before .before .put-lio .last .0) (c .before .before .before .put-lio .result)
+lio-told : (c : tie.After-put-ht-arg) → Told (from-ht c) 3 (c .before .before .before .put-lio .last .0) (c .before .before .before .put-lio .result)
 unfolding mapParts
-lio-told c = next (cores-told (c .before .before .before .before)) (named (joined-split _ _) (lio-said (from-eios c))) (c .before .before .before .put-lio .ensures)
+lio-told c = next (cores-told (c .before .before .before .before)) (named (joined-split _ _) (lio-said (from-ht c))) (c .before .before .before .put-lio .ensures)
 
-eios-told : (c : tie.After-put-bios-arg) → Told (from-bios c) 4 (c .before .before .before .put-eios .last .0) (c .before .before .before .put-eios .result)
+ht-told : (c : tie.After-put-eios-arg) → Told (from-eios c) 4 (c .before .before .before .put-ht .last .0) (c .before .before .before .put-ht .result)
 unfolding mapParts
-eios-told c = next (lio-told (c .before .before .before .before .before)) (named (joined-split _ _) (eios-said (from-bios c) (c .before .before .before .before .used .ensures .1))) (c .before .before .before .put-eios .ensures)
+ht-told c = next (lio-told (c .before .before .before .before)) (named (joined-split _ _) (ht-said (from-eios c))) (c .before .before .before .put-ht .ensures)
 
-bios-told : (c : tie.After-put-msis-arg) → Told (from-msis c) 5 (c .before .before .before .put-bios .last .0) (c .before .before .before .put-bios .result)
+eios-told : (c : tie.After-put-bios-arg) → Told (from-bios c) 5 (c .before .before .before .put-eios .last .0) (c .before .before .before .put-eios .result)
+unfolding mapParts
+eios-told c = next (ht-told (c .before .before .before .before .before)) (named (joined-split _ _) (eios-said (from-bios c) (c .before .before .before .before .used .ensures .1))) (c .before .before .before .put-eios .ensures)
+
+bios-told : (c : tie.After-put-msis-arg) → Told (from-msis c) 6 (c .before .before .before .put-bios .last .0) (c .before .before .before .put-bios .result)
 unfolding mapParts
 bios-told c = next (eios-told (c .before .before .before .before .before)) (named (joined-split _ _) (bios-said (from-msis c) (c .before .before .before .before .used2 .ensures .1))) (c .before .before .before .put-bios .ensures)
 
-msis-told : (c : tie.After-put-lpc-arg) → Told (from-lpc c) 6 (c .before .before .before .put-msis .last .0) (c .before .before .before .put-msis .result)
+msis-told : (c : tie.After-put-lpc-arg) → Told (from-lpc c) 7 (c .before .before .before .put-msis .last .0) (c .before .before .before .put-msis .result)
 unfolding mapParts
 msis-told c = next (bios-told (c .before .before .before .before .before)) (named (joined-split _ _) (msis-said (from-lpc c) (c .before .before .before .before .used3 .ensures .1))) (c .before .before .before .put-msis .ensures)
 
-lpc-told : (c : tie.After-struct-known) → Told (from-sci c) 7 (c .before .before .before .before .put-lpc .last .0) (c .before .before .before .before .put-lpc .result)
+lpc-told : (c : tie.After-struct-known) → Told (from-sci c) 8 (c .before .before .before .before .put-lpc .last .0) (c .before .before .before .before .put-lpc .result)
 unfolding mapParts
 lpc-told c = next (msis-told (c .before .before .before .before .before)) (named (joined-split _ _) (lpc-said (from-sci c))) (c .before .before .before .before .put-lpc .ensures)
 
-all-told : (c : tie.After-slice-known9) → Told (from-end c) 8 (c .before .before .put-sci .last .0) (c .before .before .put-sci .result)
+all-told : (c : tie.After-slice-known10) → Told (from-end c) 9 (c .before .before .put-sci .last .0) (c .before .before .put-sci .result)
 unfolding mapParts
 all-told c = next (lpc-told (c .before .before .before .before)) (named (joined-split _ _) (ap (sciLine (start (from-end c) .args .map .sci)) (c .before .before .before .route .ensures))) (c .before .before .put-sci .ensures)
 
 -- ---- the needs
 said-lio-requires : tie.Need-said-lio-requires
 said-lio-requires c κs = search needs
+
+said-ht-requires : tie.Need-said-ht-requires
+said-ht-requires c κs = search needs
 
 said-lpc-requires : tie.Need-said-lpc-requires
 said-lpc-requires c κs = search needs
@@ -133,12 +149,16 @@ put-lio-requires : tie.Need-put-lio-requires
 unfolding mapParts
 put-lio-requires c κs = ahead (cores-told c) (named (joined-split _ _) (lio-said (from-lio c)))
 
+put-ht-requires : tie.Need-put-ht-requires
+unfolding mapParts
+put-ht-requires c κs = ahead (lio-told c) (named (joined-split _ _) (ht-said (from-ht c)))
+
 used-requires : tie.Need-used-requires
 used-requires c κs = search needs
 
 put-eios-requires : tie.Need-put-eios-requires
 unfolding mapParts
-put-eios-requires c κs = (search needs, ahead (lio-told (c .before)) (named (joined-split _ _) (eios-said (from-eios (c .before)) (c .used .ensures .1))))
+put-eios-requires c κs = (search needs, ahead (ht-told (c .before)) (named (joined-split _ _) (eios-said (from-eios (c .before)) (c .used .ensures .1))))
 
 used-requires-2 : tie.Need-used-requires-2
 used-requires-2 c κs = search needs
@@ -180,10 +200,12 @@ put-map-spec =
     tie.close
     (tie.spec
     said-lio-requires
+    said-ht-requires
     said-lpc-requires
     put-version-requires
     put-cores-requires
     put-lio-requires
+    put-ht-requires
     used-requires
     put-eios-requires
     used-requires-2
