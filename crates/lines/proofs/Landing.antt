@@ -14,7 +14,7 @@ use Rattle.words.proofs.Choices.{yes-if, no-if}
 use Rattle.kinds.specs.declared.Lio.{Lio}
 use Rattle.kinds.specs.declared.Ht.{Ht}
 use Rattle.kinds.specs.declared.Eio.{Eio}
-use Rattle.parts.specs.Inputs.{coreOf, inputFor}
+use Rattle.parts.specs.Inputs.{coreVector, inputFor}
 use Rattle.lines.specs.Says.{Said}
 use Rattle.lines.specs.Hubs.{Hub, eioHub, htHub, hubsOf, enters}
 use Rattle.lines.specs.Routes.{through}
@@ -63,7 +63,7 @@ traced-eios said vector number none =
 -- what comes by the HT: it lands on the vector that the number is 256 above, if this leads to the core vector
 module _ (said : Said) (vector number : ℕ) (there : said .ht .present ≡ true) where
   traced-ht : hubTraced said vector number
-      ≡ if (leb 256 number && eqb (coreOf (said .lio) (inputFor (said .ht) (number - 256))) vector) (landed said 0 (number - 256)) Nothing
+      ≡ if (leb 256 number && eqb (coreVector (said .lio) (inputFor (said .ht) (number - 256))) vector) (landed said 0 (number - 256)) Nothing
   unfolding hubTraced comesBy first
   traced-ht = rw (ht-alone (said .lio) (said .ht) (said .eios) there)
 
@@ -71,13 +71,13 @@ module _ (said : Said) (vector number : ℕ) (there : said .ht .present ≡ true
   unfolding if
   ht-below l = rw (traced-ht, lt-leb 256 number l)
 
-  pub ht-leads : 256 ≤ number → coreOf (said .lio) (inputFor (said .ht) (number - 256)) ≡ vector → hubTraced said vector number ≡ landed said 0 (number - 256)
+  pub ht-leads : 256 ≤ number → coreVector (said .lio) (inputFor (said .ht) (number - 256)) ≡ vector → hubTraced said vector number ≡ landed said 0 (number - 256)
   unfolding if
-  ht-leads l e = rw (traced-ht, le-leb 256 number l, eq-eqb (coreOf (said .lio) (inputFor (said .ht) (number - 256))) vector e)
+  ht-leads l e = rw (traced-ht, le-leb 256 number l, eq-eqb (coreVector (said .lio) (inputFor (said .ht) (number - 256))) vector e)
 
-  pub ht-not : 256 ≤ number → (coreOf (said .lio) (inputFor (said .ht) (number - 256)) ≡ vector → ⊥) → hubTraced said vector number ≡ Nothing
+  pub ht-not : 256 ≤ number → (coreVector (said .lio) (inputFor (said .ht) (number - 256)) ≡ vector → ⊥) → hubTraced said vector number ≡ Nothing
   unfolding if
-  ht-not l n = rw (traced-ht, le-leb 256 number l, ne-eqb (coreOf (said .lio) (inputFor (said .ht) (number - 256))) vector n)
+  ht-not l n = rw (traced-ht, le-leb 256 number l, ne-eqb (coreVector (said .lio) (inputFor (said .ht) (number - 256))) vector n)
 
 -- how many hubs there are
 pub hubs-counted : (lio : Lio) (ht : Ht) (eios : List Eio) → eqb (length (hubsOf lio ht eios)) 0 ≡ (not (ht .present) && eqb (length eios) 0)

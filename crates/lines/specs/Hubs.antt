@@ -6,7 +6,7 @@ use Rattle.words.specs.Choice.{if}
 use Rattle.kinds.specs.declared.Lio.{Lio}
 use Rattle.kinds.specs.declared.Ht.{Ht}
 use Rattle.kinds.specs.declared.Eio.{Eio}
-use Rattle.parts.specs.Inputs.{coreOf, inputFor}
+use Rattle.parts.specs.Inputs.{coreVector, inputFor}
 use Rattle.lines.specs.Says.{Said}
 use Rattle.lines.specs.declared.Route.{Route}
 use Rattle.lines.specs.declared.Route.the-variants.{Arrives}
@@ -24,7 +24,7 @@ eioHub eio = record { node = eio .node; core = λ v. eio .cascade; above = 0 }
 -- the HT: "arrive at the core vector of the named LIO input, with number 256 + vector"; "A slot on the HT has node 0", and a BIO lands on
 -- it if its hardware ID is 0
 abbrev pub htHub : Lio → Ht → Hub
-htHub lio ht = record { node = 0; core = λ v. coreOf lio (inputFor ht v); above = 256 }
+htHub lio ht = record { node = 0; core = λ v. coreVector lio (inputFor ht v); above = 256 }
 
 -- "A board has either HT or EIO": the hubs of some structures
 unfoldable pub hubsOf : Lio → Ht → List Eio → List Hub

@@ -6,7 +6,7 @@ use Rattle.words.specs.Choice.{if}
 use Rattle.words.specs.Lists.{first}
 use Rattle.kinds.specs.declared.Lio.{Lio}
 use Rattle.kinds.specs.declared.Bio.{Bio}
-use Rattle.parts.specs.Inputs.{wired, coreOf, isNamed, owns}
+use Rattle.parts.specs.Inputs.{wired, coreVector, isNamed, owns}
 use Rattle.lines.specs.Says.{Said}
 use Rattle.lines.specs.Hubs.{Hub, hubs, enters}
 use Rattle.lines.specs.declared.Owner.{Owner}
@@ -16,7 +16,7 @@ use Rattle.lines.specs.declared.Route.the-variants.{Arrives, Unwired, No
 
 -- "LIO input i arrives at the cascade of the half whose mask has bit i, with number i; with no such bit it is unwired."
 unfoldable pub lioArrival : Lio → ℕ → Route
-lioArrival lio i = if (wired lio i) (Arrives (coreOf lio i) i) Unwired
+lioArrival lio i = if (wired lio i) (Arrives (coreVector lio i) i) Unwired
 
 -- "BIO input v arrives through the EIO whose node is the BIO's hardware ID", or through the HT: through the hub of that node
 unfoldable pub through : List Hub → ℕ → ℕ → Route

@@ -44,7 +44,7 @@ fn ht_arrival(lio: Lio, ht: Ht, node: u16, vector: u16) -> Route
     let v = vector as u32;
     if HT_NODE as u16 == node {
         let input = parts::input_for(ht, v) as u32;
-        return Route::Arrives(parts::core_of(lio, input), HT_ABOVE + v);
+        return Route::Arrives(parts::core_vector(lio, input), HT_ABOVE + v);
     }
     Route::NoOwner
 }

@@ -26,7 +26,7 @@ fn lio_arrival(lio: Lio, i: u32) -> Route
     ensures { λ r. ⌜ r ≡ lioArrival lio i ⌝ }
 {
     if parts::is_wired(lio, i) {
-        return Route::Arrives(parts::core_of(lio, i), i);
+        return Route::Arrives(parts::core_vector(lio, i), i);
     }
     Route::Unwired
 }

@@ -113,7 +113,7 @@ impl Map {
         }
         let v = number - HT_ABOVE;
         let input = parts::input_for(kinds::said_ht(self.ht), v) as u32;
-        if parts::core_of(kinds::said_lio(self.lio), input) as u32 == vector {
+        if parts::core_vector(kinds::said_lio(self.lio), input) as u32 == vector {
             return self.landed(HT_NODE, v);
         }
         Trace::Nothing

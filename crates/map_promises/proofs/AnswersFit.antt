@@ -11,7 +11,7 @@ use lib.ListN.{length, getD}
 use Rattle.words.specs.Lists.{first}
 use Rattle.words.proofs.Choices.{if-cases}
 use Rattle.clashes.proofs.Logic.{and-left, and-right}
-use Rattle.parts.specs.Inputs.{leads, coreOf, inputFor, hasPin, hasSlot, owns}
+use Rattle.parts.specs.Inputs.{leads, coreVector, inputFor, hasPin, hasSlot, owns}
 use Rattle.parts.proofs.Inputs.{pin-small, leads-small}
 use Rattle.lines.specs.Says.{Said, says}
 use Rattle.lines.specs.Hubs.{Hub, hubs, enters}
@@ -59,8 +59,8 @@ module _ (map : Map) (kept : keepsRules map ≡ true) where
   high-small = half-small (said .lio .high .mask) _ (high-used said ranged) (lio-said (map .lio) .1)
 
   -- ---- core vectors, and hubs
-  core-small : (i : ℕ) → coreOf (said .lio) i ≤ 9
-  unfolding coreOf
+  core-small : (i : ℕ) → coreVector (said .lio) i ≤ 9
+  unfolding coreVector
   core-small i = if-cases (λ (c : ℕ). c ≤ 9) _ _ _ (λ t. low-small) (λ t. if-cases (λ (c : ℕ). c ≤ 9) _ _ _ (λ u. high-small) (λ u. omega arith))
 
   abbrev HubFits : Hub → Type 0

@@ -9,7 +9,7 @@ use Rattle.clashes.specs.Folds.{fold}
 use Rattle.clashes.specs.Rules.{clash}
 use Rattle.clashes.specs.Search.{sooner, nearer, partner, better, firstClash, lonelier, firstLone}
 use Rattle.clashes.specs.Told.{atLater, atBoth, spotted}
-use Rattle.parts.specs.Inputs.{hasBit, coreOf, isNamed, namesUnwired, hasPin}
+use Rattle.parts.specs.Inputs.{hasBit, coreVector, isNamed, namesUnwired, hasPin}
 use Rattle.lines.specs.Answers.{routeOf, traceOf}
 use Rattle.lines.specs.Claims.{placed, claims}
 use Rattle.lines.specs.Hubs.{hubsOf, nodesOf}
@@ -21,7 +21,7 @@ use Rattle.map_promises.specs.Examples.{Question, Told, told, brokenAlon
 
 -- what is told, with all that it is computed by
 unfoldable computed : Map → Question → Told
-unfolding if first every fold lioField htField eioField msiField bioField lpcField usedHalf saidLio saidHt saidLpc clash sooner nearer partner better firstClash lonelier firstLone hasBit coreOf isNamed namesUnwired hasPin routeOf traceOf placed claims hubsOf nodesOf lioArrival through bioOwner owner arrivalOf arrival atLater atBoth spotted eiosFit biosFit msisFit rangesKept noBridge noInput lost rulesTo45 rulesFrom51 mapRules firstBroken unless firstRefusal isSound keepsRules slotTold isLpcPin pinTold landed comesBy hubTraced ledByLio traced told
+unfolding if first every fold lioField htField eioField msiField bioField lpcField usedHalf saidLio saidHt saidLpc clash sooner nearer partner better firstClash lonelier firstLone hasBit coreVector isNamed namesUnwired hasPin routeOf traceOf placed claims hubsOf nodesOf lioArrival through bioOwner owner arrivalOf arrival atLater atBoth spotted eiosFit biosFit msisFit rangesKept noBridge noInput lost rulesTo45 rulesFrom51 mapRules firstBroken unless firstRefusal isSound keepsRules slotTold isLpcPin pinTold landed comesBy hubTraced ledByLio traced told
 computed map question = told map question
 
 -- THE PROMISES

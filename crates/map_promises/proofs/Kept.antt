@@ -17,7 +17,7 @@ use Rattle.kinds.specs.Ranges.{bitInBoth}
 use Rattle.clashes.specs.Search.{firstClash, firstLone}
 use Rattle.clashes.specs.declared.Pair.the-variants.{None as NoPair}
 use Rattle.clashes.proofs.Logic.{and-left, and-right, is-false}
-use Rattle.parts.specs.Inputs.{wired, coreOf, inputFor, isNamed, namesUnwired}
+use Rattle.parts.specs.Inputs.{wired, coreVector, inputFor, isNamed, namesUnwired}
 use Rattle.lines.specs.Says.{Said, says}
 use Rattle.lines.specs.Hubs.{hubs, nodes}
 use Rattle.lines.specs.Claims.{claims}
@@ -155,7 +155,7 @@ module _ (said : Said) (g : Good said) where
   hub-core i j v w hi hj =
       each-hub said
       (λ i x. (j : ℕ) → j < length (hubs said) → x .core v ≡ hubAt said j .core w → x .above + v ≡ hubAt said j .above + w → (i ≡ j) × (v ≡ w))
-      (λ y. each-hub said (λ j z. coreOf (said .lio) (inputFor (said .ht) v) ≡ z .core w → 256 + v ≡ z .above + w → (0 ≡ j) × (v ≡ w))
+      (λ y. each-hub said (λ j z. coreVector (said .lio) (inputFor (said .ht) v) ≡ z .core w → 256 + v ≡ z .above + w → (0 ≡ j) × (v ≡ w))
       (λ _ c n. (refl, omega arith)) (λ n j l c e. absurd (true≢false (sym y ∙ n))))
       (λ n i k. each-hub said (λ j z. eioAt said i .cascade ≡ z .core w → 0 + v ≡ z .above + w → (i ≡ j) × (v ≡ w))
       (λ y. absurd (true≢false (sym y ∙ n))) (λ _ j l c e. (eio-core i j k l c, omega arith)))

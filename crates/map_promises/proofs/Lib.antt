@@ -15,6 +15,7 @@ pub mod Routing
 pub mod Tracing
 pub mod Clashing
 pub mod ThereAndBack
+pub mod WithoutHt
 pub mod SameAnswers
 pub mod Places
 pub mod RefusedExactly

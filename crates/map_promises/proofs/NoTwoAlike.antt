@@ -9,7 +9,7 @@ use lib.Dec.{eqb}
 use lib.ListN.{length}
 use Rattle.words.specs.Choice.{if}
 use Rattle.kinds.specs.declared.Lio.{Lio}
-use Rattle.parts.specs.Inputs.{hasBit, wired, coreOf}
+use Rattle.parts.specs.Inputs.{hasBit, wired, coreVector}
 use Rattle.words.proofs.Choices.{yes-if}
 use Rattle.lines.specs.Says.{Said, says}
 use Rattle.lines.specs.Hubs.{hubs, enters}
@@ -27,8 +27,8 @@ use Rattle.map_promises.proofs.Members.{finds}
 
 -- the core vector of a wired input is the cascade of the half that has its bit
 pub core-at : (lio : Lio) (i : ℕ) → wired lio i ≡ true
-    → ((coreOf lio i ≡ lio .low .cascade) × (hasBit (lio .low .mask) i ≡ true)) ⊎ ((coreOf lio i ≡ lio .high .cascade) × (hasBit (lio .high .mask) i ≡ true))
-unfolding coreOf if
+    → ((coreVector lio i ≡ lio .low .cascade) × (hasBit (lio .low .mask) i ≡ true)) ⊎ ((coreVector lio i ≡ lio .high .cascade) × (hasBit (lio .high .mask) i ≡ true))
+unfolding coreVector if
 core-at lio i h = go (hasBit (lio .low .mask) i) (hasBit (lio .high .mask) i) h
   where
     go : (a b : Bool) → (a || b) ≡ true
@@ -39,7 +39,7 @@ core-at lio i h = go (hasBit (lio .low .mask) i) (hasBit (lio .high .mask) i) h
     go false false h = absurd (let z : _≡_ {A = ℕ} 0 1 = cc in omega arith)
 
 -- and there it arrives
-pub input-at : (lio : Lio) (i : ℕ) → wired lio i ≡ true → lioArrival lio i ≡ Arrives (coreOf lio i) i
+pub input-at : (lio : Lio) (i : ℕ) → wired lio i ≡ true → lioArrival lio i ≡ Arrives (coreVector lio i) i
 unfolding lioArrival
 input-at lio i h = yes-if _ _ _ h
 
@@ -49,7 +49,7 @@ of-arrives z = (cc, cc)
 
 module _ (said : Said) (g : Good said) where
   -- where a wired input arrives the LIO enters
-  pub input-enters : (i v : ℕ) → wired (said .lio) i ≡ true → coreOf (said .lio) i ≡ v → Enters said structures.lio v
+  pub input-enters : (i v : ℕ) → wired (said .lio) i ≡ true → coreVector (said .lio) i ≡ v → Enters said structures.lio v
   input-enters i v p e =
       ⊎-elim
       (λ r. inl (bit-used (said .lio .low .mask) i (r .1), sym (r .0) ∙ e))

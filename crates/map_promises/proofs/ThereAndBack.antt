@@ -12,7 +12,7 @@ use Rattle.words.specs.Refusals.{rule}
 use Rattle.words.proofs.Choices.{yes-if}
 use Rattle.kinds.specs.Used.{noBio}
 use Rattle.clashes.proofs.Logic.{and-left, and-right}
-use Rattle.parts.specs.Inputs.{wired, coreOf, isNamed, owns}
+use Rattle.parts.specs.Inputs.{wired, coreVector, isNamed, owns}
 use Rattle.lines.specs.Says.{Said, says}
 use Rattle.lines.specs.Hubs.{hubs}
 use Rattle.lines.specs.Routes.{lioArrival, bioOwner, arrivalOf, through}
@@ -40,7 +40,7 @@ wired-of : (said : Said) (i v k : ℕ) → lioArrival (said .lio) i ≡ Arrives 
 unfolding lioArrival if
 wired-of said i v k h = go (wired (said .lio) i) h
   where
-    go : (a : Bool) → if a (Arrives (coreOf (said .lio) i) i) Unwired ≡ Arrives v k → a ≡ true
+    go : (a : Bool) → if a (Arrives (coreVector (said .lio) i) i) Unwired ≡ Arrives v k → a ≡ true
     go true h = refl
     go false h = absurd (let z : _≡_ {A = ℕ} 0 1 = cc in omega arith)
 

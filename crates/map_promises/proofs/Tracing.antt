@@ -14,7 +14,7 @@ use Rattle.words.proofs.Choices.{yes-if, no-if}
 use Rattle.kinds.specs.Used.{noBio, noMsi}
 use Rattle.kinds.specs.declared.Half.{Half}
 use Rattle.clashes.proofs.Logic.{and-left, and-right, or-cases, both-true, left-true, right-true, is-false}
-use Rattle.parts.specs.Inputs.{hasBit, wired, leads, coreOf, isNamed, hasSlot, hasPin, isBridge}
+use Rattle.parts.specs.Inputs.{hasBit, wired, leads, coreVector, isNamed, hasSlot, hasPin, isBridge}
 use Rattle.lines.specs.Says.{Said, says}
 use Rattle.lines.specs.Hubs.{hubs, enters}
 use Rattle.lines.specs.Traces.{slotTold, isLpcPin, pinTold, landed, comesBy, hubTraced, ledByLio, traced}
@@ -36,8 +36,8 @@ led half v i e b = both-true (eqb (half .cascade) v) (hasBit (half .mask) i) (eq
 
 module _ (said : Said) (g : Good said) where
   -- a half leads an input: there it arrives, if it is not named
-  led-at : (v i : ℕ) → ledByLio said v i ≡ true → (wired (said .lio) i ≡ true) × (isNamed (said .ht) i ≡ false) × (coreOf (said .lio) i ≡ v)
-  unfolding ledByLio coreOf if
+  led-at : (v i : ℕ) → ledByLio said v i ≡ true → (wired (said .lio) i ≡ true) × (isNamed (said .ht) i ≡ false) × (coreVector (said .lio) i ≡ v)
+  unfolding ledByLio coreVector if
   led-at v i t =
       let low = said .lio .low in
       let high = said .lio .high in

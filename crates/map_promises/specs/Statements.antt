@@ -1,18 +1,29 @@
 -- What is promised of maps. Each statement stands alone; proofs/ has a theorem of the same name for it.
-use Prim.Native.Nat.{ℕ, _+_, _^_, _<_, _≤_}
-use mathlib.Core.Bool.{true, false, _&&_}
+use Prim.Native.Nat.{ℕ, _+_, _-_, _^_, _<_, _≤_}
+use mathlib.Core.Bool.{true, false, not, _&&_, _||_}
+use mathlib.Core.List.{List, map as mapped}
 use mathlib.Core.Logic.{_⊎_}
 use mathlib.Core.Path.{_≡_}
 use lib.Dec.{eqb, leb}
 use lib.ListN.{length}
+use Rattle.words.specs.Choice.{if}
+use Rattle.words.specs.Lists.{first}
 use Rattle.words.specs.Refusals.{refused, rule}
 use Rattle.words.specs.declared.Refusal.{Refusal}
 use Rattle.words.specs.declared.Verdict.the-variants.{Sound}
 use Rattle.kinds.specs.Ranges.{bitInBoth}
+use Rattle.clashes.specs.Search.{firstLone}
+use Rattle.clashes.specs.Told.{spotted}
+use Rattle.clashes.specs.declared.Claim.{Claim}
+use Rattle.parts.specs.Inputs.{leads}
 use Rattle.lines.specs.Says.{Said, says, Same}
-use Rattle.lines.specs.Rules.{rangesKept, bothKinds, rule43, rule45, firstBroken, keepsRules}
+use Rattle.lines.specs.Hubs.{hubs}
+use Rattle.lines.specs.Routes.{through, owner}
+use Rattle.lines.specs.Traces.{landed, traced}
+use Rattle.lines.specs.Rules.{rangesKept, bothKinds, rule40, rule42, rule43, rule44, rule45, firstBroken, keepsRules}
 use Rattle.lines.specs.Answers.{routeOf, traceOf, badMap, routeCode, traceCode}
 use Rattle.lines.specs.declared.Map.{Map}
+use Rattle.lines.specs.declared.Owner.the-variants.{LioInput as OwnedLio}
 use Rattle.lines.specs.declared.Places.{Places}
 use Rattle.lines.specs.declared.Route.{Route}
 use Rattle.lines.specs.declared.Route.the-variants.{Arrives, Unwired, NoOwner, Refused}
@@ -82,6 +93,28 @@ pub record AsBefore (map : Map) : Type 0 where
 abbrev pub OneNodeAsBefore : Map → Type 0
 OneNodeAsBefore map =
     ((j : ℕ) → j < length (says map .bios) → bioAt (says map) j .node ≡ says map .lpc .node) → AsBefore map
+
+-- W-201 of document 02 changes nothing of a map without an HT: its rules, owners, arrivals and traces are what they were when hubs were EIO
+-- alone, and no LIO input was named (any map)
+pub record AsWithoutHt (map : Map) : Type 0 where
+  pub r34 : bothKinds (says map) ≡ false
+  -- "no LIO or no EIO", "BIO without an EIO of its node", and no 44
+  pub r40 : (madt : ℕ) → rule40 (says map) madt ≡ rule (not (says map .lio .present) || eqb (length (says map .eios)) 0) 40 madt
+  pub r42 : (all : List Claim) → rule42 (says map) all ≡ spotted 42 (firstLone (mapped (λ e. e .node) (says map .eios)) all)
+  pub r44 : (place : ℕ) → rule44 (says map) place ≡ Sound
+  -- "16 to 47 the LIO inputs 0 to 31"
+  pub owned : (n : ℕ) → 16 ≤ n → n < 48 → owner (says map) n ≡ OwnedLio (n - 16)
+  -- "at that EIO's cascade, with number v"
+  pub arriving : (node v : ℕ)
+      → through (hubs (says map)) node v ≡ first (λ e. eqb (e .node) node) (λ e. Arrives (e .cascade) v) NoOwner (says map .eios)
+  -- a wired LIO input, or what has landed on an EIO
+  pub tracing : (vector number : ℕ)
+      → traced (says map) vector number
+      ≡ if (leads (says map .lio .low) vector number || leads (says map .lio .high) vector number) (LioInput (16 + number))
+      (first (λ e. eqb (e .cascade) vector) (λ e. landed (says map) (e .node) number) Nothing (says map .eios))
+
+abbrev pub WithoutHtAsBefore : Map → Type 0
+WithoutHtAsBefore map = says map .ht .present ≡ false → AsWithoutHt map
 
 -- a trace tells the global number n
 abbrev pub Tells : ℕ → Trace → Type 0

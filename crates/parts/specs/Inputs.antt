@@ -25,8 +25,8 @@ abbrev pub leads : Half → ℕ → ℕ → Bool
 leads half vector i = eqb (half .cascade) vector && hasBit (half .mask) i
 
 -- the core vector of LIO input i: "the cascade of the half whose mask has bit i"; 0 where it is not wired
-unfoldable pub coreOf : Lio → ℕ → ℕ
-coreOf lio i =
+unfoldable pub coreVector : Lio → ℕ → ℕ
+coreVector lio i =
     if (hasBit (lio .low .mask) i) (lio .low .cascade)
     (if (hasBit (lio .high .mask) i) (lio .high .cascade)
     0)

@@ -14,7 +14,7 @@ ghost use mathlib.Core.Path.{_≡_};
 ghost use mathlib.Core.Bool.{not};
 ghost use lib.Dec.{eqb};
 ghost use Rattle.words.specs.Lists.{every};
-ghost use Rattle.parts.specs.Inputs.{hasBit, wired, leads, coreOf, inputFor, isNamed, namesUnwired, hasSlot, owns, hasPin, isBridge};
+ghost use Rattle.parts.specs.Inputs.{hasBit, wired, leads, coreVector, inputFor, isNamed, namesUnwired, hasSlot, owns, hasPin, isBridge};
 ghost use Rattle.parts.specs.Claims.{lioClaim, eioClaim, bioClaim, msiClaim};
 
 // The inputs of the LIO.
@@ -41,8 +41,8 @@ pub fn half_leads(half: Half, vector: u32, i: u32) -> bool
 }
 
 // The core vector of an input of the LIO; 0 where it is not wired.
-pub fn core_of(lio: Lio, i: u32) -> u8
-    ensures { λ r. ⌜ r ≡ coreOf lio i ⌝ }
+pub fn core_vector(lio: Lio, i: u32) -> u8
+    ensures { λ r. ⌜ r ≡ coreVector lio i ⌝ }
 {
     let low = lio.low;
     let high = lio.high;

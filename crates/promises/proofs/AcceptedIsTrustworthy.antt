@@ -17,7 +17,7 @@ use Rattle.clashes.proofs.Logic.{and-right}
 use Rattle.tables.specs.declared.Strictness.{Strictness}
 use Rattle.lines.specs.Says.{says}
 use Rattle.lines.specs.Routes.{arrival}
-use Rattle.lines.specs.Rules.{rangesKept, tooMany, lost, rulesTo45, rulesFrom51, mapRules, firstBroken, keepsRules, slotPlaces}
+use Rattle.lines.specs.Rules.{rangesKept, tooMany, bothKinds, lost, rulesTo45, rulesFrom51, mapRules, firstBroken, keepsRules, slotPlaces}
 use Rattle.lines.specs.Answers.{routeOf}
 use Rattle.lines.specs.declared.Route.{Route}
 use Rattle.lines.specs.declared.Route.the-variants.{Arrives, Unwired, NoOwner, Refused as NoRoute}
@@ -48,10 +48,10 @@ sci-arrives : (map : Map) → keepsRules map ≡ true → (vector : ℕ) × (num
 unfolding keepsRules firstBroken mapRules rulesTo45 rulesFrom51 routeOf
 sci-arrives map k =
     let said = says map in
-    let lower = rangesKept said && not (bitInBoth (said .lio)) in
+    let lower = rangesKept said && not (bitInBoth (said .lio)) && not (bothKinds said) in
     let first = is-sound (firstBroken map slotPlaces 0 0) (and-right lower (isSound (firstBroken map slotPlaces 0 0)) k) in
     let lostSci = lost (arrival said (said .sci)) in
-    let r54 = each-sound (rule (tooMany map) 38 0 ∷ mapRules said slotPlaces 0 0) first 9 in
+    let r54 = each-sound (rule (tooMany map) 38 0 ∷ mapRules said slotPlaces 0 0) first 10 in
     let w = not-lost (arrival said (said .sci)) (rule-kept lostSci 54 0 r54) in
     (w .0, w .1, yes-if _ _ _ k ∙ w .2)
 

@@ -99,7 +99,7 @@ module _ (capture : List ℕ) (t : Tables) (inside : TablesInside capture t) (at
       (walk-stands (madtBytes capture (t .madt)) (t .madt .place) (t .sci) _ (t .madt .length) (inside .madt .long) (small capture t inside) sound)
       (inside .madt .inside) (t .madt .place) (t .fadt .place) (at .0) (at .1))
 
-  rules-told : walkOf capture t .verdict ≡ verdicts.Sound → Told isAfter38 capture (firstRefusal (laterRules capture t))
+  pub rules-told : walkOf capture t .verdict ≡ verdicts.Sound → Told isAfter38 capture (firstRefusal (laterRules capture t))
   rules-told sound =
       let repeat = firstRepeat (madtBytes capture (t .madt)) in
       more-told isAfter38 capture _ _ (told-left is39 isFrom40 capture (repeatRule (t .madt .place) repeat) (repeat-told repeat refl))

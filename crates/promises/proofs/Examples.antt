@@ -20,22 +20,23 @@ use Rattle.tables.specs.Xsdt.{xsdtSignature, notXsdt, wrongXsdtRevision, entryC
 use Rattle.tables.specs.declared.Strictness.{Strictness}
 use Rattle.tables.specs.declared.Strictness.the-variants.{Ordinary, Strict}
 use Rattle.kinds.specs.Makers.{coreOf, lioOf, htOf, eioOf, msiOf, bioOf, lpcOf}
-use Rattle.kinds.specs.Ranges.{lioField, eioField, msiField, bioField, lpcField}
-use Rattle.kinds.specs.Used.{usedHalf, saidLio, saidLpc}
+use Rattle.kinds.specs.Ranges.{lioField, htField, eioField, msiField, bioField, lpcField}
+use Rattle.kinds.specs.Used.{usedHalf, saidLio, saidHt, saidLpc}
 use Rattle.clashes.specs.Folds.{fold}
 use Rattle.clashes.specs.Rules.{clash}
 use Rattle.clashes.specs.Search.{sooner, nearer, partner, better, firstClash, lonelier, firstLone}
 use Rattle.clashes.specs.Told.{atLater, atBoth, spotted}
-use Rattle.parts.specs.Inputs.{hasBit, hasPin}
+use Rattle.parts.specs.Inputs.{hasBit, coreVector, isNamed, namesUnwired, hasPin}
 use Rattle.lines.specs.Answers.{routeOf, traceOf}
 use Rattle.lines.specs.Claims.{placed, claims}
+use Rattle.lines.specs.Hubs.{hubsOf, nodesOf}
 use Rattle.lines.specs.Routes.{lioArrival, through, bioOwner, owner, arrivalOf, arrival}
 use Rattle.lines.specs.Rules.{eiosFit, biosFit, msisFit, rangesKept, noBridge, noInput, lost, rulesTo45, rulesFrom51, mapRules, firstBroken, keepsRules}
-use Rattle.lines.specs.Traces.{slotTold, isLpcPin, pinTold, landed, eioTraced, traced}
+use Rattle.lines.specs.Traces.{slotTold, isLpcPin, pinTold, landed, comesBy, hubTraced, ledByLio, traced}
 use Rattle.madt.specs.Pieces.{pieceAt, piecesFrom, pieces, structures}
-use Rattle.madt.specs.Rules.{isType, isKnown, lengthOf, wrongLength as wrongStructureLength, wrongVersion as wrongStructureVersion, isHt, wrongFlags as reservedFlags, wrongCascade, wrongNode, wrongNodes, wrongCount as noSlots, wrongEnd, wrongBase, wrongInput, sharedBit, oneTooMany, structureRules}
-use Rattle.madt.specs.Contents.{ofType, made, standing, bridgeOf, mapOf, placesOf, isEnabledCore, enabledCores, foundIn}
-use Rattle.madt.specs.Walk.{rulesInTurn, walkRules, turnedAway, walked}
+use Rattle.madt.specs.Rules.{isType, isKnown, lengthOf, wrongLength as wrongStructureLength, wrongVersion as wrongStructureVersion, wrongFlags as reservedFlags, wrongCascade, wrongNode, wrongNodes, wrongCount as noSlots, wrongEnd, wrongBase, wrongInput, wrongByte, sharedBit, oneTooMany, structureRules}
+use Rattle.madt.specs.Contents.{ofType, made, standing, theOne, bridgeOf, mapOf, placesOf, isEnabledCore, enabledCores, foundIn}
+use Rattle.madt.specs.Walk.{rulesInTurn, givesBoth, kindRules, walkRules, turnedAway, walked}
 use Rattle.processors.specs.Image.{fourBytes, image}
 use Rattle.processors.specs.Listing.{numbersOf, processors, count, hasRoom, written, filled}
 use Rattle.processors.specs.Repeats.{sharesWithOne, repeatsId, firstRepeating, firstRepeat}
@@ -43,14 +44,14 @@ use Rattle.reading.specs.Entries.{answerIn, readCode, readResult, bytesAfter}
 use Rattle.reading.specs.Reading.{withoutMap, answered, madtFound, readingOf, listAfter}
 use Rattle.reading.specs.Scan.{madtBytes, emptyMap, turnedDown, repeatRule, processorRule, madtRules, lineRules, rulesBefore51, allRules, accepted, scan}
 use Rattle.text.specs.Numerals.{letters, digits, decimal}
-use Rattle.text.specs.Lines.{each, field, phrase, line, versionLine, coreLine, coreLines, halfLine, lioLines, eioLine, bioLine, msiLine, lpcLine, sciLine}
+use Rattle.text.specs.Lines.{each, field, phrase, line, versionLine, coreLine, coreLines, halfLine, lioLines, htLine, eioLine, bioLine, msiLine, lpcLine, sciLine}
 use Rattle.text.specs.Text.{mapParts, mapText, textOf}
 use Rattle.promises.specs.BoardA.{boardA, msiFrom63, msiTo257, eioAt2}
 use Rattle.promises.specs.Examples.{told, twelve, TwelveExamples, BoardAIsRead, BoardAIsPrinted}
 
 -- the scan, with all that it and the answers are computed by
 unfoldable computed : Strictness → List ℕ → Scan
-unfolding if unless firstRefusal inEach first every fold numberAt spelled total byteSum numbersFrom numbersBelow version segmentCount totalLength rsdpAddress headerSize descriptor descriptorsEnd segmentAddress segmentLength segments lengths segmentPlace isPresent placeOf goesOn runEnd holds placeIn located rsdpStretch rsdpPlace presenceRules wrongSize wrongMark wrongVersion wrongCount wrongTotal emptySegment endsPastMemory endBefore startsEarly segmentBroken segmentRules pairAt pairsOf tellsOf toldOf pinsOf pairBroken pairRules containerRules names namedFrom firstNamed namedAfter secondNamed rsdPtr wrongSignature wrongRevision wrongLength wrongSums rsdpRules xsdtField structureLength brokenAt stepAt apic facp isNowhere earlier secondRule nameRules lengthRules wrongMadtRevision wrongFlags madtFieldRules sciNumber withSci tableOfEntry madtOf fadtOf tablesFrom xsdtOf tablesOf rulesBefore29 surveyRules signature tableLength revision addressAt headerAt tableNamed cutShort wrongSum tableRules xsdtSignature notXsdt wrongXsdtRevision entryCount wrongBody xsdtRules entryField entries entryRules coreOf lioOf htOf eioOf msiOf bioOf lpcOf lioField eioField msiField bioField lpcField usedHalf saidLio saidLpc clash sooner nearer partner better firstClash lonelier firstLone hasBit hasPin routeOf traceOf placed claims lioArrival through bioOwner owner arrivalOf arrival atLater atBoth spotted eiosFit biosFit msisFit rangesKept noBridge noInput lost rulesTo45 rulesFrom51 mapRules firstBroken isSound keepsRules slotTold isLpcPin pinTold landed eioTraced traced pieceAt piecesFrom pieces structures those isType isKnown lengthOf wrongStructureLength wrongStructureVersion isHt reservedFlags wrongCascade wrongNode wrongNodes noSlots wrongEnd wrongBase wrongInput sharedBit oneTooMany structureRules ofType made standing bridgeOf mapOf placesOf foundIn rulesInTurn walkRules turnedAway walked isEnabledCore enabledCores numbersOf processors count hasRoom written filled sharesWithOne repeatsId firstRepeating firstRepeat withoutMap answered madtFound readingOf listAfter madtBytes emptyMap turnedDown repeatRule processorRule madtRules lineRules rulesBefore51 allRules accepted scan
+unfolding if unless firstRefusal inEach first every fold numberAt spelled total byteSum numbersFrom numbersBelow version segmentCount totalLength rsdpAddress headerSize descriptor descriptorsEnd segmentAddress segmentLength segments lengths segmentPlace isPresent placeOf goesOn runEnd holds placeIn located rsdpStretch rsdpPlace presenceRules wrongSize wrongMark wrongVersion wrongCount wrongTotal emptySegment endsPastMemory endBefore startsEarly segmentBroken segmentRules pairAt pairsOf tellsOf toldOf pinsOf pairBroken pairRules containerRules names namedFrom firstNamed namedAfter secondNamed rsdPtr wrongSignature wrongRevision wrongLength wrongSums rsdpRules xsdtField structureLength brokenAt stepAt apic facp isNowhere earlier secondRule nameRules lengthRules wrongMadtRevision wrongFlags madtFieldRules sciNumber withSci tableOfEntry madtOf fadtOf tablesFrom xsdtOf tablesOf rulesBefore29 surveyRules signature tableLength revision addressAt headerAt tableNamed cutShort wrongSum tableRules xsdtSignature notXsdt wrongXsdtRevision entryCount wrongBody xsdtRules entryField entries entryRules coreOf lioOf htOf eioOf msiOf bioOf lpcOf lioField htField eioField msiField bioField lpcField usedHalf saidLio saidHt saidLpc clash sooner nearer partner better firstClash lonelier firstLone hasBit coreVector isNamed namesUnwired hasPin routeOf traceOf placed claims hubsOf nodesOf lioArrival through bioOwner owner arrivalOf arrival atLater atBoth spotted eiosFit biosFit msisFit rangesKept noBridge noInput lost rulesTo45 rulesFrom51 mapRules firstBroken isSound keepsRules slotTold isLpcPin pinTold landed comesBy hubTraced ledByLio traced pieceAt piecesFrom pieces structures those isType isKnown lengthOf wrongStructureLength wrongStructureVersion reservedFlags wrongCascade wrongNode wrongNodes noSlots wrongEnd wrongBase wrongInput wrongByte sharedBit oneTooMany structureRules ofType made standing theOne bridgeOf mapOf placesOf foundIn rulesInTurn givesBoth kindRules walkRules turnedAway walked isEnabledCore enabledCores numbersOf processors count hasRoom written filled sharesWithOne repeatsId firstRepeating firstRepeat withoutMap answered madtFound readingOf listAfter madtBytes emptyMap turnedDown repeatRule processorRule madtRules lineRules rulesBefore51 allRules accepted scan
 computed strictness capture = scan strictness capture
 
 -- THE PROMISES
@@ -65,5 +66,5 @@ board-a-is-read Ordinary = record { accepted = refl; reading = refl; list = refl
 board-a-is-read Strict = record { accepted = refl; reading = refl; list = refl; result = refl; bytes = refl }
 
 pub board-a-is-printed : BoardAIsPrinted
-unfolding boardA computed textOf mapText mapParts each field phrase line versionLine coreLine coreLines halfLine lioLines eioLine bioLine msiLine lpcLine sciLine letters digits decimal
+unfolding boardA computed textOf mapText mapParts each field phrase line versionLine coreLine coreLines halfLine lioLines htLine eioLine bioLine msiLine lpcLine sciLine letters digits decimal
 board-a-is-printed = refl

@@ -17,4 +17,5 @@ pub mod MapOfMadt
 pub mod Memory
 pub mod Readings
 pub mod Processors
+pub mod OneKind
 pub mod Pairs

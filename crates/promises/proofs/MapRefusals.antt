@@ -8,7 +8,7 @@ use mathlib.Core.Bool.{Bool, true, false, not, _||_, true≢false}
 use borrow.Author.Tests.{not-false}
 use lib.Dec.{eqb, ltb}
 use lib.ListN.{length}
-use Rattle.kinds.proofs.Used.{lio-present, lpc-present}
+use Rattle.kinds.proofs.Used.{lio-present, ht-present, lpc-present}
 use Rattle.clashes.specs.Rules.{lone}
 use Rattle.clashes.specs.Search.{sooner, firstClash, lonelier, firstLone}
 use Rattle.clashes.specs.Told.{atLater, atBoth, spotted}
@@ -18,6 +18,7 @@ use Rattle.clashes.specs.declared.Spot.the-variants.{At, Nowhere}
 use Rattle.clashes.specs.declared.Pair.{Pair}
 use Rattle.clashes.specs.declared.Pair.the-variants.{Two, None}
 use Rattle.lines.specs.Says.{Said, says}
+use Rattle.lines.specs.Hubs.{hubs, nodes}
 use Rattle.lines.specs.Claims.{claims}
 use Rattle.lines.specs.Rules.{rule40, rulesTo45, rulesFrom51, mapRules}
 use Rattle.lines.specs.declared.Map.{Map}
@@ -29,6 +30,7 @@ use Rattle.words.proofs.Tests.{neither-left}
 use Rattle.words.proofs.Verdicts.{rule-kept}
 use Rattle.map_promises.specs.Structures.{Structure, lio, eio, bio, msi, placeOf, claimOf}
 use Rattle.map_promises.proofs.Bridges.{no-bridge, no-input}
+use Rattle.map_promises.proofs.Kept.{named-unwired}
 use Rattle.map_promises.proofs.Meetings.{of-member}
 use Rattle.map_promises.proofs.SearchNames.{search-names}
 use Rattle.map_promises.proofs.WalkKeepsBooks.{Standing}
@@ -82,11 +84,12 @@ module _ (capture : List ℕ) where
           ((omega (arith, f .earlier), omega (arith, f .x-at, x .1)), omega (arith, f .y-at, y .0), f .earlier)
 
   -- 42: a claim that stands alone
-  lone-told : (all : List Claim) → ((x : Claim) → List·Memᴰ x all → lone all x ≡ true → Inside capture (x .place)) → SpotTold (firstLone all)
+  lone-told : (nodes : List ℕ) (all : List Claim) → ((x : Claim) → List·Memᴰ x all → lone nodes x ≡ true → Inside capture (x .place))
+      → SpotTold (firstLone nodes all)
   unfolding firstLone lonelier
-  lone-told all inside =
-      fold-told SpotTold (lonelier all) all
-      (λ best x m b. if-cases SpotTold (lone all x) _ _ (λ t. sooner-told best (x .place) b (inside x m t)) (λ t. b))
+  lone-told nodes all inside =
+      fold-told SpotTold (lonelier nodes) all
+      (λ best x m b. if-cases SpotTold (lone nodes x) _ _ (λ t. sooner-told best (x .place) b (inside x m t)) (λ t. b))
       Nowhere
       (omega arith)
 
@@ -94,7 +97,7 @@ module _ (capture : List ℕ) where
 lio-there : (said : Said) (madt : ℕ) → rule40 said madt ≡ Sound → said .lio .present ≡ true
 lio-there said madt h =
     let absent = not (said .lio .present) in
-    let none = eqb (length (said .eios)) 0 in
+    let none = eqb (length (hubs said)) 0 in
     not-false _ (neither-left absent none (rule-kept (absent || none) 40 madt h))
 
 -- a claim stands where its structure does
@@ -105,8 +108,8 @@ claim-at said places (bio j) = refl
 claim-at said places (msi m) = refl
 
 -- the LIO's claim never stands alone
-lio-not-lone : (said : Said) (places : Places) (all : List Claim) → lone all (claimOf said places lio) ≡ false
-lio-not-lone said places all = refl
+lio-not-lone : (said : Said) (places : Places) (nodes : List ℕ) → lone nodes (claimOf said places lio) ≡ false
+lio-not-lone said places nodes = refl
 
 module _ (capture : List ℕ) {next : ℕ} {map : Map} {places : Places} (b : Standing next map places) (ends : next ≤ length capture) where
   claims-before : (x : Claim) → List·Memᴰ x (claims (says map) places) → x .place < length capture
@@ -123,18 +126,22 @@ module _ (capture : List ℕ) {next : ℕ} {map : Map} {places : Places} (b : St
       let there : 0 < placeOf places (w .0) = ⊎-elim (λ e. rw e (b .liobehind present)) (λ l. l) (b .behind (w .0) (w .1)) in
       (omega (arith, at, claim-at (says map) places (w .0)), claims-before x m)
 
-  lone-inside : (all : List Claim) (x : Claim) → List·Memᴰ x (claims (says map) places) → lone all x ≡ true → Inside capture (x .place)
-  lone-inside all x m t =
+  lone-inside : (nodes : List ℕ) (x : Claim) → List·Memᴰ x (claims (says map) places) → lone nodes x ≡ true → Inside capture (x .place)
+  lone-inside nodes x m t =
       let w = of-member (says map) places x m in
       let at : x .place ≡ claimOf (says map) places (w .0) .place = ap (λ (c : Claim). c .place) (w .2) in
       ⊎-elim
-      (λ e. absurd (true≢false (sym t ∙ ap (lone all) (w .2 ∙ ap (claimOf (says map) places) e) ∙ lio-not-lone (says map) places all)))
+      (λ e. absurd (true≢false (sym t ∙ ap (lone nodes) (w .2 ∙ ap (claimOf (says map) places) e) ∙ lio-not-lone (says map) places nodes)))
       (λ l. (omega (arith, at, claim-at (says map) places (w .0)), claims-before x m))
       (b .behind (w .0) (w .1))
 
   -- 43 and 45: an LPC that lacks a bridge or an input is there
   lpc-inside : says map .lpc .present ≡ true → Inside capture (places .lpc)
   lpc-inside h = (b .lpcbehind (sym (lpc-present (map .lpc)) ∙ h), omega (arith, b .lpcbefore))
+
+  -- 44: an HT that names an input is there
+  ht-inside : says map .ht .present ≡ true → Inside capture (places .ht)
+  ht-inside h = (b .htbehind (sym (ht-present (map .ht)) ∙ h), omega (arith, b .htbefore))
 
   -- 40 to 54
   pub map-told : (madt fadt : ℕ) → Inside capture madt → Inside capture fadt → Told isFrom40 capture (firstRefusal (mapRules (says map) places madt fadt))
@@ -146,10 +153,11 @@ module _ (capture : List ℕ) {next : ℕ} {map : Map} {places : Places} (b : St
       let present = sym (lio-present (map .lio)) ∙ lio-there (says map) madt kept in
       let clash = clash-told capture all (claims-inside present) in
       more-told isFrom40 capture _ _ (later-told capture 41 (firstClash 41 all) (refl, refl, refl, refl) (clash 41))
-      (λ z. more-told isFrom40 capture _ _ (spotted-told capture 42 (firstLone all) (refl, refl, refl, refl) (lone-told capture all (lone-inside all)))
+      (λ z. more-told isFrom40 capture _ _ (spotted-told capture 42 (firstLone (nodes (says map)) all) (refl, refl, refl, refl) (lone-told capture (nodes (says map)) all (lone-inside (nodes (says map)))))
       (λ z. more-told isFrom40 capture _ _ (broken-told capture 43 _ (places .lpc) (refl, refl, refl, refl) (λ h. lpc-inside (no-bridge (says map) h .0)))
+      (λ z. more-told isFrom40 capture _ _ (broken-told capture 44 _ (places .ht) (refl, refl, refl, refl) (λ h. ht-inside (named-unwired (says map) h .0)))
       (λ z. more-told isFrom40 capture _ _ (broken-told capture 45 _ (places .lpc) (refl, refl, refl, refl) (λ h. lpc-inside (no-input (says map) h .0)))
       (λ z. more-told isFrom40 capture _ _ (both-told capture 51 (firstClash 51 all) (refl, refl, refl, refl) (clash 51))
       (λ z. more-told isFrom40 capture _ _ (both-told capture 52 (firstClash 52 all) (refl, refl, refl, refl) (clash 52))
       (λ z. more-told isFrom40 capture _ _ (both-told capture 53 (firstClash 53 all) (refl, refl, refl, refl) (clash 53))
-      (λ z. more-told isFrom40 capture _ _ (broken-told capture 54 _ fadt (refl, refl, refl, refl) (λ t. f)) (λ z. none-told isFrom40 capture)))))))))
+      (λ z. more-told isFrom40 capture _ _ (broken-told capture 54 _ fadt (refl, refl, refl, refl) (λ t. f)) (λ z. none-told isFrom40 capture))))))))))

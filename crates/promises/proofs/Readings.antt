@@ -66,7 +66,7 @@ from-30 n h = go (leb 30 n) refl
     go true e = e
     go false e =
         let below = leb-false 30 n e in
-        absurd (true≢false (sym h ∙ (rw (lt-leb 31 n (omega arith), lt-leb 71 n (omega arith), ne-eqb 39 n (λ e. omega arith), lt-leb 40 n (omega arith)) refl)))
+        absurd (true≢false (sym h ∙ (rw (lt-leb 31 n (omega arith), lt-leb 35 n (omega arith), lt-leb 71 n (omega arith), ne-eqb 34 n (λ e. omega arith), ne-eqb 39 n (λ e. omega arith), lt-leb 40 n (omega arith)) refl)))
 
 module _ (strictness : Strictness) (capture : List ℕ) where
   abbrev isWrong : Bool

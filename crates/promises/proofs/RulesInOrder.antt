@@ -53,27 +53,30 @@ module _ (strictness : Strictness) (capture : List ℕ) (t : Tables) where
       let kept = joined-kept (walkRules (madtBytes capture (t .madt)) (t .madt .place)) afterWalk h in
       let each = each-sound afterWalk (kept .1) in
       record {
-        to43 = record {
-          to42 = record {
-            to40 = record {
-              tables = tables;
-              structures = walk-verdict _ _ _ _ ∙ kept .0;
-              r39 = no-repeat _ _ (each 0);
-              r40core = some-core _ _ (each 1);
-              r40 = each 2;
+        to44 = record {
+          to43 = record {
+            to42 = record {
+              to40 = record {
+                tables = tables;
+                structures = walk-verdict _ _ _ _ ∙ kept .0;
+                r39 = no-repeat _ _ (each 0);
+                r40core = some-core _ _ (each 1);
+                r40 = each 2;
+              };
+              r41 = each 3;
+              r42 = each 4;
             };
-            r41 = each 3;
-            r42 = each 4;
+            r43 = each 5;
           };
-          r43 = each 5;
+          r44 = each 6;
         };
-        r45 = each 6;
+        r45 = each 7;
       }
 
   to-madt : NothingBefore51 strictness capture t → firstRefusal (madtRules capture t) ≡ Sound
   unfolding madtRules rulesTo45 firstRefusal
   to-madt h =
-      let to42 = h .to43 .to42 in
+      let to42 = h .to44 .to43 .to42 in
       first-joined (walkRules (madtBytes capture (t .madt)) (t .madt .place)) afterWalk
       ∙ unless-sound _ _ _ (sym (walk-verdict _ _ _ _) ∙ to42 .to40 .structures)
       ∙ unless-sound _ _ _ (repeat-none (t .madt .place) _ (to42 .to40 .r39))
@@ -81,7 +84,8 @@ module _ (strictness : Strictness) (capture : List ℕ) (t : Tables) where
       ∙ unless-sound _ _ _ (to42 .to40 .r40)
       ∙ unless-sound _ _ _ (to42 .r41)
       ∙ unless-sound _ _ _ (to42 .r42)
-      ∙ unless-sound _ _ _ (h .to43 .r43)
+      ∙ unless-sound _ _ _ (h .to44 .to43 .r43)
+      ∙ unless-sound _ _ _ (h .to44 .r44)
       ∙ first-alone _
       ∙ h .r45
 
@@ -96,8 +100,8 @@ not-before : (strictness : Strictness) (capture : List ℕ) (t : Tables) → Not
 unfolding rulesBefore51
 not-before strictness capture t h =
     first-joined (surveyRules strictness capture) _
-    ∙ unless-sound _ _ _ (survey-told strictness capture (h .to43 .to42 .to40 .tables))
-    ∙ ap (λ (t : Tables). firstRefusal (madtRules capture t)) (survey-is strictness capture (h .to43 .to42 .to40 .tables))
+    ∙ unless-sound _ _ _ (survey-told strictness capture (h .to44 .to43 .to42 .to40 .tables))
+    ∙ ap (λ (t : Tables). firstRefusal (madtRules capture t)) (survey-is strictness capture (h .to44 .to43 .to42 .to40 .tables))
     ∙ to-madt strictness capture t h
 
 -- THE PROMISE

@@ -29,7 +29,8 @@ abbrev pub Told : (ℕ → Bool) → List ℕ → Verdict → Type 0
 Told own capture Sound = 0 < 1
 Told own capture (Refused r) = OfTheRules own capture r
 
--- ---- whose numbers they are: of the capture, of the tables before 29, 29 and 30, those of a structure, 39, and those after it
+-- ---- whose numbers they are: of the capture, of the tables before 29, 29 and 30, those of a structure, 34 of all structures, 39, and
+-- those after it
 abbrev pub isOfCapture : ℕ → Bool
 isOfCapture = among 1 7
 
@@ -39,8 +40,14 @@ isOfTables = among 10 28
 abbrev pub is29Or30 : ℕ → Bool
 is29Or30 = among 29 30
 
+abbrev pub isInTurn : ℕ → Bool
+isInTurn n = among 31 33 n || among 35 38 n || among 71 78 n
+
+abbrev pub is34 : ℕ → Bool
+is34 = eqb 34
+
 abbrev pub isOfStructures : ℕ → Bool
-isOfStructures n = among 31 38 n || among 71 77 n
+isOfStructures n = isInTurn n || is34 n
 
 abbrev pub is39 : ℕ → Bool
 is39 = eqb 39

@@ -1,7 +1,7 @@
 -- Document 01, "Refusals in order": "The lowest line that applies wins, with these exceptions: segments are taken in turn; the XSDT
 -- goes through 20 to 25, then its entries in turn, each through 20 to 22; structures in turn, each through 31 to 38. 26 and 27 come
--- after all entries, 39 after all structures." By W-202 of document 02 71 to 77 stand in 36's place. What each rule says of a
--- capture stands in one list, `allRules` of crates/reading/specs/Scan, in this order.
+-- after all entries, 39 after all structures." By W-202 of document 02 71 to 78 stand in 36's place, and by W-201 34 stands before 39, after all
+-- structures. What each rule says of a capture stands in one list, `allRules` of crates/reading/specs/Scan, in this order.
 use Prim.Native.Nat.{ℕ}
 use mathlib.Core.Bool.{not}
 use mathlib.Core.List.{List, [], _∷_, _++_}

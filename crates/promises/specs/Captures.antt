@@ -13,7 +13,7 @@ use Rattle.tables.specs.declared.Survey.the-variants.{Found}
 use Rattle.tables.specs.declared.Strictness.{Strictness}
 use Rattle.lines.specs.Says.{Said, says}
 use Rattle.lines.specs.Claims.{claims}
-use Rattle.lines.specs.Rules.{rule40, rule41, rule42, rule43, rule45, keepsRules}
+use Rattle.lines.specs.Rules.{rule40, rule41, rule42, rule43, rule44, rule45, keepsRules}
 use Rattle.lines.specs.Answers.{routeOf, traceOf}
 use Rattle.lines.specs.declared.Map.{Map}
 use Rattle.lines.specs.declared.Places.{Places}
@@ -23,7 +23,7 @@ use Rattle.madt.specs.Pieces.{pieces, structures}
 use Rattle.processors.specs.Listing.{count}
 use Rattle.processors.specs.Repeats.{firstRepeat}
 use Rattle.processors.specs.declared.Repeat.the-variants.{Nowhere}
-use Rattle.map_promises.specs.Clashing.{ShareNode, ShareNumber, ShareVector, ShareCore, TwoNode, LoneBio, NoBridge, NoInput, TwoNumber, TwoVector, TwoCore, Names, NamesLater, NamesLone, OnePlace, Exactly}
+use Rattle.map_promises.specs.Clashing.{ShareNode, ShareNumber, ShareVector, ShareCore, TwoNode, LoneBio, NoBridge, NamesUnwired, NoInput, TwoNumber, TwoVector, TwoCore, Names, NamesLater, NamesLone, OnePlace, Exactly}
 use Rattle.map_promises.specs.Routing.{RouteIsSources, UnwiredExactly, NoOwnerExactly}
 use Rattle.map_promises.specs.Statements.{NoTwoAlike, TracingNames, NothingExactly, LpcLinesShare, ThereAndBack}
 use Rattle.map_promises.specs.Walks.{Normal, InTableOrder}
@@ -38,7 +38,7 @@ Accepted strictness capture = scan strictness capture .verdict ≡ Sound
 
 -- what a person at the bench may rely on in a map
 pub record Trustworthy (map : Map) : Type 0 where
-  -- it keeps 71 to 77, 37, 38 and 40 to 54, and its unused places hold 0
+  -- it keeps 71 to 78, 37, 38, 34 and 40 to 54, and its unused places hold 0
   pub keeps : keepsRules map ≡ true
   pub normal : Normal map
   -- 61 is never given: every question about it is answered
@@ -87,7 +87,7 @@ AcceptedIsOfMadt strictness capture = Accepted strictness capture → MapOfMadt 
 pub record NothingBefore41 (strictness : Strictness) (capture : List ℕ) (t : Tables) : Type 0 where
   -- 1 to 30; the tables are t
   pub tables : survey strictness capture ≡ Found t
-  -- 31 to 38 and 71 to 77, structure by structure
+  -- 31 to 38 and 71 to 78, structure by structure, and 34
   pub structures : walkOf capture t .verdict ≡ Sound
   -- no enabled CORE repeats an ID of an earlier one, and there is one
   pub r39 : firstRepeat (madtBytes capture (t .madt)) ≡ Nowhere
@@ -100,16 +100,21 @@ pub record NothingBefore43 (strictness : Strictness) (capture : List ℕ) (t : T
   pub to40 : NothingBefore41 strictness capture t
   -- 41 and 42, of the map that the walk found
   pub r41 : rule41 (claims (says (walkOf capture t .found .map)) (walkOf capture t .found .places)) ≡ Sound
-  pub r42 : rule42 (claims (says (walkOf capture t .found .map)) (walkOf capture t .found .places)) ≡ Sound
+  pub r42 : rule42 (says (walkOf capture t .found .map)) (claims (says (walkOf capture t .found .map)) (walkOf capture t .found .places)) ≡ Sound
 
 -- none up to 43
-pub record NothingBefore45 (strictness : Strictness) (capture : List ℕ) (t : Tables) : Type 0 where
+pub record NothingBefore44 (strictness : Strictness) (capture : List ℕ) (t : Tables) : Type 0 where
   pub to42 : NothingBefore43 strictness capture t
   pub r43 : rule43 (says (walkOf capture t .found .map)) (walkOf capture t .found .places .lpc) ≡ Sound
 
+-- none up to 44
+pub record NothingBefore45 (strictness : Strictness) (capture : List ℕ) (t : Tables) : Type 0 where
+  pub to43 : NothingBefore44 strictness capture t
+  pub r44 : rule44 (says (walkOf capture t .found .map)) (walkOf capture t .found .places .ht) ≡ Sound
+
 -- none up to 45
 pub record NothingBefore51 (strictness : Strictness) (capture : List ℕ) (t : Tables) : Type 0 where
-  pub to43 : NothingBefore45 strictness capture t
+  pub to44 : NothingBefore45 strictness capture t
   pub r45 : rule45 (says (walkOf capture t .found .map)) (walkOf capture t .found .places .lpc) ≡ Sound
 
 -- the same by the one list of all rules: none of those that stand before 51 refuses
@@ -128,15 +133,17 @@ pub record EachExactly (told : ℕ → ℕ → ℕ → Type 0) (strictness : Str
     : Type 0 where
   -- "EIO repeats an earlier node"
   pub r41 : NothingBefore41 strictness capture t → Exactly (told 41) (TwoNode said) (OnePlace (NamesLater said places (ShareNode said)))
-  -- "BIO without an EIO of its node"
+  -- "BIO without an EIO of its node", or, with an HT, of another hardware ID than 0
   pub r42 : NothingBefore41 strictness capture t → Exactly (told 42) ((TwoNode said → ⊥) × LoneBio said) (OnePlace (NamesLone said places))
   -- "no such BIO", at the LPC
   pub r43 : NothingBefore43 strictness capture t → Exactly (told 43) (NoBridge said) (OnePlace (λ p. p ≡ places .lpc))
+  -- "a byte naming an unwired input", at the HT
+  pub r44 : NothingBefore44 strictness capture t → Exactly (told 44) (NamesUnwired said) (OnePlace (λ p. p ≡ places .ht))
   -- "a cascade at or past its bridge's count", at the LPC
   pub r45 : NothingBefore45 strictness capture t → Exactly (told 45) (NoInput said) (OnePlace (λ p. p ≡ places .lpc))
   -- "two sources share a global number"
   pub r51 : NothingBefore51 strictness capture t → Exactly (told 51) (TwoNumber said) (Names said places (ShareNumber said))
-  -- "or an extended vector of one EIO"
+  -- "or an extended vector of one EIO", or an HT vector
   pub r52 :
       NothingBefore51 strictness capture t
       → Exactly (told 52) ((TwoNumber said → ⊥) × TwoVector said) (Names said places (ShareVector said))

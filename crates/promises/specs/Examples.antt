@@ -9,7 +9,7 @@ use Rattle.words.specs.Refusals.{refused, refusedWith}
 use Rattle.words.specs.declared.Refusal.{Refusal}
 use Rattle.words.specs.declared.Verdict.{Verdict}
 use Rattle.words.specs.declared.Verdict.the-variants as verdicts
-use Rattle.kinds.specs.Used.{noEio, noBio, noMsi}
+use Rattle.kinds.specs.Used.{noHt, noEio, noBio, noMsi}
 use Rattle.tables.specs.declared.Strictness.{Strictness}
 use Rattle.lines.specs.Answers.{routeOf, traceOf}
 use Rattle.lines.specs.declared.Map.{Map}
@@ -91,6 +91,7 @@ abbrev pub mapOfA : Map
 mapOfA =
     record {
       lio = record { present = true; low = record { cascade = 2; mask = 0x00FFFFFF }; high = record { cascade = 0; mask = 0 } };
+      ht = noHt;
       eiocount = 1;
       eios = record { cascade = 3; node = 0; nodes = 1 } ∷ noEio ∷ noEio ∷ noEio ∷ [];
       biocount = 1;

@@ -2,6 +2,7 @@ pub mod Captures
 pub mod Readings
 pub mod Pairs
 pub mod Processors
+pub mod OneKind
 pub mod Memory
 pub mod RefusalTable
 pub mod Calls

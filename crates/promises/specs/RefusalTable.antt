@@ -1,4 +1,4 @@
--- Document 01, "Refusals in order": the numbers of its table as W-202 and W-212 of document 02 changed it, and the mission's first demand:
+-- Document 01, "Refusals in order": the numbers of its table as W-201, W-202 and W-212 of document 02 changed it, and the mission's first demand:
 -- each public call "either answers or refuses with a number and a place from our table".
 use Prim.Native.Nat.{ℕ, _<_}
 use mathlib.Core.Bool.{Bool, true, false, _&&_, _||_}
@@ -25,20 +25,21 @@ use Rattle.reading.specs.declared.Answer.the-variants.{Refused}
 abbrev pub among : ℕ → ℕ → ℕ → Bool
 among low high n = leb low n && leb n high
 
--- the numbers that a capture is refused with: 1 to 7 of the capture, 10 to 14 of the RSDP, 20 to 30 of the tables, 31 to 35, 71 to
--- 77 (where 36 was), 37 and 38 of a structure, 39 of the processors, 40 to 43, 45 and 51 to 54 of the map, 60 of the list. The
--- table's last, 61, is of a map that is asked about by itself.
+-- the numbers that a capture is refused with: 1 to 7 of the capture, 10 to 14 of the RSDP, 20 to 30 of the tables, 31 to 33, 35, 71 to
+-- 78 (where 36 was), 37 and 38 of a structure, 34 of all structures, 39 of the processors, 40 to 45 and 51 to 54 of the map, 60 of the
+-- list. The table's last, 61, is of a map that is asked about by itself.
 abbrev pub isRefusalNumber : ℕ → Bool
 isRefusalNumber n =
     among 1 7 n
     || among 10 14 n
     || among 20 30 n
-    || among 31 35 n
-    || among 71 77 n
+    || among 31 33 n
+    || eqb n 35
+    || among 71 78 n
     || among 37 38 n
+    || eqb n 34
     || eqb n 39
-    || among 40 43 n
-    || eqb n 45
+    || among 40 45 n
     || among 51 54 n
     || eqb n 60
 

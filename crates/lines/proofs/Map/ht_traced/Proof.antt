@@ -25,8 +25,8 @@ cast-input c = search needs
 said-lio-requires : tie.Need-said-lio-requires
 said-lio-requires c κs = search needs
 
-core-of-requires : tie.Need-core-of-requires
-core-of-requires c κs = search needs
+core-vector-requires : tie.Need-core-vector-requires
+core-vector-requires c κs = search needs
 
 cast-if2 : tie.Need-cast-if2
 cast-if2 c = search needs
@@ -40,7 +40,7 @@ returns-2 c =
     let map = s .args .self in
     let leads =
     rw (
-      c .before .before .core-of .ensures,
+      c .before .before .core-vector .ensures,
       c .before .before .before .said-lio .ensures,
       c .before .before .before .before .input-for .ensures,
       c .before .before .before .before .before .said-ht .ensures,
@@ -54,7 +54,7 @@ returns-3 c =
     let map = s .args .self in
     let not =
     rw (
-      c .before .core-of .ensures,
+      c .before .core-vector .ensures,
       c .before .before .said-lio .ensures,
       c .before .before .before .input-for .ensures,
       c .before .before .before .before .said-ht .ensures,
@@ -71,7 +71,7 @@ ht-traced-spec =
     input-for-requires
     cast-input
     said-lio-requires
-    core-of-requires
+    core-vector-requires
     cast-if2
     landed-requires
     returns-2

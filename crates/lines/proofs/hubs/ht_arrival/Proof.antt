@@ -16,8 +16,8 @@ input-for-requires c κs = search needs
 cast-input : tie.Need-cast-input
 cast-input c = search needs
 
-core-of-requires : tie.Need-core-of-requires
-core-of-requires c κs = search needs
+core-vector-requires : tie.Need-core-vector-requires
+core-vector-requires c κs = search needs
 
 add-t10 : tie.Need-add-t10
 add-t10 c = search needs
@@ -25,7 +25,7 @@ add-t10 c = search needs
 returns : tie.Need-returns
 unfolding through first if
 returns c =
-    rw (eq-eqb _ _ (c .before .before .if1 .taken), c .core-of .ensures, c .before .input-for .ensures)
+    rw (eq-eqb _ _ (c .before .before .if1 .taken), c .core-vector .ensures, c .before .input-for .ensures)
 
 returns-2 : tie.Need-returns-2
 unfolding through first if
@@ -34,4 +34,4 @@ returns-2 c = rw (ne-eqb _ _ (c .if1 .left))
 pub ht-arrival-spec : {M : Type 1} → statement M
 ht-arrival-spec =
     tie.close
-    (tie.spec cast-if1 input-for-requires cast-input core-of-requires add-t10 returns returns-2)
+    (tie.spec cast-if1 input-for-requires cast-input core-vector-requires add-t10 returns returns-2)

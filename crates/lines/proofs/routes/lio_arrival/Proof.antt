@@ -9,16 +9,16 @@ use Rattle.lines.proofs.routes.lio_arrival.Tie as tie
 is-wired-requires : tie.Need-is-wired-requires
 is-wired-requires c κs = search needs
 
-core-of-requires : tie.Need-core-of-requires
-core-of-requires c κs = search needs
+core-vector-requires : tie.Need-core-vector-requires
+core-vector-requires c κs = search needs
 
 returns : tie.Need-returns
 unfolding lioArrival
-returns c = rw (c .core-of .ensures) (sym (yes-if _ _ _ (cc)))
+returns c = rw (c .core-vector .ensures) (sym (yes-if _ _ _ (cc)))
 
 returns-2 : tie.Need-returns-2
 unfolding lioArrival
 returns-2 c = sym (no-if _ _ _ (cc) refl)
 
 pub lio-arrival-spec : {M : Type 1} → statement M
-lio-arrival-spec = tie.close (tie.spec is-wired-requires core-of-requires returns returns-2)
+lio-arrival-spec = tie.close (tie.spec is-wired-requires core-vector-requires returns returns-2)
