@@ -38,7 +38,7 @@ uint64_t yasmirand_route(const uint8_t *capture, size_t capture_len, uint32_t nu
 /*
  * What arrives at a core vector with a number: kind × 2^40 + node × 2^32 + value.
  * kind 0 nothing; 1 LIO input, 2 BIO input, 3 LPC cascade input (value is the global number);
- * 4 MSI slot (value is the slot, node its EIO's node; node is 0 in every other kind).
+ * 4 MSI slot (value is the slot, node its EIO's node, 0 on an HT board; node is 0 in every other kind).
  */
 uint64_t yasmirand_trace(const uint8_t *capture, size_t capture_len, uint32_t vector, uint32_t number);
 

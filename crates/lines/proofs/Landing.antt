@@ -16,7 +16,7 @@ use Rattle.kinds.specs.declared.Ht.{Ht}
 use Rattle.kinds.specs.declared.Eio.{Eio}
 use Rattle.parts.specs.Inputs.{coreVector, inputFor}
 use Rattle.lines.specs.Says.{Said}
-use Rattle.lines.specs.Hubs.{Hub, eioHub, htHub, hubsOf, enters}
+use Rattle.lines.specs.Hubs.{eioHub, htHub, hubsOf, enters}
 use Rattle.lines.specs.Routes.{through}
 use Rattle.lines.specs.Traces.{landed, comesBy, hubTraced}
 use Rattle.lines.specs.declared.Route.the-variants.{Arrives, NoOwner}

@@ -1,10 +1,10 @@
 -- A map that passes the quick test breaks none of 41, 42 and 51 to 53, wherever its structures stand.
 use Prim.Native.Nat.{ℕ}
 use native.Mathlib.Omega.{arith}
-use mathlib.Core.Path.{_≡_, refl, sym, _∙_}
+use mathlib.Core.Path.{_≡_, refl, _∙_}
 use mathlib.Core.Logic.{_⊎_, inl, inr, ⊎-elim}
 use mathlib.Core.List.{List, [], _∷_, _++_, List·Memᴰ, List·Memᴰ·head, List·Memᴰ·not-nil, List·Memᴰ·cases-cons, List·Memᴰ·append-cases, List·Memᴰ·eq-of-singleton}
-use mathlib.Core.Bool.{Bool, true, false, not, _&&_, _||_, and-false, and-assoc, true≢false}
+use mathlib.Core.Bool.{Bool, true, false, not, _&&_, _||_, and-false}
 use borrow.Author.Tests.{le-ltb, not-true}
 use lib.Dec.{eqb}
 use Rattle.words.specs.Lists.{every}
@@ -16,7 +16,7 @@ use Rattle.clashes.specs.Search.{firstClash}
 use Rattle.clashes.specs.Told.{atLater, atBoth, spotted}
 use Rattle.clashes.specs.declared.Claim.{Claim}
 use Rattle.clashes.specs.declared.Pair.the-variants.{None}
-use Rattle.clashes.proofs.Logic.{and-left, and-right, is-false}
+use Rattle.clashes.proofs.Logic.{and-left, and-right}
 use Rattle.clashes.proofs.Apart.{apart-clash, apart-clash-back}
 use Rattle.clashes.proofs.Searched.{hits, quiet as none-hits, lone-none}
 use Rattle.parts.specs.Claims.{noRun, lioClaim, eioClaim, bioClaim, msiClaim}

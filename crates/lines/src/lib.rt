@@ -24,12 +24,12 @@ pub const MOST: u8 = 4;
 // is what an absent LIO, HT or LPC or an unused half holds: nothing looks at them.
 pub struct Map {
     pub lio: Lio,
-    pub ht: Ht,
     pub lpc: Lpc,
     pub sci: u16,
     pub eiocount: u8,
     pub biocount: u8,
     pub msicount: u8,
+    pub ht: Ht,
     pub eios: [Eio; 4],
     pub bios: [Bio; 4],
     pub msis: [Msi; 4],

@@ -1,6 +1,6 @@
-// The rules that a map must keep from 38 on, 34 among them, each in document 01's words, and their order: the lowest line that applies wins.
-// A map comes with the places of its structures in the table; one that has none is given places of its own, since whether a
-// rule is broken does not hang on them.
+// The rules that a map must keep from 38 on, 34 among them, each in the documents' words, and their order: the lowest line that
+// applies wins. A map comes with the places of its structures in the table; one that has none is given places of its own, since
+// whether a rule is broken does not hang on them.
 use crate::MOST;
 use crate::Map;
 use crate::Places;

@@ -21,7 +21,7 @@ use Rattle.words.proofs.Tests.{both-left, both-right, neither-left}
 use Rattle.kinds.specs.Makers.{reservedFlags, coreOf, lioOf, htOf, eioOf, msiOf, bioOf, lpcOf}
 use Rattle.kinds.specs.Ranges.{cascadeFits, nodeFits, nodesFit, countFits, endFits, baseFits, inputFits, byteFits, halvesFit, lioField, htField, eioField, msiField, bioField, lpcField, bitInBoth}
 use Rattle.madt.specs.Rules.{isType, byType, isKnown, lengthOf, wrongLength, wrongVersion, wrongFlags, wrongCascade, wrongNode, wrongNodes, wrongCount, wrongEnd, wrongBase, wrongInput, wrongByte, sharedBit, oneTooMany, structureRules}
-use Rattle.madt.proofs.Types.{type-yes, type-no, of-core, of-lio, of-ht, of-eio, of-msi, of-bio, of-lpc, of-other}
+use Rattle.madt.proofs.Types.{type-no, of-core, of-lio, of-ht, of-eio, of-msi, of-bio, of-lpc, of-other}
 
 above : {n m : ℕ} → n ≤ m → (m ≡ n → ⊥) → suc n ≤ m
 above l h = ⊎-elim (λ e. absurd (h (sym e))) (λ k. k) (eq-or-lt-of-le l)

@@ -1,5 +1,5 @@
 -- The hubs of a map, one by one: the HT, or the EIO. And rule 42: every bridge has a hub of its node, or the first that has none is named.
-use Prim.Native.Nat.{ℕ, _<_, _≤_}
+use Prim.Native.Nat.{ℕ, _<_}
 use native.Mathlib.Omega.{arith}
 use mathlib.Core.Path.{_≡_, refl, sym, _∙_, ap, subst}
 use mathlib.Core.Logic.{_⊎_, inl, inr, ⊎-elim}

@@ -4,7 +4,7 @@ use native.Mathlib.Omega.{arith}
 use mathlib.Core.Path.{_≡_, refl, sym, _∙_, ap}
 use mathlib.Core.Logic.{⊎-elim}
 use mathlib.Core.List.{_∷_}
-use mathlib.Core.Bool.{true, false, not, _&&_, true≢false}
+use mathlib.Core.Bool.{true, not, _&&_, true≢false}
 use borrow.Author.Tests.{eqb-true, not-true, not-false}
 use lib.Bits.{bitAnd}
 use lib.Dec.{eqb}

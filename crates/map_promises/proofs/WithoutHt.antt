@@ -1,19 +1,16 @@
 -- A map without an HT is judged, routed and traced as when there were none.
-use Prim.Native.Nat.{ℕ, _-_, _≤_, _<_}
-use mathlib.Core.Path.{_≡_, refl, sym, _∙_, ap}
-use mathlib.Core.Bool.{Bool, true, false, not, _||_, and-true}
-use mathlib.Core.List.{List}
+use Prim.Native.Nat.{ℕ, _-_}
+use mathlib.Core.Path.{_≡_, _∙_, ap}
+use mathlib.Core.Bool.{Bool, false, not, _||_, and-true}
 use lib.Dec.{eqb}
 use lib.ListN.{length}
 use Rattle.words.specs.Choice.{if}
 use Rattle.words.specs.Refusals.{rule}
-use Rattle.clashes.specs.Search.{firstLone}
-use Rattle.clashes.specs.Told.{spotted}
 use Rattle.parts.specs.Inputs.{leads, isNamed, namesUnwired}
 use Rattle.lines.specs.Says.{Said, says}
 use Rattle.lines.specs.Hubs.{hubs, nodesOf}
 use Rattle.lines.specs.Routes.{through}
-use Rattle.lines.specs.Traces.{hubTraced, ledByLio, traced}
+use Rattle.lines.specs.Traces.{ledByLio, traced}
 use Rattle.lines.specs.declared.Map.{Map}
 use Rattle.lines.proofs.Landing.{eios-only, through-eios, traced-eios, hubs-counted}
 use Rattle.map_promises.specs.Statements.{WithoutHtAsBefore}

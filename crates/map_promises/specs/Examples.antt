@@ -215,7 +215,7 @@ no26 map = example map (number 26) (routed (Refused badMap))
 -- ---- each rule broken alone
 unfoldable pub brokenAlone : List Example
 brokenAlone =
-    -- 71 to 77
+    -- 71 to 78
     no72 (withEios (eios (eio 1 0 ∷ [])))
     ∷ no72 (withEios (eios (eio 10 0 ∷ [])))
     ∷ no72 (withEios (eios (eio 3 0 ∷ eio 4 64 ∷ [])))

@@ -1,5 +1,5 @@
 -- 34 is told exactly where the structures of the MADT are of both kinds, or two of them are HT, and at the first that makes them so.
-use Prim.Native.Nat.{ℕ, _+_, _≤_}
+use Prim.Native.Nat.{ℕ, _+_}
 use native.Mathlib.Omega.{arith}
 use mathlib.Core.Path.{_≡_, refl, sym, ap, _∙_}
 use mathlib.Core.Logic.{_⊎_, inl, inr, ⊎-elim}
@@ -14,7 +14,7 @@ use Rattle.words.specs.Refusals.{refused, refusedWith, rule, unless, firstRefus
 use Rattle.words.specs.declared.Refusal.{Refusal}
 use Rattle.words.specs.declared.Verdict.{Verdict}
 use Rattle.words.specs.declared.Verdict.the-variants.{Sound, Refused}
-use Rattle.words.proofs.Verdicts.{not-sound, same-refusal, first-sound, unless-refused, unless-sound, first-joined, joined-kept}
+use Rattle.words.proofs.Verdicts.{not-sound, same-refusal, first-sound, unless-sound, first-joined, joined-kept}
 use Rattle.tables.specs.Survey.{survey, tablesOf, surveyRules}
 use Rattle.tables.specs.declared.Strictness.{Strictness}
 use Rattle.tables.specs.declared.Survey.{Survey}
@@ -22,7 +22,7 @@ use Rattle.tables.specs.declared.Survey.the-variants as surveys
 use Rattle.tables.specs.declared.Tables.{Tables}
 use Rattle.tables.proofs.Inside.{Accepted as TablesInside, tables-inside}
 use Rattle.clashes.proofs.Logic.{and-left, and-right, or-cases, both-true, left-true, right-true}
-use Rattle.madt.specs.Pieces.{Whole, pieces, structures}
+use Rattle.madt.specs.Pieces.{Whole, pieces}
 use Rattle.madt.specs.Rules.{isType}
 use Rattle.madt.specs.Contents.{howMany}
 use Rattle.madt.specs.Walk.{rulesInTurn, givesBoth, kindRules, walkRules}

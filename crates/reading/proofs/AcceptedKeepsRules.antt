@@ -1,5 +1,5 @@
 -- The map of an accepted capture keeps the rules: 7 held its pairs to 64 inputs, the walk gave each of its structures a place of its own
--- and kept 71 to 77, 37 and 38, no rule after the walk is broken with these places, and the places do not matter. So the C entries, which have
+-- and kept 71 to 78, 37, 38 and 34, no rule after the walk is broken with these places, and the places do not matter. So the C entries, which have
 -- an accepted capture, ask the rules no second time. And its unused places hold 0.
 use Prim.Native.Nat.{ℕ}
 use mathlib.Core.Bool.{true}

@@ -51,7 +51,8 @@ unfoldable pub processorRule : ℕ → ℕ → Verdict
 processorRule base processors = rule (eqb processors 0) 40 base
 
 -- ---- the order of all rules
--- 31 to 38 and 71 to 77 of the structures in turn; then 39 and 40 of the processors, "39 after all structures"; then 40 to 43 of the map
+-- 31 to 38 and 71 to 78 of the structures in turn, then 34; then 39 and 40 of the processors, "39 after all structures"; then 40 to 45 of
+-- the map
 unfoldable pub madtRules : List ℕ → Tables → List Verdict
 madtRules capture t =
     let table = madtBytes capture (t .madt) in

@@ -1,5 +1,5 @@
 -- `ranges::bytes_fit` tests every byte of an HT.
-use mathlib.Core.Path.{_≡_, _∙_, refl, sym, ap}
+use mathlib.Core.Path.{_≡_, ap}
 use lib.ListN.{length, take, drop}
 use lib.Seq.{take-all}
 use Prim.Native.Nat.{_-_}

@@ -1,6 +1,5 @@
 -- `Map::ht_traced` asks where the vector that the number is 256 above leads to.
-use mathlib.Core.Path.{_≡_, sym, _∙_}
-use native.Mathlib.Omega.{arith}
+use mathlib.Core.Path.{sym, _∙_}
 use borrow.Author.Needs.{needs}
 use Rattle.kinds.proofs.Used.{ht-present}
 use Rattle.lines.specs.Says.{says}

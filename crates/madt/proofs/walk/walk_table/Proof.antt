@@ -17,7 +17,7 @@ use Rattle.madt.specs.Walk.{kindRules}
 use Rattle.madt.proofs.Pieces.{sizeAt}
 use Rattle.madt.proofs.Types.{type-yes, type-no, type-other}
 use Rattle.madt.proofs.Contents.{count-more, count-same, one-more, one-same, four-more, four-same, of-another-type, by-its-flags, enabled-same, enabled-more}
-use Rattle.madt.proofs.Checks.{all-kept, room-core, room-lio, room-eio, room-msi, room-bio, room-lpc}
+use Rattle.madt.proofs.Checks.{all-kept, room-core, room-eio, room-msi, room-bio}
 use Rattle.madt.proofs.Walking.{Found, Noting, noting-same, noting-more, kinds-more, kinds-same, both-at-ht, both-at-eio, Walking, walk-starts, made-by, core-room, eio-room, msi-room, bio-room, walk-ends, walk-mixes, walk-cuts, walk-refuses, walk-goes-on}
 use borrow.Author.Needs.{needs}
 use Rattle.madt.proofs.walk.walk_table.Statement.{statement}
