@@ -19,3 +19,6 @@ pub mod Readings
 pub mod Processors
 pub mod OneKind
 pub mod Pairs
+pub mod MovedClaims
+pub mod MovedRules
+pub mod Moved

@@ -94,7 +94,7 @@ module _ (capture : List ℕ) where
       (omega arith)
 
 -- 40: there is a LIO
-lio-there : (said : Said) (madt : ℕ) → rule40 said madt ≡ Sound → said .lio .present ≡ true
+pub lio-there : (said : Said) (madt : ℕ) → rule40 said madt ≡ Sound → said .lio .present ≡ true
 lio-there said madt h =
     let absent = not (said .lio .present) in
     let none = eqb (length (hubs said)) 0 in

@@ -1,5 +1,5 @@
--- 7 is told exactly where a pair breaks it, the map's bridges have the counts that the pairs give, a version 1 capture gets the answers
--- that it got before, and pairs that name no bridge change nothing.
+-- 7 is told exactly where a pair breaks it, the map's bridges have the counts that the pairs give, and a version 1 capture gets the answers
+-- that it got before.
 use Prim.Native.Nat.{ℕ, zero, suc, _+_, _*_, _<_}
 use native.Mathlib.Omega.{arith}
 use mathlib.Core.Bool.{Bool, true, false, not, _&&_, true≢false}
@@ -35,7 +35,7 @@ use Rattle.tables.proofs.Inside.{survey-told, kept-inside, tables-inside}
 use Rattle.tables.specs.declared.Tables.{Tables}
 use Rattle.lines.specs.Says.{Said, says}
 use Rattle.lines.specs.Rules.{noInput, rangesKept, rulesTo45, rulesFrom51, mapRules}
-use Rattle.madt.specs.Walk.{walkRules, walked}
+use Rattle.madt.specs.Walk.{walkRules}
 use Rattle.madt.proofs.Accepted.{walk-verdict}
 use Rattle.processors.specs.Listing.{count}
 use Rattle.processors.specs.Repeats.{firstRepeat}
@@ -44,15 +44,14 @@ use Rattle.processors.specs.declared.Repeat.the-variants.{At, Nowhere}
 use Rattle.map_promises.specs.Sources.{bioAt}
 use Rattle.map_promises.specs.Clashing.{OnePlace, Exactly}
 use Rattle.map_promises.proofs.Bridges.{no-input}
-use Rattle.map_promises.proofs.OnlyItsBridges.{only-its-bridges}
 use Rattle.map_promises.proofs.Ranged.{lpc-fits}
 use Rattle.map_promises.proofs.Verdicts.{rule-read, told-at}
 use Rattle.map_promises.proofs.WalkKeepsBooks.{walk-counts, walk-keeps-books}
-use Rattle.reading.specs.Scan.{madtBytes, walkOf, turnedDown, repeatRule, processorRule, madtRules, lineRules, scan}
+use Rattle.reading.specs.Scan.{madtBytes, walkOf, turnedDown, repeatRule, processorRule, scan}
 use Rattle.reading.specs.declared.Scan.{Scan}
-use Rattle.reading.proofs.Laws.{laterRules, scan-refused, scan-found}
+use Rattle.reading.proofs.Laws.{laterRules, scan-refused}
 use Rattle.reading.proofs.Scanned.{scanned, found-verdict}
-use Rattle.promises.specs.Pairs.{numberOf, Gives, KeepsTo6, Wrong, WrongPair, FirstWrong, SevenExactly, AcceptedIsCounted, VersionOneAsBefore, SameGiven, OnlyItsPairs}
+use Rattle.promises.specs.Pairs.{numberOf, Gives, KeepsTo6, Wrong, WrongPair, FirstWrong, SevenExactly, AcceptedIsCounted, VersionOneAsBefore, HasPins}
 use Rattle.promises.specs.Captures.{Accepted}
 use Rattle.promises.proofs.Told.{isOfTables, is29Or30, isTo30, isOfStructures, isAfter30, isNot, told-not, not-told, joined-told}
 use Rattle.promises.proofs.TableRefusals.{stands, rulesFrom10, from-10-told, fields-told, survey-told as survey-numbers}
@@ -389,15 +388,10 @@ module _ (strictness : Strictness) (capture : List ℕ) (one : version capture �
           true≢false (sym ((rw e at (survey-numbers strictness capture)) .1) ∙ ap (λ (r : Refusal). isTo30 (r .number)) same)
       by-survey (surveys.Found t) e = by-walk t e (walkOf capture t .verdict) refl (sym (found-verdict strictness capture e) ∙ told)
 
--- ---- pairs of other hardware IDs
-same-pins : (capture other : List ℕ) → verdict capture ≡ Sound → verdict other ≡ Sound → (id : ℕ) → SameGiven capture other id
-    → pinsOf (pairsOf capture) id ≡ pinsOf (pairsOf other) id
-same-pins capture other sound too id same =
-    ⊎-elim
-    (λ w.
-    let there = same .there (w .0) (w .1) in
-    heard capture sound (w .0) id (w .1) ∙ sym (there .2) ∙ sym (heard other too (there .0) id (there .1)))
-    (λ never. unheard capture id never ∙ sym (unheard other id (λ k g. let back = same .back k g in never (back .0) (back .1))))
+-- ---- two captures that have the same counts
+pub has-pins : (capture : List ℕ) → verdict capture ≡ Sound → (id n : ℕ) → HasPins capture id n → pinsOf (pairsOf capture) id ≡ n
+has-pins capture sound id n h =
+    ⊎-elim (λ w. heard capture sound (w .0) id (w .1) ∙ sym (h .told (w .0) (w .1))) (λ never. unheard capture id never ∙ sym (h .else64 never))
     (given-or-not capture id)
 
 -- THE PROMISES
@@ -406,29 +400,14 @@ seven-exactly strictness capture =
     record { scanned = scanned-seven strictness capture; read = λ list. of-scan strictness capture list 7 (omega arith) (scanned-seven strictness capture) }
 
 pub accepted-is-counted : (strictness : Strictness) (capture : List ℕ) → AcceptedIsCounted strictness capture
-accepted-is-counted strictness capture h =
+accepted-is-counted strictness capture h j l =
     let w = of-pairs strictness capture h in
-    record {
-      told = λ j k l g. w .1 j l ∙ heard capture (w .0) k _ g;
-      else64 = λ j l never. w .1 j l ∙ unheard capture _ never;
-    }
+    record { told = λ k g. w .1 j l ∙ heard capture (w .0) k _ g; else64 = λ never. w .1 j l ∙ unheard capture _ never }
 
 pub version-one-as-before : (strictness : Strictness) (capture : List ℕ) → VersionOneAsBefore strictness capture
 version-one-as-before strictness capture one =
     record {
-      pins = λ h j l. accepted-is-counted strictness capture h .else64 j l (λ k g. given-none strictness capture one k _ g);
+      pins = λ h j l. accepted-is-counted strictness capture h j l .else64 (λ k g. given-none strictness capture one k _ g);
       no7 = λ p q told. let w = scanned-seven strictness capture .0 p q told .0 .1 .1 .paired in omega (arith, one, w);
       no45 = not-45 strictness capture one;
     }
-
-pub only-its-pairs : (strictness : Strictness) (capture other : List ℕ) (t : Tables) → OnlyItsPairs strictness capture other t
-unfolding madtRules lineRules
-only-its-pairs strictness capture other t found too bytes same =
-    let sound = tables-inside strictness capture t found .sound in
-    let sounder = tables-inside strictness other t too .sound in
-    let walks : walkOf capture t ≡ walkOf other t =
-    only-its-bridges (madtBytes capture (t .madt)) (t .madt .place) (t .sci) _ _
-    (λ before later x e b. same-pins capture other sound sounder _ (same before later x e b))
-    ∙ ap (λ (table : List ℕ). walked table (t .madt .place) (t .sci) (pinsOf (pairsOf other))) bytes
-    in
-    scan-found strictness capture found ∙ rw (walks, bytes) refl ∙ sym (scan-found strictness other too)

@@ -132,7 +132,7 @@ front-differ numbers rest n long d =
     }
 
 -- and so of a list that was filled
-same-count : {a b : ℕ} → _≡_ {A = Answer} (Read a) (Read b) → a ≡ b
+pub same-count : {a b : ℕ} → _≡_ {A = Answer} (Read a) (Read b) → a ≡ b
 same-count e = cc
 
 filled-differ : (table list : List ℕ) (map : Map) (n : ℕ) → AllDiffer (processors table) (count table) → answered table map list .answer ≡ Read n

@@ -6,6 +6,7 @@ pub mod OneKind
 pub mod Memory
 pub mod RefusalTable
 pub mod Calls
+pub mod Moved
 pub mod OneAnswer
 pub mod EveryResult
 pub mod BoardA

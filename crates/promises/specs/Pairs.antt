@@ -72,15 +72,18 @@ pub record SevenExactly (strictness : Strictness) (capture : List ℕ) : Type 0 
       → Exactly (λ p q. readingOf strictness capture list .answer ≡ NotRead (refusedWith 7 p q))
       (KeepsTo6 capture × ((k : ℕ) × WrongPair capture k)) (OnePlace (FirstWrong capture))
 
--- ---- "The map's BIO gets this count": of an accepted capture, each BIO of the map has
-pub record Counted (capture : List ℕ) (said : Said) : Type 0 where
-  -- the number of a pair that gives its hardware ID,
-  pub told : (j k : ℕ) → j < length (said .bios) → Gives capture k (bioAt said j .node) → bioAt said j .pins ≡ numberOf capture k
+-- ---- "The map's BIO gets this count": the bridges with a hardware ID have n inputs,
+pub record HasPins (capture : List ℕ) (id n : ℕ) : Type 0 where
+  -- the number of a pair that gives it,
+  pub told : (k : ℕ) → Gives capture k id → n ≡ numberOf capture k
   -- and 64 "without a pair"
-  pub else64 : (j : ℕ) → j < length (said .bios) → ((k : ℕ) → Gives capture k (bioAt said j .node) → ⊥) → bioAt said j .pins ≡ 64
+  pub else64 : ((k : ℕ) → Gives capture k id → ⊥) → n ≡ 64
 
+-- and so has each BIO in the map of an accepted capture
 abbrev pub AcceptedIsCounted : Strictness → List ℕ → Type 0
-AcceptedIsCounted strictness capture = Accepted strictness capture → Counted capture (says (scan strictness capture .map))
+AcceptedIsCounted strictness capture =
+    Accepted strictness capture → let said = says (scan strictness capture .map) in
+    (j : ℕ) → j < length (said .bios) → HasPins capture (bioAt said j .node) (bioAt said j .pins)
 
 -- ---- "or of a version 1 capture": it gets the answers that it got before. Every BIO has 64 inputs, and neither 7 nor 45 is given
 pub record AsBefore (strictness : Strictness) (capture : List ℕ) : Type 0 where
@@ -91,18 +94,3 @@ pub record AsBefore (strictness : Strictness) (capture : List ℕ) : Type 0 wher
 
 abbrev pub VersionOneAsBefore : Strictness → List ℕ → Type 0
 VersionOneAsBefore strictness capture = version capture ≡ 1 → AsBefore strictness capture
-
--- ---- pairs that are empty, or name no BIO, change nothing but 7
--- two captures give a hardware ID with the same number, or neither gives it
-pub record SameGiven (capture other : List ℕ) (id : ℕ) : Type 0 where
-  pub there : (k : ℕ) → Gives capture k id → (j : ℕ) × Gives other j id × (numberOf other j ≡ numberOf capture k)
-  pub back : (k : ℕ) → Gives other k id → (j : ℕ) × Gives capture j id × (numberOf capture j ≡ numberOf other k)
-
--- two captures with the same tables, the MADT's bytes among them, that break no rule up to 30 and give the hardware ID of each BIO alike:
--- all is found alike, or refused alike
-abbrev pub OnlyItsPairs : Strictness → List ℕ → List ℕ → Tables → Type 0
-OnlyItsPairs strictness capture other t =
-    survey strictness capture ≡ Found t → survey strictness other ≡ Found t → madtBytes capture (t .madt) ≡ madtBytes other (t .madt)
-    → ((before later : List Whole) (x : Whole) → structures (pieces (madtBytes capture (t .madt)) 44) ≡ before ++ (x ∷ later)
-    → isType 22 (x .bytes) ≡ true → SameGiven capture other (bioOf (x .bytes) .node))
-    → scan strictness capture ≡ scan strictness other

@@ -1,0 +1,290 @@
+-- Two captures of one board, wherever its tables lie: what is accepted gives equal maps, lists, answers and texts, and what is refused from 29
+-- on is refused alike.
+use Prim.Native.Nat.{ℕ, _+_, _*_, _≤_}
+use native.Mathlib.Omega.{arith}
+use mathlib.Core.Bool.{Bool, true, false, not}
+use mathlib.Core.List.{List, [], _∷_, _++_}
+use mathlib.Core.Logic.{⊎-elim}
+use mathlib.Core.Path.{_≡_, refl, sym, ap, _∙_}
+use lib.Dec.{eqb}
+use lib.ListN.{take, drop}
+use lib.Seq.{take-at, getD-take, getD-drop}
+use Rattle.words.specs.Bytes.{byteAt, numberAt}
+use Rattle.words.specs.Refusals.{refused, unless, firstRefusal}
+use Rattle.words.specs.declared.Refusal.{Refusal}
+use Rattle.words.specs.declared.Verdict.{Verdict}
+use Rattle.words.specs.declared.Verdict.the-variants.{Sound, Refused}
+use Rattle.words.proofs.Choices.{yes-if}
+use Rattle.words.proofs.Numbers.{number-take, number-drop}
+use Rattle.words.proofs.Verdicts.{unless-refused, unless-sound, first-joined}
+use Rattle.capture.specs.Fields.{version}
+use Rattle.capture.specs.Pairs.{pairsOf, pinsOf}
+use Rattle.capture.specs.Rules.{verdict}
+use Rattle.tables.specs.Table.{revision}
+use Rattle.tables.specs.Survey.{wrongMadtRevision, wrongFlags, madtFieldRules, withSci, tablesFrom, tablesOf, rulesBefore29, surveyRules, survey}
+use Rattle.tables.specs.declared.Strictness.{Strictness}
+use Rattle.tables.specs.declared.Strictness.the-variants.{Ordinary, Strict}
+use Rattle.tables.specs.declared.Survey.the-variants as surveys
+use Rattle.tables.specs.declared.Tables.{Tables}
+use Rattle.tables.proofs.Inside.{survey-is, kept-inside, tables-inside}
+use Rattle.lines.specs.Answers.{routeOf, traceOf, routeCode, traceCode}
+use Rattle.lines.specs.declared.Map.{Map}
+use Rattle.madt.specs.Pieces.{pieces, structures}
+use Rattle.madt.specs.Contents.{mapOf, foundIn}
+use Rattle.madt.specs.Walk.{walkRules, walked}
+use Rattle.madt.specs.declared.Found.{Found}
+use Rattle.madt.specs.declared.Walked.{Walked}
+use Rattle.madt.proofs.Accepted.{walk-verdict}
+use Rattle.processors.specs.Image.{image}
+use Rattle.processors.specs.Listing.{processors, count, hasRoom, written, filled}
+use Rattle.processors.proofs.Filling.{twice-all}
+use Rattle.processors.proofs.Image.{eight-each}
+use Rattle.map_promises.proofs.OnlyItsBridges.{only-its-bridges}
+use Rattle.reading.specs.Scan.{madtBytes, walkOf, scan}
+use Rattle.reading.specs.Reading.{withoutMap, answered, madtFound, readingOf, listAfter}
+use Rattle.reading.specs.Entries.{readResult, bytesAfter, routeResult, traceResult}
+use Rattle.reading.specs.declared.Answer.{Answer}
+use Rattle.reading.specs.declared.Answer.the-variants.{Read, Refused as NotRead}
+use Rattle.reading.specs.declared.Reading.{Reading}
+use Rattle.reading.proofs.Laws.{laterRules, after-walk, in-two, answered-read, answered-60}
+use Rattle.reading.proofs.Scanned.{scan-verdict, scanned, found-madt}
+use Rattle.text.specs.Lines.{each}
+use Rattle.text.specs.Text.{mapParts, mapText, textOf}
+use Rattle.promises.specs.Calls.{HasRead}
+use Rattle.promises.specs.Captures.{Accepted}
+use Rattle.promises.specs.Processors.{madtOf}
+use Rattle.promises.specs.Readings.{madtPlace, madtRevision, KeepsTo28}
+use Rattle.promises.specs.Moved.{OneBoard, SameFound, MapsStay, SameRead, ListsStay, CEntriesStay, TextStays, MovedRefusal, ToldAlike, Comparable, RefusedAlike}
+use Rattle.promises.proofs.AcceptedIsTrustworthy.{refused-read}
+use Rattle.promises.proofs.MovedRules.{more-alike, joined-alike, none-alike, at-start-alike, walk-found, rules-alike}
+use Rattle.promises.proofs.Pairs.{has-pins}
+use Rattle.promises.proofs.Processors.{same-count}
+use Rattle.promises.proofs.WhyRefused.{why-refused}
+
+-- ---- what an accepted capture is found to hold, by its own tables
+module _ (strictness : Strictness) (capture : List ℕ) (accepted : Accepted strictness capture) where
+  tables-found : survey strictness capture ≡ surveys.Found (tablesOf capture)
+  tables-found = let s = scanned strictness capture accepted in s .tables ∙ ap surveys.Found (sym (survey-is strictness capture (s .tables)))
+
+  container-sound : verdict capture ≡ Sound
+  container-sound = tables-inside strictness capture (tablesOf capture) tables-found .sound
+
+  bytes-found : madtFound strictness capture ≡ madtOf capture
+  bytes-found = found-madt strictness capture tables-found accepted
+
+  walk-sound : firstRefusal (walkRules (madtOf capture) (madtPlace capture)) ≡ Sound
+  walk-sound =
+      let s = scanned strictness capture accepted in
+      sym (walk-verdict _ _ _ _) ∙ ap (λ (t : Tables). walkOf capture t .verdict) (survey-is strictness capture (s .tables)) ∙ s .walk
+
+  -- its map is that of the structures of its MADT
+  map-found : scan strictness capture .map ≡ mapOf (tablesOf capture .sci) (pinsOf (pairsOf capture)) (structures (pieces (madtOf capture) 44))
+  unfolding foundIn
+  map-found =
+      let s = scanned strictness capture accepted in
+      s .map
+      ∙ ap (λ (t : Tables). walkOf capture t .found .map) (sym (survey-is strictness capture (s .tables)))
+      ∙ ap (λ (f : Found). f .map) (walk-found (madtOf capture) (madtPlace capture) (tablesOf capture .sci) (pinsOf (pairsOf capture)) walk-sound)
+
+-- ---- one board
+module _ (capture other : List ℕ) (board : OneBoard capture other) (sound : verdict capture ≡ Sound) (sound′ : verdict other ≡ Sound) where
+  -- wherever its MADT stands, the walk of it finds the same
+  same-walk : (base : ℕ)
+      → walked (madtOf capture) base (tablesOf capture .sci) (pinsOf (pairsOf capture)) ≡ walked (madtOf other) base (tablesOf other .sci) (pinsOf (pairsOf other))
+  same-walk base =
+      only-its-bridges (madtOf capture) base (tablesOf capture .sci) (pinsOf (pairsOf capture)) (pinsOf (pairsOf other))
+      (λ before later x e b.
+      let n = board .pins before later x e b in
+      has-pins capture sound _ (n .0) (n .1) ∙ sym (has-pins other sound′ _ (n .0) (n .2)))
+      ∙ (rw (board .madt, board .sci) refl)
+
+module _ (this that : Strictness) (capture other : List ℕ) (board : OneBoard capture other) (accepted : Accepted this capture) (accepted′ : Accepted that other) where
+  same-map : scan this capture .map ≡ scan that other .map
+  unfolding foundIn
+  same-map =
+      let base = madtPlace capture in
+      let sound = walk-sound this capture accepted in
+      let mapIn : Walked → Map = λ w. w .found .map in
+      map-found this capture accepted
+      ∙ sym (ap (λ (f : Found). f .map) (walk-found (madtOf capture) base (tablesOf capture .sci) (pinsOf (pairsOf capture)) sound))
+      ∙ ap mapIn (same-walk capture other board (container-sound this capture accepted) (container-sound that other accepted′) base)
+      ∙ ap (λ (f : Found). f .map) (walk-found (madtOf other) base (tablesOf other .sci) (pinsOf (pairsOf other)) (rw (board .madt) at sound))
+      ∙ sym (map-found that other accepted′)
+
+  same-table : madtFound this capture ≡ madtFound that other
+  same-table = bytes-found this capture accepted ∙ board .madt ∙ sym (bytes-found that other accepted′)
+
+-- ---- what a reading that answers leaves behind
+record HasAnswered (strictness : Strictness) (capture list : List ℕ) (n : ℕ) : Type 0 where
+  pub accepted : Accepted strictness capture
+  pub counted : count (madtFound strictness capture) ≡ n
+  pub map : readingOf strictness capture list .map ≡ scan strictness capture .map
+  pub written : take (2 * n) (listAfter strictness capture list) ≡ processors (madtFound strictness capture)
+
+has-answered : (strictness : Strictness) (capture list : List ℕ) (n : ℕ) → readingOf strictness capture list .answer ≡ Read n
+    → HasAnswered strictness capture list n
+unfolding readingOf listAfter filled written withoutMap
+has-answered strictness capture list n h = by-verdict (scan strictness capture .verdict) refl
+  where
+    table : List ℕ
+    table = madtFound strictness capture
+
+    by-room : Accepted strictness capture → (b : Bool) → hasRoom (processors table) list ≡ b → HasAnswered strictness capture list n
+    by-room accepted true room =
+        let answer = unless-sound withoutMap _ _ accepted ∙ answered-read table (scan strictness capture .map) list room in
+        let counted = same-count (ap (λ (r : Reading). r .answer) (sym answer) ∙ h) in
+        record {
+          accepted = accepted;
+          counted = counted;
+          map = ap (λ (r : Reading). r .map) answer;
+          written =
+              ap (take (2 * n)) (unless-sound _ _ _ accepted ∙ yes-if _ _ _ room)
+              ∙ take-at (processors table) _ (2 * n) (twice-all table ∙ ap (λ (k : ℕ). 2 * k) counted);
+        }
+    by-room accepted false short =
+        let answer = unless-sound withoutMap _ _ accepted ∙ answered-60 table (scan strictness capture .map) list short in
+        refused-read (ap (λ (r : Reading). r .answer) (sym answer) ∙ h)
+
+    by-verdict : (v : Verdict) → scan strictness capture .verdict ≡ v → HasAnswered strictness capture list n
+    by-verdict Sound e = by-room e (hasRoom (processors table) list) refl
+    by-verdict (Refused r) e = refused-read (ap (λ (r : Reading). r .answer) (sym (unless-refused withoutMap _ _ e)) ∙ h)
+
+-- ---- from 29 on, where no rule before it is broken
+module _ (strictness : Strictness) (capture : List ℕ) (kept : KeepsTo28 capture) where
+  from-29 : let t = tablesOf capture in
+      scan strictness capture .verdict ≡ firstRefusal (madtFieldRules strictness capture (t .madt) ++ (walkRules (madtOf capture) (madtPlace capture) ++ laterRules capture t))
+  unfolding surveyRules tablesOf tablesFrom withSci
+  from-29 =
+      let t = tablesOf capture in
+      let fields = madtFieldRules strictness capture (t .madt) in
+      let rest = walkRules (madtOf capture) (madtPlace capture) ++ laterRules capture t in
+      scan-verdict strictness capture
+      ∙ ap firstRefusal (in-two strictness capture ∙ ap (λ (vs : List Verdict). surveyRules strictness capture ++ vs) (after-walk capture t))
+      ∙ first-joined (surveyRules strictness capture) rest
+      ∙ ap (λ (v : Verdict). unless Refused v (firstRefusal rest)) (first-joined (rulesBefore29 capture) fields ∙ unless-sound Refused _ _ kept)
+      ∙ sym (first-joined fields rest)
+
+  -- revision and flags are among the MADT's bytes
+  revision-there : byteAt (madtOf capture) 8 ≡ madtRevision capture
+  unfolding madtBytes revision
+  revision-there =
+      let long = kept-inside capture kept .madt .long in
+      getD-take (tablesOf capture .madt .length) (drop (madtPlace capture) capture) 8 0 (omega arith) ∙ getD-drop (madtPlace capture) capture 8 0
+
+  flags-there : numberAt 4 (madtOf capture) 40 ≡ numberAt 4 capture (madtPlace capture + 40)
+  unfolding madtBytes
+  flags-there =
+      let long = kept-inside capture kept .madt .long in
+      number-take 4 (drop (madtPlace capture) capture) (tablesOf capture .madt .length) 40 (omega arith) ∙ number-drop 4 capture (madtPlace capture) 40
+
+agree-on-1 : (this that : Strictness) → wrongMadtRevision this 1 ≡ wrongMadtRevision that 1
+unfolding wrongMadtRevision
+agree-on-1 Ordinary Ordinary = refl
+agree-on-1 Ordinary Strict = refl
+agree-on-1 Strict Ordinary = refl
+agree-on-1 Strict Strict = refl
+
+module _ (this that : Strictness) (capture other : List ℕ) (board : OneBoard capture other) (kept : KeepsTo28 capture) (kept′ : KeepsTo28 other)
+    (comparable : Comparable this that capture) where
+  abbrev here : Tables
+  here = tablesOf capture
+
+  abbrev there : Tables
+  there = tablesOf other
+
+  same-revision : wrongMadtRevision this (madtRevision capture) ≡ wrongMadtRevision that (madtRevision other)
+  same-revision =
+      ⊎-elim (λ e. ap (λ (s : Strictness). wrongMadtRevision s (madtRevision capture)) e) (λ one. rw one (agree-on-1 this that)) comparable
+      ∙ ap (wrongMadtRevision that) (sym (revision-there that capture kept) ∙ ap (λ (table : List ℕ). byteAt table 8) (board .madt) ∙ revision-there that other kept′)
+
+  same-flags : wrongFlags capture (here .madt) ≡ wrongFlags other (there .madt)
+  unfolding wrongFlags
+  same-flags =
+      ap (λ (n : ℕ). not (eqb n 0))
+      (sym (flags-there that capture kept) ∙ ap (λ (table : List ℕ). numberAt 4 table 40) (board .madt) ∙ flags-there that other kept′)
+
+  fields-alike : ToldAlike here there (firstRefusal (madtFieldRules this capture (here .madt))) (firstRefusal (madtFieldRules that other (there .madt)))
+  unfolding madtFieldRules
+  fields-alike =
+      rw (same-revision, same-flags)
+      (more-alike here there _ _ _ _ (at-start-alike here there (wrongMadtRevision that (madtRevision other)) 29 refl)
+      (λ y z. more-alike here there _ _ _ _ (at-start-alike here there (wrongFlags other (there .madt)) 30 refl) (λ y z. none-alike here there)))
+
+  same-later : ToldAlike here there (firstRefusal (walkRules (madtOf capture) (madtPlace capture) ++ laterRules capture here))
+      (firstRefusal (walkRules (madtOf other) (madtPlace other) ++ laterRules other there))
+  same-later =
+      rw (same-walk capture other board (kept-inside capture kept .sound) (kept-inside other kept′ .sound) (madtPlace capture), board .madt)
+      (rules-alike here there (madtOf other) (there .sci) (pinsOf (pairsOf other)))
+
+  told-alike : ToldAlike here there (scan this capture .verdict) (scan that other .verdict)
+  told-alike =
+      rw (from-29 this capture kept, from-29 that other kept′)
+      (joined-alike here there (madtFieldRules this capture (here .madt)) (madtFieldRules that other (there .madt)) _ _ fields-alike (λ y z. same-later))
+
+  read-alike : (list room : List ℕ) (r : Refusal) → readingOf this capture list .answer ≡ NotRead r → (r .number ≡ 60 → ⊥)
+      → (q : Refusal) × (readingOf that other room .answer ≡ NotRead q) × MovedRefusal here there r q
+  unfolding readingOf withoutMap
+  read-alike list room r h not60 =
+      ⊎-elim (λ told. go told (scan that other .verdict) refl) (λ w. absurd (not60 (ap (λ (r : Refusal). r .number) (sym (w .1))))) (why-refused this capture list r h)
+    where
+      go : scan this capture .verdict ≡ Refused r → (v : Verdict) → scan that other .verdict ≡ v
+          → (q : Refusal) × (readingOf that other room .answer ≡ NotRead q) × MovedRefusal here there r q
+      go told Sound e = absurd (rw (told, e) at told-alike)
+      go told (Refused q) e = (q, ap (λ (x : Reading). x .answer) (unless-refused withoutMap _ _ e), rw (told, e) at told-alike)
+
+-- THE PROMISES
+pub maps-stay : (this that : Strictness) (capture other : List ℕ) → MapsStay this that capture other
+maps-stay this that capture other board accepted accepted′ =
+    let map = same-map this that capture other board accepted accepted′ in
+    let table = same-table this that capture other board accepted accepted′ in
+    record {
+      map = map;
+      list = ap processors table;
+      count = ap count table;
+      routes = λ number. ap (λ (m : Map). routeOf m number) map;
+      traces = λ vector number. ap (λ (m : Map). traceOf m vector number) map;
+    }
+
+pub lists-stay : (this that : Strictness) (capture other : List ℕ) → ListsStay this that capture other
+lists-stay this that capture other board list room n m h h′ =
+    let here = has-answered this capture list n h in
+    let there = has-answered that other room m h′ in
+    let same = maps-stay this that capture other board (here .accepted) (there .accepted) in
+    record {
+      count = sym (here .counted) ∙ same .count ∙ there .counted;
+      map = here .map ∙ same .map ∙ sym (there .map);
+      written = here .written ∙ same .list ∙ sym (there .written);
+    }
+
+pub c-entries-stay : (capture other : List ℕ) → CEntriesStay capture other
+unfolding routeResult traceResult
+c-entries-stay capture other board accepted accepted′ =
+    let same = maps-stay Strict Strict capture other board accepted accepted′ in
+    record {
+      routes = λ number. unless-sound _ _ _ accepted ∙ ap routeCode (same .routes number) ∙ sym (unless-sound _ _ _ accepted′);
+      traces = λ vector number. unless-sound _ _ _ accepted ∙ ap traceCode (same .traces vector number) ∙ sym (unless-sound _ _ _ accepted′);
+      counts = λ list room r r′. r .result ∙ same .count ∙ sym (r′ .result);
+      bytes = λ list room r r′. in-front r ∙ ap image (same .list) ∙ sym (in-front r′);
+    }
+  where
+    in-front : {capture list : List ℕ} → HasRead capture list → take (8 * readResult capture list) (bytesAfter capture list) ≡ image (processors (madtFound Strict capture))
+    in-front {capture} {list} r =
+        ap (take (8 * readResult capture list)) (r .bytes)
+        ∙ take-at (image (processors (madtFound Strict capture))) _ (8 * readResult capture list) (eight-each (madtFound Strict capture) ∙ ap (λ (n : ℕ). 8 * n) (sym (r .result)))
+
+pub text-stays : (capture other : List ℕ) → TextStays capture other
+unfolding textOf mapText mapParts each
+text-stays capture other board accepted accepted′ =
+    let same = maps-stay Strict Strict capture other board accepted accepted′ in
+    let there : textOf other ≡ mapText (version other) (processors (madtFound Strict capture)) (scan Strict capture .map) =
+    unless-sound _ _ _ accepted′ ∙ (rw (same .list, same .map) refl) in
+    record {
+      lines = _;
+      here = unless-sound _ _ _ accepted;
+      there = there;
+      whole = λ e. unless-sound _ _ _ accepted ∙ ap (λ (v : ℕ). mapText v (processors (madtFound Strict capture)) (scan Strict capture .map)) e ∙ sym there;
+    }
+
+pub refused-alike : (this that : Strictness) (capture other : List ℕ) → RefusedAlike this that capture other
+refused-alike this that capture other board kept kept′ comparable =
+    record { scanned = told-alike this that capture other board kept kept′ comparable; read = read-alike this that capture other board kept kept′ comparable }
