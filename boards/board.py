@@ -43,15 +43,28 @@ def capture(segments, rsdp=None, mark=b"TBC", version=None, pairs=None, count=No
     return head + le(total, 4) + le(segments[0][0] if rsdp is None else rsdp, 8) + told + body
 
 
+def number_at(data, at, width):
+    return int.from_bytes(data[at:at + width], "little")
+
+
 def segments_of(data):
-    """The segments (address, bytes) of a sound capture of version 1."""
-    count, segments = data[5], []
-    at = 18 + 12 * count
-    for place in range(18, at, 12):
-        address, length = (int.from_bytes(data[a:b], "little") for a, b in ((place, place + 8), (place + 8, place + 12)))
-        segments.append((address, data[at:at + length]))
-        at += length
+    """The segments (address, place, length) of a sound capture."""
+    head = 18 if data[3] == 1 else 18 + 2 * PAIRS
+    segments, place = [], head + 12 * data[5]
+    for at in range(head, place, 12):
+        segments.append((number_at(data, at, 8), place, number_at(data, at + 8, 4)))
+        place += segments[-1][2]
     return segments
+
+
+def pairs_of(data):
+    """The pairs of a sound capture that are not empty."""
+    return [(data[at], data[at + 1]) for at in range(18, 18 + 2 * PAIRS, 2) if data[3] == 2 and data[at + 1]]
+
+
+def place_of(data, address):
+    """Where a byte of memory stands in a sound capture."""
+    return next(place + address - start for start, place, length in segments_of(data) if start <= address < start + length)
 
 
 def cut(memory, *at, gap=0, base=BASE):
@@ -151,3 +164,37 @@ def board(structures=None, sci=75, base=BASE, pairs=None):
 
 A = board()
 assert len(A) == 538
+
+
+# A board whose firmware was rebuilt.
+
+
+def tables_of(data):
+    """The tables (place, bytes) that the XSDT of a capture names, where none of 1 to 28 is broken."""
+    xsdt = place_of(data, number_at(data, place_of(data, number_at(data, 10, 8)) + 24, 8))
+    places = [place_of(data, number_at(data, at, 8)) for at in range(xsdt + 36, xsdt + number_at(data, xsdt + 4, 4), 8)]
+    return [(place, data[place:place + number_at(data, place + 4, 4)]) for place in places]
+
+
+def place_of_table(data, signature):
+    return next(place for place, held in tables_of(data) if held.startswith(signature))
+
+
+def rebuilt(data, base=0x123456789A):
+    """The same MADT and FADT in another capture, of version 2: the tables in falling order, junk between them, around them two more that are
+    passed over, behind them the XSDT, and the RSDP last; above 4 GiB, in eight touching segments. Pairs tell the same, in falling order;
+    where there is room, one tells the 64 inputs that bridges of hardware ID 0 have without it, and one tells of no bridge."""
+    tables = [table(b"SSDT", 2, 9 * b"APIC")] + [held for _, held in tables_of(data)][::-1] + [table(b"OEM1", 255, bytes(range(200)))]
+    junk, memory, addresses = bytes([17, 15, 1, 165, 0]), b"", []
+    for held in tables:
+        memory += junk
+        addresses.append(base + len(memory))
+        memory += held
+    xsdt = base + len(memory)
+    memory += table(b"XSDT", 1, b"".join(le(address, 8) for address in addresses))
+    root = base + len(memory)
+    memory += rsdp(xsdt)
+    pairs = pairs_of(data)[::-1]
+    pairs += [pair for pair in ((0, 64), (200, 7)) if pair[0] not in dict(pairs)]
+    at = [len(memory) * k // 8 for k in range(9)]
+    return capture([(base + a, memory[a:b]) for a, b in zip(at, at[1:])], rsdp=root, pairs=pairs[:PAIRS])

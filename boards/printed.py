@@ -5,7 +5,7 @@
 import pathlib
 
 from board import A, BASE, STRUCTURES_OF_A, bio, board, capture, core, cut, eio, fadt, ht, image, lay, le, lengthened, lio, lpc, madt, msi
-from board import segments_of, table
+from board import rebuilt, rsdp, segments_of, table
 
 REAL = pathlib.Path(__file__).resolve().parent / "real"
 
@@ -22,10 +22,17 @@ def refused_behind(padding):
     return capture([(BASE, lay(tables))])
 
 
+def apart(madt, fadt):
+    """Each table in a segment of its own, far from the others: MADT, XSDT, FADT, RSDP."""
+    at = [0x1000, 0x90000000, 0x4000000000, (1 << 64) - 36]
+    return capture(list(zip(at, [madt, table(b"XSDT", 1, le(at[2], 8) + le(at[0], 8)), fadt, rsdp(at[1])])), rsdp=at[3])
+
+
 def with_spare_cores(name, at, spare):
     """A capture of real/ whose MADT, which has a segment of its own, gets spare CORE at an offset."""
     data = (REAL / (name + ".cap")).read_bytes()
-    segments = [(address, lengthened(held, at, spare) if held.startswith(b"APIC") else held) for address, held in segments_of(data)]
+    segments = [(address, data[place:place + length]) for address, place, length in segments_of(data)]
+    segments = [(address, lengthened(held, at, spare) if held.startswith(b"APIC") else held) for address, held in segments]
     return capture(segments, rsdp=int.from_bytes(data[10:18], "little"))
 
 
@@ -46,6 +53,14 @@ PRINTED = {
     "A": (A, LINES_OF_A),
     # the same as version 2, without pairs
     "A-version-2": (board(pairs=()), LINES_OF_A.replace("map 1", "map 2")),
+    # W-213: rebuilt, the same lines. Tables in another order; at the top of memory; with more tables, one of them named twice;
+    "A-other-order": (capture([(BASE, lay([fadt(), madt(STRUCTURES_OF_A)]))]), LINES_OF_A),
+    "A-elsewhere": (board(base=(1 << 64) - 508), LINES_OF_A),
+    "A-more-tables": (capture([(BASE, lay([table(b"SSDT", 2, 9 * b"APIC"), madt(STRUCTURES_OF_A), table(b"MCFG", 1, bytes(24)), fadt()], [2, 3, 0, 1, 2]))]),
+                      LINES_OF_A),
+    # each in a segment of its own, the MADT first and the RSDP last; and all of this as version 2, with pairs that change nothing
+    "A-apart": (apart(madt(STRUCTURES_OF_A), fadt()), LINES_OF_A),
+    "A-rebuilt": (rebuilt(A), LINES_OF_A.replace("map 1", "map 2")),
     # bridges with 32 inputs, behind each other, and slots from 32 on; a pair that names no bridge, and an empty one
     "fewer-pins": (board(STRUCTURES_OF_A[:5] + [msi(32, 224), BIO, LPC, eio(4, 5), bio(5, 96)],
                          pairs=[(200, 7), (0, 32), (9, 0), (5, 32)]), """\
@@ -242,6 +257,8 @@ sci 75 3 11
     "refused-53-at-230": (board([core(0, 0), core(1, 1), core(2, 2, 0), LIO, eio(2, 0), MSI, BIO, LPC]), "refused 53 at 230 with 207\n"),
     # document 02's example
     "refused-52-at-262": (board([core(0, 0), core(1, 1), core(2, 2, 0), LIO, EIO, msi(63, 193), BIO, LPC]), "refused 52 at 262 with 243\n"),
+    # the same rebuilt: the MADT is at 453 and was at 118
+    "refused-52-at-597": (rebuilt(board([core(0, 0), core(1, 1), core(2, 2, 0), LIO, EIO, msi(63, 193), BIO, LPC])), "refused 52 at 597 with 578\n"),
     # a spare CORE between two enabled ones, all with one UID: the later enabled one is named, and it alone
     "refused-39-at-192": (board([core(0, 0), core(0, 5, 0), core(0, 1), LIO, EIO, MSI, BIO, LPC]), "refused 39 at 192\n"),
     # one place alone: of 41, though it has a partner

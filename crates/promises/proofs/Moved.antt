@@ -1,16 +1,16 @@
 -- Two captures of one board, wherever its tables lie: what is accepted gives equal maps, lists, answers and texts, and what is refused from 29
 -- on is refused alike.
-use Prim.Native.Nat.{ℕ, _+_, _*_, _≤_}
+use Prim.Native.Nat.{ℕ, _+_, _*_}
 use native.Mathlib.Omega.{arith}
 use mathlib.Core.Bool.{Bool, true, false, not}
-use mathlib.Core.List.{List, [], _∷_, _++_}
+use mathlib.Core.List.{List, _++_}
 use mathlib.Core.Logic.{⊎-elim}
 use mathlib.Core.Path.{_≡_, refl, sym, ap, _∙_}
 use lib.Dec.{eqb}
 use lib.ListN.{take, drop}
 use lib.Seq.{take-at, getD-take, getD-drop}
 use Rattle.words.specs.Bytes.{byteAt, numberAt}
-use Rattle.words.specs.Refusals.{refused, unless, firstRefusal}
+use Rattle.words.specs.Refusals.{unless, firstRefusal}
 use Rattle.words.specs.declared.Refusal.{Refusal}
 use Rattle.words.specs.declared.Verdict.{Verdict}
 use Rattle.words.specs.declared.Verdict.the-variants.{Sound, Refused}
@@ -34,16 +34,15 @@ use Rattle.madt.specs.Contents.{mapOf, foundIn}
 use Rattle.madt.specs.Walk.{walkRules, walked}
 use Rattle.madt.specs.declared.Found.{Found}
 use Rattle.madt.specs.declared.Walked.{Walked}
-use Rattle.madt.proofs.Accepted.{walk-verdict}
+use Rattle.madt.proofs.Accepted.{found-is}
 use Rattle.processors.specs.Image.{image}
 use Rattle.processors.specs.Listing.{processors, count, hasRoom, written, filled}
 use Rattle.processors.proofs.Filling.{twice-all}
 use Rattle.processors.proofs.Image.{eight-each}
 use Rattle.map_promises.proofs.OnlyItsBridges.{only-its-bridges}
 use Rattle.reading.specs.Scan.{madtBytes, walkOf, scan}
-use Rattle.reading.specs.Reading.{withoutMap, answered, madtFound, readingOf, listAfter}
+use Rattle.reading.specs.Reading.{withoutMap, madtFound, readingOf, listAfter}
 use Rattle.reading.specs.Entries.{readResult, bytesAfter, routeResult, traceResult}
-use Rattle.reading.specs.declared.Answer.{Answer}
 use Rattle.reading.specs.declared.Answer.the-variants.{Read, Refused as NotRead}
 use Rattle.reading.specs.declared.Reading.{Reading}
 use Rattle.reading.proofs.Laws.{laterRules, after-walk, in-two, answered-read, answered-60}
@@ -54,9 +53,9 @@ use Rattle.promises.specs.Calls.{HasRead}
 use Rattle.promises.specs.Captures.{Accepted}
 use Rattle.promises.specs.Processors.{madtOf}
 use Rattle.promises.specs.Readings.{madtPlace, madtRevision, KeepsTo28}
-use Rattle.promises.specs.Moved.{OneBoard, SameFound, MapsStay, SameRead, ListsStay, CEntriesStay, TextStays, MovedRefusal, ToldAlike, Comparable, RefusedAlike}
+use Rattle.promises.specs.Moved.{OneBoard, MapsStay, ListsStay, CEntriesStay, TextStays, MovedRefusal, ToldAlike, Comparable, RefusedAlike}
 use Rattle.promises.proofs.AcceptedIsTrustworthy.{refused-read}
-use Rattle.promises.proofs.MovedRules.{more-alike, joined-alike, none-alike, at-start-alike, walk-found, rules-alike}
+use Rattle.promises.proofs.MovedRules.{more-alike, joined-alike, none-alike, at-start-alike, rules-alike}
 use Rattle.promises.proofs.Pairs.{has-pins}
 use Rattle.promises.proofs.Processors.{same-count}
 use Rattle.promises.proofs.WhyRefused.{why-refused}
@@ -72,19 +71,20 @@ module _ (strictness : Strictness) (capture : List ℕ) (accepted : Accepted str
   bytes-found : madtFound strictness capture ≡ madtOf capture
   bytes-found = found-madt strictness capture tables-found accepted
 
-  walk-sound : firstRefusal (walkRules (madtOf capture) (madtPlace capture)) ≡ Sound
-  walk-sound =
+  walk-kept : walkOf capture (tablesOf capture) .verdict ≡ Sound
+  walk-kept =
       let s = scanned strictness capture accepted in
-      sym (walk-verdict _ _ _ _) ∙ ap (λ (t : Tables). walkOf capture t .verdict) (survey-is strictness capture (s .tables)) ∙ s .walk
+      ap (λ (t : Tables). walkOf capture t .verdict) (survey-is strictness capture (s .tables)) ∙ s .walk
+
+  map-walked : scan strictness capture .map ≡ walkOf capture (tablesOf capture) .found .map
+  map-walked =
+      let s = scanned strictness capture accepted in
+      s .map ∙ ap (λ (t : Tables). walkOf capture t .found .map) (sym (survey-is strictness capture (s .tables)))
 
   -- its map is that of the structures of its MADT
   map-found : scan strictness capture .map ≡ mapOf (tablesOf capture .sci) (pinsOf (pairsOf capture)) (structures (pieces (madtOf capture) 44))
   unfolding foundIn
-  map-found =
-      let s = scanned strictness capture accepted in
-      s .map
-      ∙ ap (λ (t : Tables). walkOf capture t .found .map) (sym (survey-is strictness capture (s .tables)))
-      ∙ ap (λ (f : Found). f .map) (walk-found (madtOf capture) (madtPlace capture) (tablesOf capture .sci) (pinsOf (pairsOf capture)) walk-sound)
+  map-found = map-walked ∙ ap (λ (f : Found). f .map) (found-is _ _ _ _ walk-kept)
 
 -- ---- one board
 module _ (capture other : List ℕ) (board : OneBoard capture other) (sound : verdict capture ≡ Sound) (sound′ : verdict other ≡ Sound) where
@@ -102,13 +102,10 @@ module _ (this that : Strictness) (capture other : List ℕ) (board : OneBoard c
   same-map : scan this capture .map ≡ scan that other .map
   unfolding foundIn
   same-map =
-      let base = madtPlace capture in
-      let sound = walk-sound this capture accepted in
-      let mapIn : Walked → Map = λ w. w .found .map in
-      map-found this capture accepted
-      ∙ sym (ap (λ (f : Found). f .map) (walk-found (madtOf capture) base (tablesOf capture .sci) (pinsOf (pairsOf capture)) sound))
-      ∙ ap mapIn (same-walk capture other board (container-sound this capture accepted) (container-sound that other accepted′) base)
-      ∙ ap (λ (f : Found). f .map) (walk-found (madtOf other) base (tablesOf other .sci) (pinsOf (pairsOf other)) (rw (board .madt) at sound))
+      let walk = same-walk capture other board (container-sound this capture accepted) (container-sound that other accepted′) (madtPlace capture) in
+      map-walked this capture accepted
+      ∙ ap (λ (w : Walked). w .found .map) walk
+      ∙ ap (λ (f : Found). f .map) (found-is _ _ _ _ (ap (λ (w : Walked). w .verdict) (sym walk) ∙ walk-kept this capture accepted))
       ∙ sym (map-found that other accepted′)
 
   same-table : madtFound this capture ≡ madtFound that other
@@ -164,7 +161,8 @@ module _ (strictness : Strictness) (capture : List ℕ) (kept : KeepsTo28 captur
       ∙ ap (λ (v : Verdict). unless Refused v (firstRefusal rest)) (first-joined (rulesBefore29 capture) fields ∙ unless-sound Refused _ _ kept)
       ∙ sym (first-joined fields rest)
 
-  -- revision and flags are among the MADT's bytes
+-- revision and flags are among the MADT's bytes
+module _ (capture : List ℕ) (kept : KeepsTo28 capture) where
   revision-there : byteAt (madtOf capture) 8 ≡ madtRevision capture
   unfolding madtBytes revision
   revision-there =
@@ -195,20 +193,20 @@ module _ (this that : Strictness) (capture other : List ℕ) (board : OneBoard c
   same-revision : wrongMadtRevision this (madtRevision capture) ≡ wrongMadtRevision that (madtRevision other)
   same-revision =
       ⊎-elim (λ e. ap (λ (s : Strictness). wrongMadtRevision s (madtRevision capture)) e) (λ one. rw one (agree-on-1 this that)) comparable
-      ∙ ap (wrongMadtRevision that) (sym (revision-there that capture kept) ∙ ap (λ (table : List ℕ). byteAt table 8) (board .madt) ∙ revision-there that other kept′)
+      ∙ ap (wrongMadtRevision that) (sym (revision-there capture kept) ∙ ap (λ (table : List ℕ). byteAt table 8) (board .madt) ∙ revision-there other kept′)
 
   same-flags : wrongFlags capture (here .madt) ≡ wrongFlags other (there .madt)
   unfolding wrongFlags
   same-flags =
       ap (λ (n : ℕ). not (eqb n 0))
-      (sym (flags-there that capture kept) ∙ ap (λ (table : List ℕ). numberAt 4 table 40) (board .madt) ∙ flags-there that other kept′)
+      (sym (flags-there capture kept) ∙ ap (λ (table : List ℕ). numberAt 4 table 40) (board .madt) ∙ flags-there other kept′)
 
   fields-alike : ToldAlike here there (firstRefusal (madtFieldRules this capture (here .madt))) (firstRefusal (madtFieldRules that other (there .madt)))
   unfolding madtFieldRules
   fields-alike =
       rw (same-revision, same-flags)
-      (more-alike here there _ _ _ _ (at-start-alike here there (wrongMadtRevision that (madtRevision other)) 29 refl)
-      (λ y z. more-alike here there _ _ _ _ (at-start-alike here there (wrongFlags other (there .madt)) 30 refl) (λ y z. none-alike here there)))
+      (more-alike here there _ _ _ _ (at-start-alike here there (wrongMadtRevision that (madtRevision other)) 29 (refl, refl))
+      (λ y z. more-alike here there _ _ _ _ (at-start-alike here there (wrongFlags other (there .madt)) 30 (refl, refl)) (λ y z. none-alike here there)))
 
   same-later : ToldAlike here there (firstRefusal (walkRules (madtOf capture) (madtPlace capture) ++ laterRules capture here))
       (firstRefusal (walkRules (madtOf other) (madtPlace other) ++ laterRules other there))

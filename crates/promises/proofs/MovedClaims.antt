@@ -1,15 +1,18 @@
 -- Claims that all stand so much further on: a search names the structures that it named before, so much further on. And the claims of a
 -- walk stand as far on as its MADT does.
-use Prim.Native.Nat.{ℕ, suc, _+_}
+use Prim.Native.Nat.{ℕ, _+_}
 use native.Mathlib.Omega.{arith}
 use mathlib.Core.Bool.{Bool, true, false, _&&_, true≢false}
-use mathlib.Core.List.{List, [], _∷_, _++_, map}
+use mathlib.Core.List.{List, [], _∷_, _++_, map, map-append}
 use mathlib.Core.Path.{_≡_, refl, sym, ap, _∙_}
 use borrow.Author.Tests.{ltb-true, ltb-false, lt-ltb, le-ltb}
 use lib.Dec.{ltb}
 use lib.ListN.{length, take}
 use lib.Seq.{take-nil}
 use Rattle.words.specs.Choice.{if}
+use Rattle.kinds.specs.Makers.{lioOf, htOf, eioOf, msiOf, lpcOf}
+use Rattle.kinds.specs.Used.{noLio, noHt, noEio, noBio, noMsi, noLpc, saidLio}
+use Rattle.kinds.proofs.Used.{lio-present, ht-present, lpc-present}
 use Rattle.clashes.specs.Folds.{fold}
 use Rattle.clashes.specs.Rules.{clash, lone}
 use Rattle.clashes.specs.Search.{sooner, nearer, partner, better, firstClash, lonelier, firstLone}
@@ -18,9 +21,12 @@ use Rattle.clashes.specs.declared.Spot.{Spot}
 use Rattle.clashes.specs.declared.Spot.the-variants.{At, Nowhere}
 use Rattle.clashes.specs.declared.Pair.{Pair}
 use Rattle.clashes.specs.declared.Pair.the-variants.{Two, None}
+use Rattle.parts.specs.Claims.{lioClaim, eioClaim, bioClaim, msiClaim}
+use Rattle.lines.specs.Says.{Said, says}
+use Rattle.lines.specs.Claims.{placed, claims}
+use Rattle.lines.specs.declared.Places.{Places}
 use Rattle.madt.specs.Pieces.{Whole}
-use Rattle.madt.specs.Contents.{theOne, inFour}
-use Rattle.lines.specs.Claims.{placed}
+use Rattle.madt.specs.Contents.{ofType, made, standing, theOne, inFour, bridgeOf, mapOf, placesOf, offsetsOf}
 
 -- a choice between two moved things
 if-moved : {A : Type 0} (f : A → A) (b : Bool) (x y : A) → if b (f x) (f y) ≡ f (if b x y)
@@ -131,3 +137,54 @@ module _ (base : ℕ) where
       go (x ∷ y ∷ []) = rw (one x, one y)
       go (x ∷ y ∷ z ∷ []) = rw (one x, one y, one z)
       go (x ∷ y ∷ z ∷ w ∷ more) = rw (take-nil {A = A} (length more), one x, one y, one z, one w)
+
+-- ---- the structures of a MADT, and the map that they make
+-- where they stand in the table
+abbrev standIn : ℕ → List Whole → List ℕ
+standIn number all = offsetsOf (ofType number all)
+
+abbrev pub offsets : List Whole → Places
+offsets all =
+    record {
+      lio = theOne 0 (standIn 18 all);
+      ht = theOne 0 (standIn 19 all);
+      eios = inFour 0 (standIn 20 all);
+      bios = inFour 0 (standIn 22 all);
+      msis = inFour 0 (standIn 21 all);
+      lpc = theOne 0 (standIn 23 all);
+    }
+
+-- and in the capture, where the MADT stands at `base`
+module _ (sci : ℕ) (pins : ℕ → ℕ) (all : List Whole) (base : ℕ) where
+  abbrev said : Said
+  said = says (mapOf sci pins all)
+
+  lio-moved : said .lio .present ≡ true → placesOf base all .lio ≡ base + offsets all .lio
+  unfolding placesOf standing mapOf made
+  lio-moved h = one-moved base (λ s. saidLio (lioOf s)) noLio (λ x. x .present) refl (ofType 18 all) (sym (lio-present _) ∙ h)
+
+  pub ht-moved : said .ht .present ≡ true → placesOf base all .ht ≡ base + offsets all .ht
+  unfolding placesOf standing mapOf made
+  ht-moved h = one-moved base htOf noHt (λ x. x .present) refl (ofType 19 all) (sym (ht-present _) ∙ h)
+
+  pub lpc-moved : said .lpc .present ≡ true → placesOf base all .lpc ≡ base + offsets all .lpc
+  unfolding placesOf standing mapOf made
+  lpc-moved h = one-moved base lpcOf noLpc (λ x. x .present) refl (ofType 23 all) (sym (lpc-present _) ∙ h)
+
+  pub claims-moved : said .lio .present ≡ true → claims said (placesOf base all) ≡ map (movedClaim base) (claims said (offsets all))
+  unfolding claims placesOf standing mapOf made movedClaim
+  claims-moved h =
+      rw (
+        lio-moved h,
+        placed-moved base eioClaim (λ x p. refl) noEio eioOf (ofType 20 all),
+        placed-moved base bioClaim (λ x p. refl) noBio (bridgeOf pins) (ofType 22 all),
+        placed-moved base msiClaim (λ x p. refl) noMsi msiOf (ofType 21 all),
+      )
+      (go (lioClaim (said .lio) (offsets all .lio)) (placed eioClaim (said .eios) (offsets all .eios)) (placed bioClaim (said .bios) (offsets all .bios)) (placed msiClaim (said .msis) (offsets all .msis)))
+    where
+      go : (lio : Claim) (eios bios msis : List Claim)
+          → let f = movedClaim base in
+          (f lio ∷ []) ++ map f eios ++ map f bios ++ map f msis ≡ map f ((lio ∷ []) ++ eios ++ bios ++ msis)
+      go lio eios bios msis =
+          ap (λ (cs : List Claim). movedClaim base lio ∷ cs)
+          (ap (λ (cs : List Claim). cs ++ map (movedClaim base) msis) (sym (map-append (movedClaim base) eios bios)) ∙ sym (map-append (movedClaim base) (eios ++ bios) msis))

@@ -1,7 +1,7 @@
 -- W-213 of document 02, "Tables may move": "Makers rebuild the firmware and the tables shift." What is promised of two captures of one board,
 -- each by either reading. Each statement stands alone; proofs/Moved.antt has a theorem for it.
 use Prim.Native.Nat.{ℕ, _+_, _*_, _<_}
-use mathlib.Core.Bool.{true}
+use mathlib.Core.Bool.{true, false}
 use mathlib.Core.List.{List, _∷_, _++_}
 use mathlib.Core.Logic.{_⊎_}
 use mathlib.Core.Path.{_≡_}
@@ -31,6 +31,7 @@ use Rattle.promises.specs.Captures.{Accepted}
 use Rattle.promises.specs.Pairs.{HasPins}
 use Rattle.promises.specs.Processors.{madtOf}
 use Rattle.promises.specs.Readings.{madtRevision, KeepsTo28}
+use Rattle.promises.specs.RefusalTable.{isTwofold}
 
 -- ---- two captures of one board: "with equal MADT bytes, equal SCI numbers and equal pin counts for each BIO". Nothing is said of their
 -- versions, their segments, where the tables lie, or what the passed-over ones hold
@@ -97,8 +98,9 @@ pub record MovedRefusal (here there : Tables) (r q : Refusal) : Type 0 where
   -- the place moved as the MADT did; 54 is told at the FADT
   pub place : (r .number ≡ 54 → ⊥) → MovedPlace (here .madt) (there .madt) (r .place) (q .place)
   pub fadt : r .number ≡ 54 → (r .place ≡ here .fadt .place) × (q .place ≡ there .fadt .place)
-  -- and so did a second place; "all others carry 0"
-  pub second : ((r .second ≡ 0) × (q .second ≡ 0)) ⊎ MovedPlace (here .madt) (there .madt) (r .second) (q .second)
+  -- and so did the second place that 51 to 53 carry; "all others carry 0"
+  pub second : ((isTwofold (r .number) ≡ true) × MovedPlace (here .madt) (there .madt) (r .second) (q .second))
+      ⊎ ((isTwofold (r .number) ≡ false) × (r .second ≡ 0) × (q .second ≡ 0))
 
 -- both accept, or both refuse so
 abbrev pub ToldAlike : Tables → Tables → Verdict → Verdict → Type 0

@@ -1,8 +1,8 @@
 -- W-212 of document 02, "Bridges with fewer pins": what is promised of the pairs of a capture, said of its bytes, and of the counts that
 -- they give to the map's bridges. Each statement stands alone, and holds in both readings; proofs/Pairs.antt has a theorem for it.
 use Prim.Native.Nat.{ℕ, _+_, _*_, _<_, _≤_}
-use mathlib.Core.Bool.{true, false}
-use mathlib.Core.List.{List, _∷_, _++_}
+use mathlib.Core.Bool.{false}
+use mathlib.Core.List.{List}
 use mathlib.Core.Logic.{_⊎_}
 use mathlib.Core.Path.{_≡_}
 use lib.ListN.{length}
@@ -11,17 +11,11 @@ use Rattle.words.specs.Refusals.{refusedWith, firstRefusal}
 use Rattle.words.specs.declared.Verdict.the-variants.{Sound, Refused}
 use Rattle.capture.specs.Fields.{version}
 use Rattle.capture.specs.Rules.{wrongSize, wrongMark, wrongVersion, wrongCount, wrongTotal, segmentRules}
-use Rattle.tables.specs.Survey.{survey}
 use Rattle.tables.specs.declared.Strictness.{Strictness}
-use Rattle.tables.specs.declared.Survey.the-variants.{Found}
-use Rattle.tables.specs.declared.Tables.{Tables}
-use Rattle.kinds.specs.Makers.{bioOf}
-use Rattle.lines.specs.Says.{Said, says}
-use Rattle.madt.specs.Pieces.{Whole, pieces, structures}
-use Rattle.madt.specs.Rules.{isType}
+use Rattle.lines.specs.Says.{says}
 use Rattle.map_promises.specs.Sources.{bioAt}
 use Rattle.map_promises.specs.Clashing.{OnePlace, Exactly}
-use Rattle.reading.specs.Scan.{madtBytes, scan}
+use Rattle.reading.specs.Scan.{scan}
 use Rattle.reading.specs.Reading.{readingOf}
 use Rattle.reading.specs.declared.Answer.the-variants.{Refused as NotRead}
 use Rattle.promises.specs.Captures.{Accepted}
