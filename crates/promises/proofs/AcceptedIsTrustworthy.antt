@@ -2,15 +2,12 @@
 -- names the one source that arrives. "Take any accepted capture, and as sources its wired processor lines, bridge pins and
 -- message slots."
 use Prim.Native.Nat.{ℕ}
-use native.Mathlib.Omega.{arith}
 use mathlib.Core.Path.{_≡_, refl, _∙_}
 use mathlib.Core.List.{List, _∷_}
 use mathlib.Core.Bool.{true, false, not, _&&_, true≢false}
-use Rattle.words.specs.Refusals.{rule, unless, isSound}
-use Rattle.words.specs.declared.Refusal.{Refusal}
-use Rattle.words.proofs.Choices.{yes-if, if-cases}
+use Rattle.words.specs.Refusals.{rule, isSound}
+use Rattle.words.proofs.Choices.{yes-if}
 use Rattle.words.proofs.Verdicts.{is-sound, rule-kept, each-sound}
-use Rattle.words.specs.declared.Verdict.{Verdict}
 use Rattle.words.specs.declared.Verdict.the-variants as verdicts
 use Rattle.kinds.specs.Ranges.{bitInBoth}
 use Rattle.clashes.proofs.Logic.{and-right}
@@ -29,12 +26,10 @@ use Rattle.map_promises.proofs.Routing.{route-is-sources, unwired-exactly, no-o
 use Rattle.map_promises.proofs.Tracing.{tracing-names, nothing-exactly}
 use Rattle.map_promises.proofs.ThereAndBack.{lpc-lines-share, there-and-back}
 use Rattle.reading.specs.Scan.{scan}
-use Rattle.reading.specs.Reading.{withoutMap, answered, madtFound, readingOf}
-use Rattle.reading.specs.declared.Answer.{Answer}
-use Rattle.reading.specs.declared.Answer.the-variants.{Read, Refused}
-use Rattle.reading.specs.declared.Reading.{Reading}
+use Rattle.reading.specs.Reading.{answered}
 use Rattle.reading.proofs.AcceptedKeepsRules.{accepted-is-normal, accepted-keeps-rules}
 use Rattle.promises.specs.Captures.{Trustworthy, AcceptedIsTrustworthy, ReadIsTrustworthy}
+use Rattle.promises.proofs.WhyRead.{why-read}
 
 -- 54: an answer that is not lost is an arrival
 not-lost : (route : Route) → lost route ≡ false → (vector : ℕ) × (number : ℕ) × (route ≡ Arrives vector number)
@@ -79,17 +74,7 @@ pub accepted-is-trustworthy : (strictness : Strictness) (capture : List ℕ) →
 accepted-is-trustworthy strictness capture h =
     trustworthy (scan strictness capture .map) (accepted-keeps-rules strictness capture h) (accepted-is-normal strictness capture h)
 
-pub refused-read : {refusal : Refusal} {count : ℕ} {X : Type 0} → _≡_ {A = Answer} (Refused refusal) (Read count) → X
-refused-read e = absurd (let o : _≡_ {A = ℕ} 0 1 = cc in omega arith)
-
 pub read-is-trustworthy : (strictness : Strictness) (capture list : List ℕ) → ReadIsTrustworthy strictness capture list
-unfolding readingOf unless withoutMap answered
-read-is-trustworthy strictness capture list count = go (scan strictness capture .verdict) refl
-  where
-    go : (v : Verdict) → scan strictness capture .verdict ≡ v → unless withoutMap v (answered (madtFound strictness capture) (scan strictness capture .map) list) .answer ≡ Read count
-        → Trustworthy (unless withoutMap v (answered (madtFound strictness capture) (scan strictness capture .map) list) .map)
-    go (verdicts.Refused r) e = λ h. refused-read h
-    go verdicts.Sound e =
-        if-cases (λ (r : Reading). r .answer ≡ Read count → Trustworthy (r .map)) _ _ _
-        (λ room h. accepted-is-trustworthy strictness capture e)
-        (λ room h. refused-read h)
+read-is-trustworthy strictness capture list count h =
+    let why = why-read strictness capture list count h in
+    rw (why .map) (accepted-is-trustworthy strictness capture (why .accepted))

@@ -1,3 +1,4 @@
+pub mod WhyRead
 pub mod AcceptedIsTrustworthy
 pub mod RefusedExactlyForSharing
 pub mod Told

@@ -2,7 +2,7 @@
 -- on is refused alike.
 use Prim.Native.Nat.{ℕ, _+_, _*_}
 use native.Mathlib.Omega.{arith}
-use mathlib.Core.Bool.{Bool, true, false, not}
+use mathlib.Core.Bool.{not}
 use mathlib.Core.List.{List, _++_}
 use mathlib.Core.Logic.{⊎-elim}
 use mathlib.Core.Path.{_≡_, refl, sym, ap, _∙_}
@@ -14,7 +14,6 @@ use Rattle.words.specs.Refusals.{unless, firstRefusal}
 use Rattle.words.specs.declared.Refusal.{Refusal}
 use Rattle.words.specs.declared.Verdict.{Verdict}
 use Rattle.words.specs.declared.Verdict.the-variants.{Sound, Refused}
-use Rattle.words.proofs.Choices.{yes-if}
 use Rattle.words.proofs.Numbers.{number-take, number-drop}
 use Rattle.words.proofs.Verdicts.{unless-refused, unless-sound, first-joined}
 use Rattle.capture.specs.Fields.{version}
@@ -36,16 +35,16 @@ use Rattle.madt.specs.declared.Found.{Found}
 use Rattle.madt.specs.declared.Walked.{Walked}
 use Rattle.madt.proofs.Accepted.{found-is}
 use Rattle.processors.specs.Image.{image}
-use Rattle.processors.specs.Listing.{processors, count, hasRoom, written, filled}
+use Rattle.processors.specs.Listing.{processors, count, written}
 use Rattle.processors.proofs.Filling.{twice-all}
 use Rattle.processors.proofs.Image.{eight-each}
 use Rattle.map_promises.proofs.OnlyItsBridges.{only-its-bridges}
 use Rattle.reading.specs.Scan.{madtBytes, walkOf, scan}
 use Rattle.reading.specs.Reading.{withoutMap, madtFound, readingOf, listAfter}
 use Rattle.reading.specs.Entries.{readResult, bytesAfter, routeResult, traceResult}
-use Rattle.reading.specs.declared.Answer.the-variants.{Read, Refused as NotRead}
+use Rattle.reading.specs.declared.Answer.the-variants.{Refused as NotRead}
 use Rattle.reading.specs.declared.Reading.{Reading}
-use Rattle.reading.proofs.Laws.{laterRules, after-walk, in-two, answered-read, answered-60}
+use Rattle.reading.proofs.Laws.{laterRules, after-walk, in-two}
 use Rattle.reading.proofs.Scanned.{scan-verdict, scanned, found-madt}
 use Rattle.text.specs.Lines.{each}
 use Rattle.text.specs.Text.{mapParts, mapText, textOf}
@@ -54,10 +53,9 @@ use Rattle.promises.specs.Captures.{Accepted}
 use Rattle.promises.specs.Processors.{madtOf}
 use Rattle.promises.specs.Readings.{madtPlace, madtRevision, KeepsTo28}
 use Rattle.promises.specs.Moved.{OneBoard, MapsStay, ListsStay, CEntriesStay, TextStays, MovedRefusal, ToldAlike, Comparable, RefusedAlike}
-use Rattle.promises.proofs.AcceptedIsTrustworthy.{refused-read}
 use Rattle.promises.proofs.MovedRules.{more-alike, joined-alike, none-alike, at-start-alike, rules-alike}
 use Rattle.promises.proofs.Pairs.{has-pins}
-use Rattle.promises.proofs.Processors.{same-count}
+use Rattle.promises.proofs.WhyRead.{Why as WhyRead, why-read}
 use Rattle.promises.proofs.WhyRefused.{why-refused}
 
 -- ---- what an accepted capture is found to hold, by its own tables
@@ -111,40 +109,21 @@ module _ (this that : Strictness) (capture other : List ℕ) (board : OneBoard c
   same-table : madtFound this capture ≡ madtFound that other
   same-table = bytes-found this capture accepted ∙ board .madt ∙ sym (bytes-found that other accepted′)
 
--- ---- what a reading that answers leaves behind
-record HasAnswered (strictness : Strictness) (capture list : List ℕ) (n : ℕ) : Type 0 where
-  pub accepted : Accepted strictness capture
-  pub counted : count (madtFound strictness capture) ≡ n
-  pub map : readingOf strictness capture list .map ≡ scan strictness capture .map
-  pub written : take (2 * n) (listAfter strictness capture list) ≡ processors (madtFound strictness capture)
+-- ---- what a reading that answers has written
+in-front : (strictness : Strictness) (capture list : List ℕ) (n : ℕ) → WhyRead strictness capture list n
+    → take (2 * n) (listAfter strictness capture list) ≡ processors (madtFound strictness capture)
+unfolding written
+in-front strictness capture list n why =
+    let table = madtFound strictness capture in
+    ap (take (2 * n)) (why .after) ∙ take-at (processors table) _ (2 * n) (twice-all table ∙ ap (λ (k : ℕ). 2 * k) (why .counted))
 
-has-answered : (strictness : Strictness) (capture list : List ℕ) (n : ℕ) → readingOf strictness capture list .answer ≡ Read n
-    → HasAnswered strictness capture list n
-unfolding readingOf listAfter filled written withoutMap
-has-answered strictness capture list n h = by-verdict (scan strictness capture .verdict) refl
-  where
-    table : List ℕ
-    table = madtFound strictness capture
-
-    by-room : Accepted strictness capture → (b : Bool) → hasRoom (processors table) list ≡ b → HasAnswered strictness capture list n
-    by-room accepted true room =
-        let answer = unless-sound withoutMap _ _ accepted ∙ answered-read table (scan strictness capture .map) list room in
-        let counted = same-count (ap (λ (r : Reading). r .answer) (sym answer) ∙ h) in
-        record {
-          accepted = accepted;
-          counted = counted;
-          map = ap (λ (r : Reading). r .map) answer;
-          written =
-              ap (take (2 * n)) (unless-sound _ _ _ accepted ∙ yes-if _ _ _ room)
-              ∙ take-at (processors table) _ (2 * n) (twice-all table ∙ ap (λ (k : ℕ). 2 * k) counted);
-        }
-    by-room accepted false short =
-        let answer = unless-sound withoutMap _ _ accepted ∙ answered-60 table (scan strictness capture .map) list short in
-        refused-read (ap (λ (r : Reading). r .answer) (sym answer) ∙ h)
-
-    by-verdict : (v : Verdict) → scan strictness capture .verdict ≡ v → HasAnswered strictness capture list n
-    by-verdict Sound e = by-room e (hasRoom (processors table) list) refl
-    by-verdict (Refused r) e = refused-read (ap (λ (r : Reading). r .answer) (sym (unless-refused withoutMap _ _ e)) ∙ h)
+-- and its C entry
+in-front-for-c : (capture list : List ℕ) → HasRead capture list
+    → take (8 * readResult capture list) (bytesAfter capture list) ≡ image (processors (madtFound Strict capture))
+in-front-for-c capture list r =
+    let table = madtFound Strict capture in
+    let n = readResult capture list in
+    ap (take (8 * n)) (r .bytes) ∙ take-at (image (processors table)) _ (8 * n) (eight-each table ∙ ap (λ (k : ℕ). 8 * k) (sym (r .result)))
 
 -- ---- from 29 on, where no rule before it is broken
 module _ (strictness : Strictness) (capture : List ℕ) (kept : KeepsTo28 capture) where
@@ -245,13 +224,13 @@ maps-stay this that capture other board accepted accepted′ =
 
 pub lists-stay : (this that : Strictness) (capture other : List ℕ) → ListsStay this that capture other
 lists-stay this that capture other board list room n m h h′ =
-    let here = has-answered this capture list n h in
-    let there = has-answered that other room m h′ in
+    let here = why-read this capture list n h in
+    let there = why-read that other room m h′ in
     let same = maps-stay this that capture other board (here .accepted) (there .accepted) in
     record {
       count = sym (here .counted) ∙ same .count ∙ there .counted;
       map = here .map ∙ same .map ∙ sym (there .map);
-      written = here .written ∙ same .list ∙ sym (there .written);
+      written = in-front this capture list n here ∙ same .list ∙ sym (in-front that other room m there);
     }
 
 pub c-entries-stay : (capture other : List ℕ) → CEntriesStay capture other
@@ -262,13 +241,8 @@ c-entries-stay capture other board accepted accepted′ =
       routes = λ number. unless-sound _ _ _ accepted ∙ ap routeCode (same .routes number) ∙ sym (unless-sound _ _ _ accepted′);
       traces = λ vector number. unless-sound _ _ _ accepted ∙ ap traceCode (same .traces vector number) ∙ sym (unless-sound _ _ _ accepted′);
       counts = λ list room r r′. r .result ∙ same .count ∙ sym (r′ .result);
-      bytes = λ list room r r′. in-front r ∙ ap image (same .list) ∙ sym (in-front r′);
+      bytes = λ list room r r′. in-front-for-c capture list r ∙ ap image (same .list) ∙ sym (in-front-for-c other room r′);
     }
-  where
-    in-front : {capture list : List ℕ} → HasRead capture list → take (8 * readResult capture list) (bytesAfter capture list) ≡ image (processors (madtFound Strict capture))
-    in-front {capture} {list} r =
-        ap (take (8 * readResult capture list)) (r .bytes)
-        ∙ take-at (image (processors (madtFound Strict capture))) _ (8 * readResult capture list) (eight-each (madtFound Strict capture) ∙ ap (λ (n : ℕ). 8 * n) (sym (r .result)))
 
 pub text-stays : (capture other : List ℕ) → TextStays capture other
 unfolding textOf mapText mapParts each

@@ -4,17 +4,16 @@ use native.Mathlib.Nat.{zero-add}
 use native.Mathlib.Omega.{arith}
 use mathlib.Core.Path.{_≡_, refl, sym, ap, _∙_}
 use mathlib.Core.Logic.{_⊎_, inl, inr, ⊎-elim}
-use mathlib.Core.List.{List, _++_, map}
+use mathlib.Core.List.{List, _++_}
 use mathlib.Core.Bool.{Bool, true, false, true≢false}
 use borrow.Author.Tests.{leb-true, leb-false}
 use lib.Dec.{leb}
 use lib.ListN.{length, getD, List·getD-append}
 use Rattle.words.specs.Lists.{numbersBelow}
-use Rattle.words.specs.Refusals.{refused, refusedWith, unless, firstRefusal}
+use Rattle.words.specs.Refusals.{refused, refusedWith, firstRefusal}
 use Rattle.words.specs.declared.Refusal.{Refusal}
 use Rattle.words.specs.declared.Verdict.{Verdict}
 use Rattle.words.specs.declared.Verdict.the-variants.{Sound, Refused}
-use Rattle.words.proofs.Choices.{yes-if}
 use Rattle.words.proofs.Searches.{search-found, search-none}
 use Rattle.words.proofs.Those.{length-map}
 use Rattle.words.proofs.Verdicts.{same-refusal, unless-refused, unless-sound, first-joined, joined-kept, both-sound}
@@ -25,11 +24,10 @@ use Rattle.tables.specs.declared.Survey.{Survey}
 use Rattle.tables.specs.declared.Survey.the-variants as surveys
 use Rattle.tables.specs.declared.Tables.{Tables}
 use Rattle.tables.proofs.Inside.{Accepted as TablesInside, tables-inside, survey-is, survey-told as told-by}
-use Rattle.lines.specs.declared.Map.{Map}
 use Rattle.madt.specs.Pieces.{Whole}
 use Rattle.madt.specs.Walk.{walkRules}
 use Rattle.madt.proofs.Accepted.{walk-verdict}
-use Rattle.processors.specs.Listing.{coresOf, listed, processors, count, hasRoom, written, filled}
+use Rattle.processors.specs.Listing.{coresOf, listed, processors, count, written}
 use Rattle.processors.specs.declared.Processor.{Processor}
 use Rattle.processors.specs.Repeats.{repeatsId, firstRepeating, firstRepeat}
 use Rattle.processors.specs.declared.Repeat.{Repeat}
@@ -39,21 +37,18 @@ use Rattle.processors.proofs.Inside.{not-at, same-at}
 use Rattle.processors.proofs.Sharing.{shared, not-shared, at, repeats-some, repeats-none, uid-at, id-at}
 use Rattle.map_promises.specs.Clashing.{OnePlace, Exactly}
 use Rattle.reading.specs.Scan.{madtBytes, turnedDown, scan}
-use Rattle.reading.specs.Reading.{withoutMap, answered, madtFound, readingOf, listAfter}
+use Rattle.reading.specs.Reading.{madtFound}
 use Rattle.reading.specs.declared.Scan.{Scan}
-use Rattle.reading.specs.declared.Answer.{Answer}
-use Rattle.reading.specs.declared.Answer.the-variants.{Read}
-use Rattle.reading.specs.declared.Reading.{Reading}
-use Rattle.reading.proofs.Laws.{repeat-none, repeat-at, laterRules, scan-refused, answered-read, answered-60}
+use Rattle.reading.proofs.Laws.{repeat-none, repeat-at, laterRules, scan-refused}
 use Rattle.reading.proofs.Scanned.{found-verdict, scanned}
 use Rattle.promises.specs.Readings.{madtPlace}
 use Rattle.promises.specs.Processors.{uidOf, idOf, Repeats, madtOf, KeepsTo38, Breaks39, NamesRepeat, ThirtyNineExactly, AllDiffer, AcceptedDiffer, ReadDiffer}
-use Rattle.promises.proofs.AcceptedIsTrustworthy.{refused-read}
 use Rattle.promises.proofs.Told.{Told, isOfStructures, isFrom40, isTo30}
 use Rattle.promises.proofs.TableRefusals.{stands, SurveyTold, survey-told}
 use Rattle.promises.proofs.EveryRefusal.{rulesFrom40, walk-of-told, after-39-told}
 use Rattle.promises.proofs.RulesInOrder.{no-repeat as repeats-nowhere}
 use Rattle.promises.proofs.RefusedExactlyForSharing.{of-scan}
+use Rattle.promises.proofs.WhyRead.{why-read}
 
 not-before : (j k : ℕ) → (j < k → ⊥) → k ≤ j
 not-before j k h = go (leb k j) refl
@@ -130,21 +125,6 @@ front-differ numbers rest n long d =
       uids = λ i k less inside e. d .uids i k less inside (sym (front (2 * i) (omega arith)) ∙ e ∙ front (2 * k) (omega arith));
       ids = λ i k less inside e. d .ids i k less inside (sym (front (2 * i + 1) (omega arith)) ∙ e ∙ front (2 * k + 1) (omega arith));
     }
-
--- and so of a list that was filled
-pub same-count : {a b : ℕ} → _≡_ {A = Answer} (Read a) (Read b) → a ≡ b
-same-count e = cc
-
-filled-differ : (table list : List ℕ) (map : Map) (n : ℕ) → AllDiffer (processors table) (count table) → answered table map list .answer ≡ Read n
-    → AllDiffer (filled (processors table) list) n
-unfolding filled written withoutMap
-filled-differ table list map n d h = go (hasRoom (processors table) list) refl
-  where
-    go : (b : Bool) → hasRoom (processors table) list ≡ b → AllDiffer (filled (processors table) list) n
-    go true room =
-        let same : count table ≡ n = same-count (ap (λ (r : Reading). r .answer) (sym (answered-read table map list room)) ∙ h) in
-        rw (yes-if _ _ _ room, ← same) (front-differ (processors table) _ (count table) (twice-all table) d)
-    go false short = refused-read (ap (λ (r : Reading). r .answer) (sym (answered-60 table map list short)) ∙ h)
 
 -- ---- of captures
 module _ (strictness : Strictness) (capture : List ℕ) where
@@ -233,10 +213,8 @@ accepted-differ strictness capture h =
     rw (s .madt) (all-differ (madtBytes capture (s .t .madt)) (repeats-nowhere _ _ (both-sound _ _ (s .rules) .0)))
 
 pub read-differ : (strictness : Strictness) (capture list : List ℕ) → ReadDiffer strictness capture list
-unfolding readingOf listAfter unless withoutMap
-read-differ strictness capture list n = go (scan strictness capture .verdict) refl
-  where
-    go : (v : Verdict) → scan strictness capture .verdict ≡ v → unless withoutMap v (answered (madtFound strictness capture) (scan strictness capture .map) list) .answer ≡ Read n
-        → AllDiffer (unless (λ r. list) v (filled (processors (madtFound strictness capture)) list)) n
-    go (Refused r) e = λ h. refused-read h
-    go Sound e = λ h. filled-differ (madtFound strictness capture) list (scan strictness capture .map) n (accepted-differ strictness capture e) h
+unfolding written
+read-differ strictness capture list n h =
+    let why = why-read strictness capture list n h in
+    let table = madtFound strictness capture in
+    rw (why .after, ← why .counted) (front-differ (processors table) _ (count table) (twice-all table) (accepted-differ strictness capture (why .accepted)))
