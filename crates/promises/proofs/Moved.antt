@@ -1,6 +1,6 @@
 -- Two captures of one board, wherever its tables lie: what is accepted gives equal maps, lists, answers and texts, and what is refused from 29
 -- on is refused alike.
-use Prim.Native.Nat.{ℕ, _+_, _*_}
+use Prim.Native.Nat.{ℕ, _+_, _*_, _≤_}
 use native.Mathlib.Omega.{arith}
 use mathlib.Core.Bool.{not}
 use mathlib.Core.List.{List, _++_}
@@ -9,23 +9,24 @@ use mathlib.Core.Path.{_≡_, refl, sym, ap, _∙_}
 use lib.Dec.{eqb}
 use lib.ListN.{take, drop}
 use lib.Seq.{take-at, getD-take, getD-drop}
-use Rattle.words.specs.Bytes.{byteAt, numberAt}
+use Rattle.words.specs.Bytes.{byteAt, numberAt, partAt}
 use Rattle.words.specs.Refusals.{unless, firstRefusal}
 use Rattle.words.specs.declared.Refusal.{Refusal}
 use Rattle.words.specs.declared.Verdict.{Verdict}
 use Rattle.words.specs.declared.Verdict.the-variants.{Sound, Refused}
 use Rattle.words.proofs.Numbers.{number-take, number-drop}
-use Rattle.words.proofs.Verdicts.{unless-refused, unless-sound, first-joined}
+use Rattle.words.proofs.Verdicts.{unless-refused, unless-sound, first-joined, joined-kept}
 use Rattle.capture.specs.Fields.{version}
 use Rattle.capture.specs.Pairs.{pairsOf, pinsOf}
 use Rattle.capture.specs.Rules.{verdict}
 use Rattle.tables.specs.Table.{revision}
-use Rattle.tables.specs.Survey.{wrongMadtRevision, wrongFlags, madtFieldRules, withSci, tablesFrom, tablesOf, rulesBefore29, surveyRules, survey}
+use Rattle.tables.specs.Survey.{wrongMadtRevision, wrongFlags, madtFieldRules, sciNumber, withSci, tablesFrom, tablesOf, rulesBefore29, surveyRules, survey}
 use Rattle.tables.specs.declared.Strictness.{Strictness}
 use Rattle.tables.specs.declared.Strictness.the-variants.{Ordinary, Strict}
 use Rattle.tables.specs.declared.Survey.the-variants as surveys
+use Rattle.tables.specs.declared.Table.{Table}
 use Rattle.tables.specs.declared.Tables.{Tables}
-use Rattle.tables.proofs.Inside.{survey-is, kept-inside, tables-inside}
+use Rattle.tables.proofs.Inside.{survey-told, survey-is, kept-inside}
 use Rattle.lines.specs.Answers.{routeOf, traceOf, routeCode, traceCode}
 use Rattle.lines.specs.declared.Map.{Map}
 use Rattle.madt.specs.Pieces.{pieces, structures}
@@ -52,7 +53,7 @@ use Rattle.promises.specs.Calls.{HasRead}
 use Rattle.promises.specs.Captures.{Accepted}
 use Rattle.promises.specs.Processors.{madtOf}
 use Rattle.promises.specs.Readings.{madtPlace, madtRevision, KeepsTo28}
-use Rattle.promises.specs.Moved.{OneBoard, MapsStay, ListsStay, CEntriesStay, TextStays, MovedRefusal, ToldAlike, Comparable, RefusedAlike}
+use Rattle.promises.specs.Moved.{sciOf, OneBoard, MapsStay, ListsStay, CEntriesStay, TextStays, MovedRefusal, ToldAlike, Comparable, RefusedAlike}
 use Rattle.promises.proofs.MovedRules.{more-alike, joined-alike, none-alike, at-start-alike, rules-alike}
 use Rattle.promises.proofs.Pairs.{has-pins}
 use Rattle.promises.proofs.WhyRead.{Why as WhyRead, why-read}
@@ -63,8 +64,9 @@ module _ (strictness : Strictness) (capture : List ℕ) (accepted : Accepted str
   tables-found : survey strictness capture ≡ surveys.Found (tablesOf capture)
   tables-found = let s = scanned strictness capture accepted in s .tables ∙ ap surveys.Found (sym (survey-is strictness capture (s .tables)))
 
-  container-sound : verdict capture ≡ Sound
-  container-sound = tables-inside strictness capture (tablesOf capture) tables-found .sound
+  keeps-28 : KeepsTo28 capture
+  unfolding surveyRules
+  keeps-28 = joined-kept (rulesBefore29 capture) _ (survey-told strictness capture tables-found) .0
 
   bytes-found : madtFound strictness capture ≡ madtOf capture
   bytes-found = found-madt strictness capture tables-found accepted
@@ -84,8 +86,31 @@ module _ (strictness : Strictness) (capture : List ℕ) (accepted : Accepted str
   unfolding foundIn
   map-found = map-walked ∙ ap (λ (f : Found). f .map) (found-is _ _ _ _ walk-kept)
 
+-- ---- what stands in the bytes of MADT and FADT, where no rule before 29 is broken
+module _ (capture : List ℕ) (kept : KeepsTo28 capture) where
+  number-there : (k : ℕ) (table : Table) (at : ℕ) → at + k ≤ table .length
+      → numberAt k (partAt capture (table .place) (table .length)) at ≡ numberAt k capture (table .place + at)
+  number-there k table at long = number-take k (drop (table .place) capture) (table .length) at long ∙ number-drop k capture (table .place) at
+
+  revision-there : byteAt (madtOf capture) 8 ≡ madtRevision capture
+  unfolding madtBytes revision
+  revision-there =
+      let long = kept-inside capture kept .madt .long in
+      getD-take (tablesOf capture .madt .length) (drop (madtPlace capture) capture) 8 0 (omega arith) ∙ getD-drop (madtPlace capture) capture 8 0
+
+  flags-there : numberAt 4 (madtOf capture) 40 ≡ numberAt 4 capture (madtPlace capture + 40)
+  unfolding madtBytes
+  flags-there = let long = kept-inside capture kept .madt .long in number-there 4 (tablesOf capture .madt) 40 (omega arith)
+
+  sci-there : sciOf capture ≡ tablesOf capture .sci
+  unfolding tablesOf tablesFrom withSci sciNumber
+  sci-there = let long = kept-inside capture kept .fadt .long in number-there 2 (tablesOf capture .fadt) 46 (omega arith)
+
 -- ---- one board
-module _ (capture other : List ℕ) (board : OneBoard capture other) (sound : verdict capture ≡ Sound) (sound′ : verdict other ≡ Sound) where
+module _ (capture other : List ℕ) (board : OneBoard capture other) (kept : KeepsTo28 capture) (kept′ : KeepsTo28 other) where
+  same-sci : tablesOf capture .sci ≡ tablesOf other .sci
+  same-sci = sym (sci-there capture kept) ∙ board .sci ∙ sci-there other kept′
+
   -- wherever its MADT stands, the walk of it finds the same
   same-walk : (base : ℕ)
       → walked (madtOf capture) base (tablesOf capture .sci) (pinsOf (pairsOf capture)) ≡ walked (madtOf other) base (tablesOf other .sci) (pinsOf (pairsOf other))
@@ -93,14 +118,14 @@ module _ (capture other : List ℕ) (board : OneBoard capture other) (sound : ve
       only-its-bridges (madtOf capture) base (tablesOf capture .sci) (pinsOf (pairsOf capture)) (pinsOf (pairsOf other))
       (λ before later x e b.
       let n = board .pins before later x e b in
-      has-pins capture sound _ (n .0) (n .1) ∙ sym (has-pins other sound′ _ (n .0) (n .2)))
-      ∙ (rw (board .madt, board .sci) refl)
+      has-pins capture (kept-inside capture kept .sound) _ (n .0) (n .1) ∙ sym (has-pins other (kept-inside other kept′ .sound) _ (n .0) (n .2)))
+      ∙ (rw (board .madt, same-sci) refl)
 
 module _ (this that : Strictness) (capture other : List ℕ) (board : OneBoard capture other) (accepted : Accepted this capture) (accepted′ : Accepted that other) where
   same-map : scan this capture .map ≡ scan that other .map
   unfolding foundIn
   same-map =
-      let walk = same-walk capture other board (container-sound this capture accepted) (container-sound that other accepted′) (madtPlace capture) in
+      let walk = same-walk capture other board (keeps-28 this capture accepted) (keeps-28 that other accepted′) (madtPlace capture) in
       map-walked this capture accepted
       ∙ ap (λ (w : Walked). w .found .map) walk
       ∙ ap (λ (f : Found). f .map) (found-is _ _ _ _ (ap (λ (w : Walked). w .verdict) (sym walk) ∙ walk-kept this capture accepted))
@@ -140,20 +165,6 @@ module _ (strictness : Strictness) (capture : List ℕ) (kept : KeepsTo28 captur
       ∙ ap (λ (v : Verdict). unless Refused v (firstRefusal rest)) (first-joined (rulesBefore29 capture) fields ∙ unless-sound Refused _ _ kept)
       ∙ sym (first-joined fields rest)
 
--- revision and flags are among the MADT's bytes
-module _ (capture : List ℕ) (kept : KeepsTo28 capture) where
-  revision-there : byteAt (madtOf capture) 8 ≡ madtRevision capture
-  unfolding madtBytes revision
-  revision-there =
-      let long = kept-inside capture kept .madt .long in
-      getD-take (tablesOf capture .madt .length) (drop (madtPlace capture) capture) 8 0 (omega arith) ∙ getD-drop (madtPlace capture) capture 8 0
-
-  flags-there : numberAt 4 (madtOf capture) 40 ≡ numberAt 4 capture (madtPlace capture + 40)
-  unfolding madtBytes
-  flags-there =
-      let long = kept-inside capture kept .madt .long in
-      number-take 4 (drop (madtPlace capture) capture) (tablesOf capture .madt .length) 40 (omega arith) ∙ number-drop 4 capture (madtPlace capture) 40
-
 agree-on-1 : (this that : Strictness) → wrongMadtRevision this 1 ≡ wrongMadtRevision that 1
 unfolding wrongMadtRevision
 agree-on-1 Ordinary Ordinary = refl
@@ -190,7 +201,7 @@ module _ (this that : Strictness) (capture other : List ℕ) (board : OneBoard c
   same-later : ToldAlike here there (firstRefusal (walkRules (madtOf capture) (madtPlace capture) ++ laterRules capture here))
       (firstRefusal (walkRules (madtOf other) (madtPlace other) ++ laterRules other there))
   same-later =
-      rw (same-walk capture other board (kept-inside capture kept .sound) (kept-inside other kept′ .sound) (madtPlace capture), board .madt)
+      rw (same-walk capture other board kept kept′ (madtPlace capture), board .madt)
       (rules-alike here there (madtOf other) (there .sci) (pinsOf (pairsOf other)))
 
   told-alike : ToldAlike here there (scan this capture .verdict) (scan that other .verdict)

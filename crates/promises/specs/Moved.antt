@@ -6,6 +6,7 @@ use mathlib.Core.List.{List, _∷_, _++_}
 use mathlib.Core.Logic.{_⊎_}
 use mathlib.Core.Path.{_≡_}
 use lib.ListN.{take}
+use Rattle.words.specs.Bytes.{numberAt, partAt}
 use Rattle.words.specs.declared.Refusal.{Refusal}
 use Rattle.words.specs.declared.Verdict.{Verdict}
 use Rattle.words.specs.declared.Verdict.the-variants.{Sound, Refused}
@@ -33,11 +34,15 @@ use Rattle.promises.specs.Processors.{madtOf}
 use Rattle.promises.specs.Readings.{madtRevision, KeepsTo28}
 use Rattle.promises.specs.RefusalTable.{isTwofold}
 
+-- "SCI_INT is the 16 bits at 46", of the FADT that a capture's tables name
+abbrev pub sciOf : List ℕ → ℕ
+sciOf capture = numberAt 2 (partAt capture (tablesOf capture .fadt .place) (tablesOf capture .fadt .length)) 46
+
 -- ---- two captures of one board: "with equal MADT bytes, equal SCI numbers and equal pin counts for each BIO". Nothing is said of their
 -- versions, their segments, where the tables lie, or what the passed-over ones hold
 pub record OneBoard (capture other : List ℕ) : Type 0 where
   pub madt : madtOf capture ≡ madtOf other
-  pub sci : tablesOf capture .sci ≡ tablesOf other .sci
+  pub sci : sciOf capture ≡ sciOf other
   -- by the hardware ID of each BIO in the MADT; what pairs tell of other hardware IDs may differ
   pub pins : (before later : List Whole) (x : Whole) → structures (pieces (madtOf capture) 44) ≡ before ++ (x ∷ later) → isType 22 (x .bytes) ≡ true
       → (n : ℕ) × HasPins capture (bioOf (x .bytes) .node) n × HasPins other (bioOf (x .bytes) .node) n
