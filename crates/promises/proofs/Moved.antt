@@ -15,7 +15,7 @@ use Rattle.words.specs.declared.Refusal.{Refusal}
 use Rattle.words.specs.declared.Verdict.{Verdict}
 use Rattle.words.specs.declared.Verdict.the-variants.{Sound, Refused}
 use Rattle.words.proofs.Numbers.{number-take, number-drop}
-use Rattle.words.proofs.Verdicts.{unless-refused, unless-sound, first-joined, joined-kept}
+use Rattle.words.proofs.Verdicts.{not-sound, unless-refused, unless-sound, first-joined, joined-kept}
 use Rattle.capture.specs.Fields.{version}
 use Rattle.capture.specs.Pairs.{pairsOf, pinsOf}
 use Rattle.capture.specs.Rules.{verdict}
@@ -53,9 +53,10 @@ use Rattle.promises.specs.Calls.{HasRead}
 use Rattle.promises.specs.Captures.{Accepted}
 use Rattle.promises.specs.Processors.{madtOf}
 use Rattle.promises.specs.Readings.{madtPlace, madtRevision, KeepsTo28}
-use Rattle.promises.specs.Moved.{sciOf, OneBoard, MapsStay, ListsStay, CEntriesStay, TextStays, MovedRefusal, ToldAlike, Comparable, RefusedAlike}
+use Rattle.promises.specs.Moved.{sciOf, OneBoard, MapsStay, ListsStay, LongEnough, CEntriesStay, TextStays, MovedRefusal, ToldAlike, Comparable, RefusedAlike}
 use Rattle.promises.proofs.MovedRules.{more-alike, joined-alike, none-alike, at-start-alike, rules-alike}
 use Rattle.promises.proofs.Pairs.{has-pins}
+use Rattle.promises.proofs.ReadForC.{c-reading}
 use Rattle.promises.proofs.WhyRead.{Why as WhyRead, why-read}
 use Rattle.promises.proofs.WhyRefused.{why-refused}
 
@@ -142,13 +143,17 @@ in-front strictness capture list n why =
     let table = madtFound strictness capture in
     ap (take (2 * n)) (why .after) ∙ take-at (processors table) _ (2 * n) (twice-all table ∙ ap (λ (k : ℕ). 2 * k) (why .counted))
 
--- and its C entry
-in-front-for-c : (capture list : List ℕ) → HasRead capture list
-    → take (8 * readResult capture list) (bytesAfter capture list) ≡ image (processors (madtFound Strict capture))
-in-front-for-c capture list r =
-    let table = madtFound Strict capture in
-    let n = readResult capture list in
-    ap (take (8 * n)) (r .bytes) ∙ take-at (image (processors table)) _ (8 * n) (eight-each table ∙ ap (λ (k : ℕ). 8 * k) (sym (r .result)))
+-- and so the C entry, where the list is long enough
+module _ (capture list : List ℕ) (accepted : Accepted Strict capture) (long : LongEnough capture list) where
+  has-read : HasRead capture list
+  has-read =
+      ⊎-elim (λ refused. not-sound (sym (refused .broken) ∙ accepted)) (⊎-elim (λ short. absurd (let less = short .short in omega arith)) (λ read. read)) (c-reading capture list)
+
+  in-front-for-c : take (8 * readResult capture list) (bytesAfter capture list) ≡ image (processors (madtFound Strict capture))
+  in-front-for-c =
+      let table = madtFound Strict capture in
+      let n = readResult capture list in
+      ap (take (8 * n)) (has-read .bytes) ∙ take-at (image (processors table)) _ (8 * n) (eight-each table ∙ ap (λ (k : ℕ). 8 * k) (sym (has-read .result)))
 
 -- ---- from 29 on, where no rule before it is broken
 module _ (strictness : Strictness) (capture : List ℕ) (kept : KeepsTo28 capture) where
@@ -251,8 +256,8 @@ c-entries-stay capture other board accepted accepted′ =
     record {
       routes = λ number. unless-sound _ _ _ accepted ∙ ap routeCode (same .routes number) ∙ sym (unless-sound _ _ _ accepted′);
       traces = λ vector number. unless-sound _ _ _ accepted ∙ ap traceCode (same .traces vector number) ∙ sym (unless-sound _ _ _ accepted′);
-      counts = λ list room r r′. r .result ∙ same .count ∙ sym (r′ .result);
-      bytes = λ list room r r′. in-front-for-c capture list r ∙ ap image (same .list) ∙ sym (in-front-for-c other room r′);
+      counts = λ list room long long′. has-read capture list accepted long .result ∙ same .count ∙ sym (has-read other room accepted′ long′ .result);
+      bytes = λ list room long long′. in-front-for-c capture list accepted long ∙ ap image (same .list) ∙ sym (in-front-for-c other room accepted′ long′);
     }
 
 pub text-stays : (capture other : List ℕ) → TextStays capture other

@@ -1,11 +1,11 @@
 -- W-213 of document 02, "Tables may move": "Makers rebuild the firmware and the tables shift." What is promised of two captures of one board,
 -- each by either reading. Each statement stands alone; proofs/Moved.antt has a theorem for it.
-use Prim.Native.Nat.{ℕ, _+_, _*_, _<_}
+use Prim.Native.Nat.{ℕ, _+_, _*_, _<_, _≤_}
 use mathlib.Core.Bool.{true, false}
 use mathlib.Core.List.{List, _∷_, _++_}
 use mathlib.Core.Logic.{_⊎_}
 use mathlib.Core.Path.{_≡_}
-use lib.ListN.{take}
+use lib.ListN.{length, take}
 use Rattle.words.specs.Bytes.{numberAt, partAt}
 use Rattle.words.specs.declared.Refusal.{Refusal}
 use Rattle.words.specs.declared.Verdict.{Verdict}
@@ -27,7 +27,6 @@ use Rattle.reading.specs.Entries.{readResult, bytesAfter, routeResult, traceRes
 use Rattle.reading.specs.declared.Answer.the-variants.{Read, Refused as NotRead}
 use Rattle.text.specs.Lines.{versionLine}
 use Rattle.text.specs.Text.{textOf}
-use Rattle.promises.specs.Calls.{HasRead}
 use Rattle.promises.specs.Captures.{Accepted}
 use Rattle.promises.specs.Pairs.{HasPins}
 use Rattle.promises.specs.Processors.{madtOf}
@@ -71,12 +70,15 @@ ListsStay this that capture other =
     OneBoard capture other → (list room : List ℕ) (n m : ℕ) → readingOf this capture list .answer ≡ Read n → readingOf that other room .answer ≡ Read m
     → SameRead this that capture other list room n m
 
--- of the C entries: equal results, and equal bytes where both filled the list
+-- of the C entries: equal results, and equal bytes, where both lists are long enough
+abbrev pub LongEnough : List ℕ → List ℕ → Type 0
+LongEnough capture list = 8 * count (madtFound Strict capture) ≤ length list
+
 pub record SameInC (capture other : List ℕ) : Type 0 where
   pub routes : (number : ℕ) → routeResult capture number ≡ routeResult other number
   pub traces : (vector number : ℕ) → traceResult capture vector number ≡ traceResult other vector number
-  pub counts : (list room : List ℕ) → HasRead capture list → HasRead other room → readResult capture list ≡ readResult other room
-  pub bytes : (list room : List ℕ) → HasRead capture list → HasRead other room
+  pub counts : (list room : List ℕ) → LongEnough capture list → LongEnough other room → readResult capture list ≡ readResult other room
+  pub bytes : (list room : List ℕ) → LongEnough capture list → LongEnough other room
       → take (8 * readResult capture list) (bytesAfter capture list) ≡ take (8 * readResult other room) (bytesAfter other room)
 
 abbrev pub CEntriesStay : List ℕ → List ℕ → Type 0
