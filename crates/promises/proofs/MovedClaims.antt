@@ -43,7 +43,7 @@ fold-moved {A} {B} f g step step′ h b (x ∷ xs) = ap (λ (c : B). fold step c
 
 module _ (by : ℕ) where
   -- so much further on
-  unfoldable pub movedClaim : Claim → Claim
+  pub movedClaim : Claim → Claim
   movedClaim x =
       record { place = by + x .place; numbers = x .numbers; vectors = x .vectors; node = x .node; hub = x .hub; low = x .low; high = x .high }
 
@@ -114,29 +114,25 @@ module _ (base : ℕ) where
   last-moved p [] = refl
   last-moved p (x ∷ xs) = last-moved (x .at) xs
 
-  pub one-moved : {A : Type 0} (maker : List ℕ → A) (none : A) (there : A → Bool) → there none ≡ false → (xs : List Whole)
+  one-moved : {A : Type 0} (maker : List ℕ → A) (none : A) (there : A → Bool) → there none ≡ false → (xs : List Whole)
       → there (theOne none (map (λ x. maker (x .bytes)) xs)) ≡ true → theOne 0 (map (λ x. base + x .at) xs) ≡ base + theOne 0 (map (λ x. x .at) xs)
   unfolding theOne
   one-moved maker none there absent [] present = absurd (true≢false (sym present ∙ absent))
   one-moved maker none there absent (x ∷ xs) present = last-moved (x .at) xs
 
   -- the claims of a kind with four places
-  pub placed-moved : {A : Type 0} (claim : A → ℕ → Claim) → ((x : A) (p : ℕ) → claim x (base + p) ≡ movedClaim base (claim x p))
-      → (none : A) (maker : List ℕ → A) (xs : List Whole) → let some = take (length xs) (inFour none (map (λ x. maker (x .bytes)) xs)) in
-      placed claim some (inFour 0 (map (λ x. base + x .at) xs)) ≡ map (movedClaim base) (placed claim some (inFour 0 (map (λ x. x .at) xs)))
-  unfolding placed
-  placed-moved {A} claim moves none maker = go
-    where
-      one : (x : Whole) → claim (maker (x .bytes)) (base + x .at) ≡ movedClaim base (claim (maker (x .bytes)) (x .at))
-      one x = moves (maker (x .bytes)) (x .at)
+  module _ {A : Type 0} (claim : A → ℕ → Claim) (moves : (x : A) (p : ℕ) → claim x (base + p) ≡ movedClaim base (claim x p)) (none : A) (maker : List ℕ → A) where
+    claim-moved : (x : Whole) → claim (maker (x .bytes)) (base + x .at) ≡ movedClaim base (claim (maker (x .bytes)) (x .at))
+    claim-moved x = moves (maker (x .bytes)) (x .at)
 
-      go : (xs : List Whole) → let some = take (length xs) (inFour none (map (λ x. maker (x .bytes)) xs)) in
-          placed claim some (inFour 0 (map (λ x. base + x .at) xs)) ≡ map (movedClaim base) (placed claim some (inFour 0 (map (λ x. x .at) xs)))
-      go [] = refl
-      go (x ∷ []) = rw (one x)
-      go (x ∷ y ∷ []) = rw (one x, one y)
-      go (x ∷ y ∷ z ∷ []) = rw (one x, one y, one z)
-      go (x ∷ y ∷ z ∷ w ∷ more) = rw (take-nil {A = A} (length more), one x, one y, one z, one w)
+    placed-moved : (xs : List Whole) → let some = take (length xs) (inFour none (map (λ x. maker (x .bytes)) xs)) in
+        placed claim some (inFour 0 (map (λ x. base + x .at) xs)) ≡ map (movedClaim base) (placed claim some (inFour 0 (map (λ x. x .at) xs)))
+    unfolding placed
+    placed-moved [] = refl
+    placed-moved (x ∷ []) = rw (claim-moved x)
+    placed-moved (x ∷ y ∷ []) = rw (claim-moved x, claim-moved y)
+    placed-moved (x ∷ y ∷ z ∷ []) = rw (claim-moved x, claim-moved y, claim-moved z)
+    placed-moved (x ∷ y ∷ z ∷ w ∷ more) = rw (take-nil {A = A} (length more), claim-moved x, claim-moved y, claim-moved z, claim-moved w)
 
 -- ---- the structures of a MADT, and the map that they make
 -- where they stand in the table
