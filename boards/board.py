@@ -185,7 +185,8 @@ def rebuilt(data, base=0x123456789A):
     passed over, behind them the XSDT, and the RSDP last; above 4 GiB, in eight touching segments. Pairs tell the same, in falling order;
     where there is room, one tells the 64 inputs that bridges of hardware ID 0 have without it, and one tells of no bridge."""
     tables = [table(b"SSDT", 2, 9 * b"APIC")] + [held for _, held in tables_of(data)][::-1] + [table(b"OEM1", 255, bytes(range(200)))]
-    junk, memory, addresses = bytes([17, 15, 1, 165, 0]), b"", []
+    junk = core(165, 0)[:5]
+    memory, addresses = b"", []
     for held in tables:
         memory += junk
         addresses.append(base + len(memory))

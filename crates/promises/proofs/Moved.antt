@@ -53,8 +53,8 @@ use Rattle.promises.specs.Calls.{HasRead}
 use Rattle.promises.specs.Captures.{Accepted}
 use Rattle.promises.specs.Processors.{madtOf}
 use Rattle.promises.specs.Readings.{madtPlace, madtRevision, KeepsTo28}
-use Rattle.promises.specs.Moved.{sciOf, OneBoard, MapsStay, ListsStay, LongEnough, CEntriesStay, TextStays, MovedRefusal, ToldAlike, Comparable, RefusedAlike}
-use Rattle.promises.proofs.MovedRules.{more-alike, joined-alike, none-alike, at-start-alike, rules-alike}
+use Rattle.promises.specs.Moved.{sciOf, OneBoard, MapsStay, ListsStay, LongEnough, CEntriesStay, TextStays, MovedRefusal, Comparable, RefusedAlike}
+use Rattle.promises.proofs.MovedRules.{AlikeAt, alike-told, more-alike, joined-alike, none-alike, at-start-alike, rules-alike}
 use Rattle.promises.proofs.Pairs.{has-pins}
 use Rattle.promises.proofs.ReadForC.{c-reading}
 use Rattle.promises.proofs.WhyRead.{Why as WhyRead, why-read}
@@ -196,23 +196,23 @@ module _ (this that : Strictness) (capture other : List ℕ) (board : OneBoard c
       ap (λ (n : ℕ). not (eqb n 0))
       (sym (flags-there capture kept) ∙ ap (λ (table : List ℕ). numberAt 4 table 40) (board .madt) ∙ flags-there other kept′)
 
-  fields-alike : ToldAlike here there (firstRefusal (madtFieldRules this capture (here .madt))) (firstRefusal (madtFieldRules that other (there .madt)))
+  fields-alike : AlikeAt here there (firstRefusal (madtFieldRules this capture (here .madt))) (firstRefusal (madtFieldRules that other (there .madt)))
   unfolding madtFieldRules
   fields-alike =
       rw (same-revision, same-flags)
       (more-alike here there _ _ _ _ (at-start-alike here there (wrongMadtRevision that (madtRevision other)) 29 (refl, refl))
       (λ y z. more-alike here there _ _ _ _ (at-start-alike here there (wrongFlags other (there .madt)) 30 (refl, refl)) (λ y z. none-alike here there)))
 
-  same-later : ToldAlike here there (firstRefusal (walkRules (madtOf capture) (madtPlace capture) ++ laterRules capture here))
+  later-alike : AlikeAt here there (firstRefusal (walkRules (madtOf capture) (madtPlace capture) ++ laterRules capture here))
       (firstRefusal (walkRules (madtOf other) (madtPlace other) ++ laterRules other there))
-  same-later =
+  later-alike =
       rw (same-walk capture other board kept kept′ (madtPlace capture), board .madt)
       (rules-alike here there (madtOf other) (there .sci) (pinsOf (pairsOf other)))
 
-  told-alike : ToldAlike here there (scan this capture .verdict) (scan that other .verdict)
-  told-alike =
+  verdicts-alike : AlikeAt here there (scan this capture .verdict) (scan that other .verdict)
+  verdicts-alike =
       rw (from-29 this capture kept, from-29 that other kept′)
-      (joined-alike here there (madtFieldRules this capture (here .madt)) (madtFieldRules that other (there .madt)) _ _ fields-alike (λ y z. same-later))
+      (joined-alike here there (madtFieldRules this capture (here .madt)) (madtFieldRules that other (there .madt)) _ _ fields-alike (λ y z. later-alike))
 
   read-alike : (list room : List ℕ) (r : Refusal) → readingOf this capture list .answer ≡ NotRead r → (r .number ≡ 60 → ⊥)
       → (q : Refusal) × (readingOf that other room .answer ≡ NotRead q) × MovedRefusal here there r q
@@ -222,8 +222,8 @@ module _ (this that : Strictness) (capture other : List ℕ) (board : OneBoard c
     where
       go : scan this capture .verdict ≡ Refused r → (v : Verdict) → scan that other .verdict ≡ v
           → (q : Refusal) × (readingOf that other room .answer ≡ NotRead q) × MovedRefusal here there r q
-      go told Sound e = absurd (rw (told, e) at told-alike)
-      go told (Refused q) e = (q, ap (λ (x : Reading). x .answer) (unless-refused withoutMap _ _ e), rw (told, e) at told-alike)
+      go told Sound e = absurd (rw (told, e) at verdicts-alike)
+      go told (Refused q) e = (q, ap (λ (x : Reading). x .answer) (unless-refused withoutMap _ _ e), rw (told, e) at verdicts-alike)
 
 -- THE PROMISES
 pub maps-stay : (this that : Strictness) (capture other : List ℕ) → MapsStay this that capture other
@@ -275,4 +275,7 @@ text-stays capture other board accepted accepted′ =
 
 pub refused-alike : (this that : Strictness) (capture other : List ℕ) → RefusedAlike this that capture other
 refused-alike this that capture other board kept kept′ comparable =
-    record { scanned = told-alike this that capture other board kept kept′ comparable; read = read-alike this that capture other board kept kept′ comparable }
+    record {
+      scanned = alike-told (tablesOf capture) (tablesOf other) _ _ (verdicts-alike this that capture other board kept kept′ comparable);
+      read = read-alike this that capture other board kept kept′ comparable;
+    }

@@ -1,5 +1,5 @@
 -- The rules from 31 on, of one MADT that stands at two places: they tell alike.
-use Prim.Native.Nat.{ℕ, _+_}
+use Prim.Native.Nat.{ℕ, _+_, _<_}
 use native.Mathlib.Omega.{arith}
 use mathlib.Core.Bool.{Bool, true, false}
 use mathlib.Core.List.{List, [], _∷_, _++_}
@@ -43,7 +43,19 @@ use Rattle.promises.specs.RefusalTable.{isTwofold}
 use Rattle.promises.proofs.MapRefusals.{lio-there}
 use Rattle.promises.proofs.MovedClaims.{movedSpot, movedPair, clash-moved, lone-moved, offsets, ht-moved, lpc-moved, claims-moved}
 
--- ---- verdicts, where the tables stand here in one capture and there in the other
+-- ---- verdicts, where the tables stand here in one capture and there in the other: `ToldAlike`, by their cases
+abbrev pub AlikeAt : Tables → Tables → Verdict → Verdict → Type 0
+AlikeAt here there Sound Sound = 0 < 1
+AlikeAt here there (Refused r) (Refused q) = MovedRefusal here there r q
+AlikeAt here there Sound (Refused q) = ⊥
+AlikeAt here there (Refused r) Sound = ⊥
+
+pub alike-told : (here there : Tables) (v w : Verdict) → AlikeAt here there v w → ToldAlike here there v w
+alike-told here there Sound Sound a = inl (refl, refl)
+alike-told here there (Refused r) (Refused q) a = inr (r, q, refl, refl, a)
+alike-told here there Sound (Refused q) a = absurd a
+alike-told here there (Refused r) Sound a = absurd a
+
 module _ (here there : Tables) where
   abbrev h : ℕ
   h = here .madt .place
@@ -52,7 +64,7 @@ module _ (here there : Tables) where
   t = there .madt .place
 
   abbrev Alike : Verdict → Verdict → Type 0
-  Alike = ToldAlike here there
+  Alike = AlikeAt here there
 
   -- two that are alike, and what comes after them
   unless-alike : (v w x y : Verdict) → Alike v w → (v ≡ Sound → w ≡ Sound → Alike x y) → Alike (unless Refused v x) (unless Refused w y)
@@ -230,7 +242,7 @@ module _ (here there : Tables) where
 
 -- THE LAW: 31 to 54
 pub rules-alike : (here there : Tables) (table : List ℕ) (sci : ℕ) (pins : ℕ → ℕ)
-    → ToldAlike here there (firstRefusal (walkRules table (here .madt .place) ++ laterOf table here (walked table (here .madt .place) sci pins .found)))
+    → AlikeAt here there (firstRefusal (walkRules table (here .madt .place) ++ laterOf table here (walked table (here .madt .place) sci pins .found)))
     (firstRefusal (walkRules table (there .madt .place) ++ laterOf table there (walked table (there .madt .place) sci pins .found)))
 unfolding foundIn
 rules-alike here there table sci pins =

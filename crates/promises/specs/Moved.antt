@@ -1,6 +1,6 @@
 -- W-213 of document 02, "Tables may move": "Makers rebuild the firmware and the tables shift." What is promised of two captures of one board,
 -- each by either reading. Each statement stands alone; proofs/Moved.antt has a theorem for it.
-use Prim.Native.Nat.{ℕ, _+_, _*_, _<_, _≤_}
+use Prim.Native.Nat.{ℕ, _+_, _*_, _≤_}
 use mathlib.Core.Bool.{true, false}
 use mathlib.Core.List.{List, _∷_, _++_}
 use mathlib.Core.Logic.{_⊎_}
@@ -109,14 +109,13 @@ pub record MovedRefusal (here there : Tables) (r q : Refusal) : Type 0 where
   pub second : ((isTwofold (r .number) ≡ true) × MovedPlace (here .madt) (there .madt) (r .second) (q .second))
       ⊎ ((isTwofold (r .number) ≡ false) × (r .second ≡ 0) × (q .second ≡ 0))
 
--- both accept, or both refuse so
+-- two verdicts: nothing is refused, or both refuse so
 abbrev pub ToldAlike : Tables → Tables → Verdict → Verdict → Type 0
-ToldAlike here there Sound Sound = 0 < 1
-ToldAlike here there (Refused r) (Refused q) = MovedRefusal here there r q
-ToldAlike here there Sound (Refused q) = ⊥
-ToldAlike here there (Refused r) Sound = ⊥
+ToldAlike here there v w =
+    ((v ≡ Sound) × (w ≡ Sound)) ⊎ ((r : Refusal) × (q : Refusal) × (v ≡ Refused r) × (w ≡ Refused q) × MovedRefusal here there r q)
 
--- "On revision 1 the two give equal answers": one reading of both captures, or one of each, and the MADT is of revision 1
+-- "On revision 1 the two give equal answers": one reading of both captures; or one of each, and the MADT is of revision 1, as one is that the
+-- strict reading accepts
 abbrev pub Comparable : Strictness → Strictness → List ℕ → Type 0
 Comparable this that capture = (this ≡ that) ⊎ (madtRevision capture ≡ 1)
 
