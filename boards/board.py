@@ -181,10 +181,12 @@ def place_of_table(data, signature):
 
 
 def rebuilt(data, base=0x123456789A):
-    """The same MADT and FADT in another capture, of version 2: the tables in falling order, junk between them, around them two more that are
-    passed over, behind them the XSDT, and the RSDP last; above 4 GiB, in eight touching segments. Pairs tell the same, in falling order;
-    where there is room, one tells the 64 inputs that bridges of hardware ID 0 have without it, and one tells of no bridge."""
-    tables = [table(b"SSDT", 2, 9 * b"APIC")] + [held for _, held in tables_of(data)][::-1] + [table(b"OEM1", 255, bytes(range(200)))]
+    """A capture of the same board, of version 2: the same MADT, another FADT with the same SCI number. The tables stand in falling order, junk
+    between them, around them two more that are passed over, behind them the XSDT, and the RSDP last; above 4 GiB, in eight touching
+    segments. Pairs tell the same, in falling order; where there is room, one tells the 64 inputs that bridges of hardware ID 0 have
+    without it, and one tells of no bridge."""
+    tables = [table(b"SSDT", 2, 9 * b"APIC"), *(held for _, held in tables_of(data)[::-1]), table(b"OEM1", 255, bytes(range(200)))]
+    tables = [table(b"FACP", 6, 10 * b"\xff" + held[46:48] + 228 * b"\xff") if held.startswith(b"FACP") else held for held in tables]
     junk = core(165, 0)[:5]
     memory, addresses = b"", []
     for held in tables:

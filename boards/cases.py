@@ -1181,7 +1181,7 @@ for number, answer in ((0, "kind 0 2 275"), (16, "kind 2 0 0"), (17, "kind 0 2 1
     route(f"ACPICA's template as an HT board: {number}", UPSTREAM, number, answer)
 trace("ACPICA's template as an HT board: a slot", UPSTREAM, 2, 320, "kind 4 0 64")
 
-# W-213: tables may move. What is asked above of a capture that breaks none of 1 to 28 is asked again of the rebuilt one, and so of the real ones.
+# W-213: tables may move. What is asked above of a capture that breaks none of 1 to 28 is asked again of another one of the same board.
 
 
 def moved(answer, old, new):
@@ -1199,7 +1199,6 @@ for kind, label, data, answer, *rest in list(cases):
         new = rebuilt(data)
         if len(new) <= MOST_BYTES:  # two captures are full, and cannot grow by what a rebuilt one has more
             ask(kind, ("moved: " + label)[:LABEL], new, moved(answer, data, new), *rest)
-
 
 
 # Board A's neighbours among document 01's twelve examples, which are proved from the boards' bytes.

@@ -53,12 +53,12 @@ PRINTED = {
     "A": (A, LINES_OF_A),
     # the same as version 2, without pairs
     "A-version-2": (board(pairs=()), LINES_OF_A.replace("map 1", "map 2")),
-    # W-213: rebuilt, the same lines. Tables in another order; at the top of memory; with more tables, one of them named twice;
+    # W-213: rebuilt, the same lines. The tables in another order; at the top of memory; among more tables, one of them named twice;
     "A-other-order": (capture([(BASE, lay([fadt(), madt(STRUCTURES_OF_A)]))]), LINES_OF_A),
     "A-elsewhere": (board(base=(1 << 64) - 508), LINES_OF_A),
     "A-more-tables": (capture([(BASE, lay([table(b"SSDT", 2, 9 * b"APIC"), madt(STRUCTURES_OF_A), table(b"MCFG", 1, bytes(24)), fadt()], [2, 3, 0, 1, 2]))]),
                       LINES_OF_A),
-    # each in a segment of its own, the MADT first and the RSDP last; and all of this as version 2, with pairs that change nothing
+    # each in a segment of its own, the MADT first and the RSDP last; and by another tool, as version 2, with pairs that change nothing
     "A-apart": (apart(madt(STRUCTURES_OF_A), fadt()), LINES_OF_A),
     "A-rebuilt": (rebuilt(A), LINES_OF_A.replace("map 1", "map 2")),
     # bridges with 32 inputs, behind each other, and slots from 32 on; a pair that names no bridge, and an empty one
@@ -257,8 +257,8 @@ sci 75 3 11
     "refused-53-at-230": (board([core(0, 0), core(1, 1), core(2, 2, 0), LIO, eio(2, 0), MSI, BIO, LPC]), "refused 53 at 230 with 207\n"),
     # document 02's example
     "refused-52-at-262": (board([core(0, 0), core(1, 1), core(2, 2, 0), LIO, EIO, msi(63, 193), BIO, LPC]), "refused 52 at 262 with 243\n"),
-    # the same rebuilt: the MADT is at 453 and was at 118
-    "refused-52-at-597": (rebuilt(board([core(0, 0), core(1, 1), core(2, 2, 0), LIO, EIO, msi(63, 193), BIO, LPC])), "refused 52 at 597 with 578\n"),
+    # the same rebuilt: the MADT is at 485 and was at 118
+    "refused-52-at-629": (rebuilt(board([core(0, 0), core(1, 1), core(2, 2, 0), LIO, EIO, msi(63, 193), BIO, LPC])), "refused 52 at 629 with 610\n"),
     # a spare CORE between two enabled ones, all with one UID: the later enabled one is named, and it alone
     "refused-39-at-192": (board([core(0, 0), core(0, 5, 0), core(0, 1), LIO, EIO, MSI, BIO, LPC]), "refused 39 at 192\n"),
     # one place alone: of 41, though it has a partner
