@@ -3,7 +3,7 @@
 
 `boards/cases.py` writes crates/vectors/stdin (the questions), crates/vectors/stdout (the answers, one line each), the boards of
 boards/printed.py with what is printed for each, board A as the case of the program `map`, and crates/promises/specs/BoardA.antt
-(board A and three neighbours as lists); `boards/cases.py --check` says whether these files are what these pages make.
+(board A, three neighbours and board A moved, as lists); `boards/cases.py --check` says whether these files are what these pages make.
 Labels begin with the point that they settle: a refusal number, or a rule in our words.
 """
 import pathlib
@@ -1206,9 +1206,13 @@ NEIGHBOURS = [("msiFrom63", "MSI start 63, count 193", put(MSI, msi(63, 193))), 
               ("eioAt2", "EIO cascade 2", put(EIO, eio(2, 0)))]
 
 
+# And board A moved, for the statement that its map stays.
+MOVED = ("board A moved: of version 2, with pairs of 64 inputs for hardware IDs 0 and 5, and its FADT ahead of its MADT",
+         capture([(BASE, lay([fadt(), madt(STRUCTURES_OF_A)]))], pairs=[(0, 64), (5, 64)]))
+
 ROOT = pathlib.Path(__file__).resolve().parent.parent
 FILES = {
-    "crates/promises/specs/BoardA.antt": listed.boards(NEIGHBOURS).encode(),
+    "crates/promises/specs/BoardA.antt": listed.boards(NEIGHBOURS, MOVED).encode(),
     "crates/map/stdin": PRINTED["A"][0],
     "crates/map/stdout": PRINTED["A"][1].encode(),
     "crates/vectors/stdin": b"".join(question(*case) for case in cases),

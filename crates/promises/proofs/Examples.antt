@@ -1,7 +1,8 @@
--- Document 01's twelve examples hold, and board A is read: computed from its bytes.
-use Prim.Native.Nat.{ℕ}
+-- Document 01's twelve examples hold, board A is read, and board A moved is the same board: computed from their bytes.
+use Prim.Native.Nat.{ℕ, zero, suc, _≤_}
+use native.Mathlib.Omega.{arith}
 use mathlib.Core.List.{List}
-use mathlib.Core.Path.{refl}
+use mathlib.Core.Path.{_≡_, refl}
 use Rattle.reading.specs.declared.Scan.{Scan}
 use Rattle.words.specs.Choice.{if}
 use Rattle.words.specs.Refusals.{unless, firstRefusal, inEach, isSound}
@@ -46,8 +47,11 @@ use Rattle.reading.specs.Scan.{madtBytes, emptyMap, turnedDown, repeatRule, pro
 use Rattle.text.specs.Numerals.{letters, digits, decimal}
 use Rattle.text.specs.Lines.{each, field, phrase, line, versionLine, coreLine, coreLines, halfLine, lioLines, htLine, eioLine, bioLine, msiLine, lpcLine, sciLine}
 use Rattle.text.specs.Text.{mapParts, mapText, textOf}
-use Rattle.promises.specs.BoardA.{boardA, msiFrom63, msiTo257, eioAt2}
+use Rattle.promises.specs.BoardA.{boardA, msiFrom63, msiTo257, eioAt2, boardAMoved}
+use Rattle.promises.specs.Captures.{Accepted}
 use Rattle.promises.specs.Examples.{told, twelve, TwelveExamples, BoardAIsRead, BoardAIsPrinted}
+use Rattle.promises.specs.Moved.{BoardAMoves}
+use Rattle.promises.specs.Pairs.{numberOf, Gives, HasPins}
 
 -- the scan, with all that it and the answers are computed by
 unfoldable computed : Strictness → List ℕ → Scan
@@ -68,3 +72,32 @@ board-a-is-read Strict = record { accepted = refl; reading = refl; list = refl; 
 pub board-a-is-printed : BoardAIsPrinted
 unfolding boardA computed textOf mapText mapParts each field phrase line versionLine coreLine coreLines halfLine lioLines htLine eioLine bioLine msiLine lpcLine sciLine letters digits decimal
 board-a-is-printed = refl
+
+-- board A moved: whatever the hardware ID, no pair tells another number than 64
+moved-pins : (id : ℕ) → HasPins boardAMoved id 64
+unfolding boardAMoved
+moved-pins id = record { told = told64; else64 = λ never. refl }
+  where
+    told64 : (k : ℕ) → Gives boardAMoved k id → 64 ≡ numberOf boardAMoved k
+    told64 zero g = refl
+    told64 (suc zero) g = refl
+    told64 (suc (suc zero)) g = absurd (let full : 1 ≤ 0 = g .full in omega arith)
+    told64 (suc (suc (suc zero))) g = absurd (let full : 1 ≤ 0 = g .full in omega arith)
+    told64 (suc (suc (suc (suc k)))) g = absurd (let few = g .counted in omega arith)
+
+still-pins : (id : ℕ) → HasPins boardA id 64
+unfolding boardA version numberAt
+still-pins id = record { told = λ k g. absurd (let two : 1 ≡ 2 = g .paired in omega arith); else64 = λ never. refl }
+
+pub board-a-moves : BoardAMoves
+unfolding boardA boardAMoved computed
+board-a-moves =
+    record {
+      board = record { madt = refl; sci = refl; pins = λ before later x e b. (64, still-pins _, moved-pins _) };
+      accepted = accepted;
+      places = (refl, refl);
+    }
+  where
+    accepted : (strictness : Strictness) → Accepted strictness boardAMoved
+    accepted Ordinary = refl
+    accepted Strict = refl

@@ -1,5 +1,5 @@
--- Document 01, "Board A and its neighbours", byte by byte: what boards/A.cap holds, and three neighbours with their sums
--- made good. boards/cases.py writes this file, and says whether it is what boards/A.cap holds.
+-- Document 01, "Board A and its neighbours", byte by byte: what boards/A.cap holds, three neighbours with their sums made good, and board
+-- A moved. boards/cases.py writes this file, and says whether it is what boards/A.cap holds.
 use Prim.Native.Nat.{ℕ}
 use mathlib.Core.List.{List, [], _∷_, _++_}
 use lib.ListN.{set}
@@ -73,3 +73,15 @@ msiTo257 = set (set boardA 127 41) 254 65
 unfoldable pub eioAt2 : List ℕ
 unfolding boardA
 eioAt2 = set (set boardA 127 43) 233 2
+
+-- ---- board A moved: of version 2, with pairs of 64 inputs for hardware IDs 0 and 5, and its FADT ahead of its MADT
+-- the container: header, pairs and one descriptor
+abbrev containerMoved : List ℕ
+containerMoved = 84 ∷ 66 ∷ 67 ∷ 2 ∷ 0 ∷ 1 ∷ 34 ∷ 2 ∷ 0 ∷ 0 ∷ 0 ∷ 0 ∷ 0 ∷ 144 ∷ 0 ∷ 0 ∷ 0 ∷ 0 ∷ 0 ∷ 64 ∷ 5 ∷ 64 ∷ 0 ∷ 0 ∷ 0 ∷ 0 ∷ 0 ∷ 0 ∷ 0 ∷ 144 ∷ 0 ∷ 0 ∷ 0 ∷ 0 ∷ 252 ∷ 1 ∷ 0 ∷ 0 ∷ []
+
+-- XSDT
+abbrev xsdtMoved : List ℕ
+xsdtMoved = 88 ∷ 83 ∷ 68 ∷ 84 ∷ 52 ∷ 0 ∷ 0 ∷ 0 ∷ 1 ∷ 129 ∷ 76 ∷ 79 ∷ 79 ∷ 78 ∷ 71 ∷ 83 ∷ 76 ∷ 79 ∷ 79 ∷ 78 ∷ 71 ∷ 83 ∷ 79 ∷ 78 ∷ 1 ∷ 0 ∷ 0 ∷ 0 ∷ 0 ∷ 0 ∷ 0 ∷ 0 ∷ 0 ∷ 0 ∷ 0 ∷ 0 ∷ 88 ∷ 0 ∷ 0 ∷ 144 ∷ 0 ∷ 0 ∷ 0 ∷ 0 ∷ 76 ∷ 1 ∷ 0 ∷ 144 ∷ 0 ∷ 0 ∷ 0 ∷ 0 ∷ []
+
+unfoldable pub boardAMoved : List ℕ
+boardAMoved = containerMoved ++ rsdpBytes ++ xsdtMoved ++ fadtBytes ++ madtHead ++ core0 ++ core1 ++ core2 ++ lioBytes ++ eioBytes ++ msiBytes ++ bioBytes ++ lpcBytes

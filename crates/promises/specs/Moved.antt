@@ -27,10 +27,11 @@ use Rattle.reading.specs.Entries.{readResult, bytesAfter, routeResult, traceRes
 use Rattle.reading.specs.declared.Answer.the-variants.{Read, Refused as NotRead}
 use Rattle.text.specs.Lines.{versionLine}
 use Rattle.text.specs.Text.{textOf}
+use Rattle.promises.specs.BoardA.{boardA, boardAMoved}
 use Rattle.promises.specs.Captures.{Accepted}
 use Rattle.promises.specs.Pairs.{HasPins}
 use Rattle.promises.specs.Processors.{madtOf}
-use Rattle.promises.specs.Readings.{madtRevision, KeepsTo28}
+use Rattle.promises.specs.Readings.{madtPlace, madtRevision, KeepsTo28}
 use Rattle.promises.specs.RefusalTable.{isTwofold}
 
 -- "SCI_INT is the 16 bits at 46", of the FADT that a capture's tables name
@@ -45,6 +46,13 @@ pub record OneBoard (capture other : List ℕ) : Type 0 where
   -- by the hardware ID of each BIO in the MADT; what pairs tell of other hardware IDs may differ
   pub pins : (before later : List Whole) (x : Whole) → structures (pieces (madtOf capture) 44) ≡ before ++ (x ∷ later) → isType 22 (x .bytes) ≡ true
       → (n : ℕ) × HasPins capture (bioOf (x .bytes) .node) n × HasPins other (bioOf (x .bytes) .node) n
+
+-- there are such captures: board A, and board A moved, which is of version 2, has pairs, and has its FADT ahead of its MADT. Both readings
+-- accept it too
+pub record BoardAMoves : Type 0 where
+  pub board : OneBoard boardA boardAMoved
+  pub accepted : (strictness : Strictness) → Accepted strictness boardAMoved
+  pub places : (madtPlace boardA ≡ 118) × (madtPlace boardAMoved ≡ 370)
 
 -- ---- "two accepted captures .. give equal maps and equal processor lists, wherever the tables lie and whatever the passed-over tables hold"
 pub record SameFound (this that : Strictness) (capture other : List ℕ) : Type 0 where
