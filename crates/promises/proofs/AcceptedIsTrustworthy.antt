@@ -26,7 +26,6 @@ use Rattle.map_promises.proofs.Routing.{route-is-sources, unwired-exactly, no-o
 use Rattle.map_promises.proofs.Tracing.{tracing-names, nothing-exactly}
 use Rattle.map_promises.proofs.ThereAndBack.{lpc-lines-share, there-and-back}
 use Rattle.reading.specs.Scan.{scan}
-use Rattle.reading.specs.Reading.{answered}
 use Rattle.reading.proofs.AcceptedKeepsRules.{accepted-is-normal, accepted-keeps-rules}
 use Rattle.promises.specs.Captures.{Trustworthy, AcceptedIsTrustworthy, ReadIsTrustworthy}
 use Rattle.promises.proofs.WhyRead.{why-read}
