@@ -1,25 +1,26 @@
--- Writing the entries of processors one behind the other: what holds at each turn of the loops, and a law for each way that a turn
--- can go; and what comes of filling a list.
+-- The entries of processors one behind the other, as they are written, and what comes of filling a list.
 use mathlib.Core.Path.{_≡_, refl, sym, ap, _∙_}
 use mathlib.Core.Bool.{true, false}
 use mathlib.Core.List.{List, [], _∷_, _++_}
 use Prim.Native.Nat.{ℕ, _+_, _*_, _≤_, _<_}
-use native.Mathlib.Nat.{zero-add}
 use native.Mathlib.Numerals.{add-one}
 use native.Mathlib.Omega.{arith}
 use borrow.Author.Tests.{le-leb, lt-leb}
-use lib.ListN.{length, drop, getD, length-append, drop-of-length-le}
-use lib.Seq.{sets, sets-eq, length-sets, drop-cons}
+use lib.ListN.{length, drop, getD, drop-of-length-le}
+use lib.Seq.{drop-cons}
 use Rattle.words.proofs.Choices.{yes-if, no-if, if-cases}
-use Rattle.words.proofs.Rooms.{sets-append}
+use Rattle.words.proofs.Rooms.{Next}
 use Rattle.words.proofs.Those.{length-map}
 use Rattle.kinds.specs.Makers.{coreOf}
 use Rattle.madt.specs.Pieces.{Whole}
-use Rattle.processors.specs.Listing.{coresOf, idsOf, listed, numbersOf, processors, count, hasRoom, written, filled, filling}
+use Rattle.words.specs.Rooms.{hasRoom, written, filled}
+use Rattle.processors.specs.Listing.{coresOf, idsOf, listed, numbersOf, processors, count, filling}
 use Rattle.processors.specs.Repeats.{noProcessor}
+use Rattle.processors.specs.Again.{processorAt, processorsAt}
 use Rattle.processors.specs.declared.Processor.{Processor}
 use Rattle.processors.specs.declared.Filled.{Filled}
 use Rattle.processors.specs.declared.Filled.the-variants as fillings
+use Rattle.processors.proofs.ReadAgain.{read-at}
 
 -- the numbers of one processor
 abbrev pub two : Processor → List ℕ
@@ -47,52 +48,20 @@ pub twice-all : (table : List ℕ) → length (processors table) ≡ 2 * count t
 unfolding processors count
 twice-all table = two-each (listed (coresOf table)) ∙ ap (λ (n : ℕ). 2 * n) (length-map (λ (x : Whole). idsOf (coreOf (x .bytes))) (coresOf table))
 
--- ---- writing: what the list is once the processors from number k on are written from place n on is known
-pub record Writing (g : List ℕ → List ℕ) (ps : List Processor) (old list : List ℕ) (n k : ℕ) : Type 0 where
-  pub fits : n + length (g (numbersOf (drop k ps))) ≤ length list
-  pub same : length list ≡ length old
-  pub rest : sets list n (g (numbersOf (drop k ps))) ≡ written (g (numbersOf ps)) old
+-- ---- what is left to write once the CORE at k offsets are written
+module _ {g : List ℕ → List ℕ} {entry : ℕ} (spelling : Spelling g entry) (table offsets : List ℕ) (k : ℕ) where
+  pub none-left : length offsets ≤ k → g (numbersOf (drop k (processorsAt table offsets))) ≡ []
+  unfolding numbersOf
+  none-left h = rw (drop-of-length-le (processorsAt table offsets) {i = k} (omega (arith, length-map (processorAt table) offsets))) (spelling .none)
 
-module _ {g : List ℕ → List ℕ} {entry : ℕ} (spelling : Spelling g entry) where
-  pub write-start : (ps : List Processor) (old : List ℕ) → length (g (numbersOf ps)) ≤ length old → Writing g ps old old 0 0
-  unfolding written
-  write-start ps old h = record { fits = omega arith; same = refl; rest = rw zero-add at (sets-eq (g (numbersOf ps)) old 0 (omega arith)) }
-
-  module _ {ps : List Processor} {old list : List ℕ} {n k : ℕ} (inv : Writing g ps old list n k) where
-    pub write-end : length ps ≤ k → list ≡ written (g (numbersOf ps)) old
-    unfolding numbersOf
-    write-end h = rw (drop-of-length-le ps h, spelling .none) at (inv .rest)
-
-    module _ (more : k < length ps) {p : Processor} (e : p ≡ getD ps k noProcessor) where
-      abbrev one : List ℕ
-      one = g (two p)
-
-      abbrev later : List ℕ
-      later = g (numbersOf (drop (k + 1) ps))
-
-      at-hand : drop k ps ≡ p ∷ drop (k + 1) ps
-      at-hand = rw (e, add-one) (drop-cons ps k noProcessor more)
-
-      split : g (numbersOf (drop k ps)) ≡ one ++ later
-      unfolding numbersOf
-      split = rw at-hand (spelling .joined (two p) (numbersOf (drop (k + 1) ps)))
-
-      room : n + (entry + length later) ≤ length list
-      room = rw (split, length-append, spelling .each p) at (inv .fits)
-
-      pub write-room : n + entry ≤ length list
-      write-room = let all = room in omega arith
-
-      pub write-next : {list′ : List ℕ} {n′ k′ : ℕ} → list′ ≡ sets list n one → n′ ≡ n + entry → k′ ≡ k + 1 → Writing g ps old list′ n′ k′
-      write-next l m j =
-          let all = room in
-          let size = length-sets list n one in
-          rw (l, m, j)
-          (record {
-            fits = rw size (omega arith);
-            same = rw size (inv .same);
-            rest = rw (← spelling .each p) (sym (sets-append list n one later) ∙ (rw split at (inv .rest)));
-          })
+  pub one-left : k < length offsets → {p : Processor} → p ≡ processorAt table (getD offsets k 0)
+      → Next entry (g (numbersOf (drop k (processorsAt table offsets)))) (g (two p)) (g (numbersOf (drop (k + 1) (processorsAt table offsets))))
+  unfolding numbersOf
+  one-left more {p} e =
+      let ps = processorsAt table offsets in
+      let many = length-map (processorAt table) offsets in
+      let at-hand : drop k ps ≡ p ∷ drop (k + 1) ps = rw (e, read-at table offsets k more, add-one) (drop-cons ps k noProcessor (omega arith)) in
+      record { split = rw at-hand (spelling .joined (two p) (numbersOf (drop (k + 1) ps))); size = spelling .each p }
 
 -- ---- a list that is too short, and one that has room
 module _ (entries list : List ℕ) where

@@ -11,7 +11,8 @@ use lib.Seq.{sets}
 use Rattle.words.specs.Choice.{if}
 use Rattle.processors.specs.Image.{fourBytes, image}
 use Rattle.words.proofs.Rooms.{sets-append}
-use Rattle.processors.specs.Listing.{processors, count, hasRoom, written, filled}
+use Rattle.words.specs.Rooms.{hasRoom, written, filled}
+use Rattle.processors.specs.Listing.{processors, count}
 use Rattle.processors.proofs.Filling.{Spelling, twice-all}
 
 -- four stores in a row

@@ -1,11 +1,10 @@
 -- Document 01, "What comes back": "The processor list is lent as 32-bit numbers: UID and physical ID of each enabled CORE, in
 -- table order, and the count; entries past 2 × count stay."
 use Prim.Native.Nat.{ℕ}
-use mathlib.Core.Bool.{Bool}
-use mathlib.Core.List.{List, [], _∷_, _++_, map}
-use lib.Dec.{leb}
-use lib.ListN.{length, drop}
+use mathlib.Core.List.{List, [], _∷_, map}
+use lib.ListN.{length}
 use Rattle.words.specs.Choice.{if}
+use Rattle.words.specs.Rooms.{hasRoom}
 use Rattle.kinds.specs.Makers.{coreOf}
 use Rattle.kinds.specs.declared.makers.Core.{Core}
 use Rattle.madt.specs.Pieces.{Whole, pieces, structures}
@@ -37,18 +36,6 @@ processors table = numbersOf (listed (coresOf table))
 
 unfoldable pub count : List ℕ → ℕ
 count table = length (coresOf table)
-
--- a list has room for entries
-unfoldable pub hasRoom : List ℕ → List ℕ → Bool
-hasRoom entries list = leb (length entries) (length list)
-
--- a list with its front written: "entries past 2 × count stay"
-unfoldable pub written : List ℕ → List ℕ → List ℕ
-written entries list = entries ++ drop (length entries) list
-
--- the same where there is room; a list that is too short stays as it is
-unfoldable pub filled : List ℕ → List ℕ → List ℕ
-filled entries list = if (hasRoom entries list) (written entries list) list
 
 -- what comes of filling a list with the entries of some processors
 unfoldable pub filling : List ℕ → ℕ → List ℕ → Filled

@@ -7,7 +7,8 @@ ghost use Prim.Native.Nat.{_+_, _≤_};
 ghost use lib.ListN.{length};
 ghost use lib.Seq.{sets};
 ghost use Rattle.processors.specs.Image.{fourBytes, image};
-ghost use Rattle.processors.specs.Listing.{numbersOf, written, filled, filling};
+ghost use Rattle.words.specs.Rooms.{written, filled};
+ghost use Rattle.processors.specs.Listing.{numbersOf, filling};
 ghost use Rattle.processors.specs.Again.{processorsAt};
 
 // How many bytes a number takes, and a processor, which has two.

@@ -6,7 +6,8 @@ ghost use mathlib.Core.List.{[], _∷_};
 ghost use Prim.Native.Nat.{_+_, _≤_};
 ghost use lib.ListN.{length};
 ghost use lib.Seq.{sets};
-ghost use Rattle.processors.specs.Listing.{numbersOf, written, filled, filling};
+ghost use Rattle.words.specs.Rooms.{written, filled};
+ghost use Rattle.processors.specs.Listing.{numbersOf, filling};
 ghost use Rattle.processors.specs.Again.{processorsAt};
 
 // How many numbers a processor takes.

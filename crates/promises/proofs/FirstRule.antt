@@ -11,7 +11,8 @@ use Rattle.words.specs.declared.Verdict.the-variants.{Sound, Refused}
 use Rattle.words.proofs.Verdicts.{first-joined}
 use Rattle.tables.specs.declared.Strictness.{Strictness}
 use Rattle.lines.specs.declared.Map.{Map}
-use Rattle.processors.specs.Listing.{processors, count, hasRoom}
+use Rattle.words.specs.Rooms.{hasRoom}
+use Rattle.processors.specs.Listing.{processors, count}
 use Rattle.reading.specs.Scan.{allRules, scan}
 use Rattle.reading.specs.Reading.{withoutMap, answered, madtFound, readingOf}
 use Rattle.reading.specs.declared.Answer.the-variants as answers

@@ -36,7 +36,8 @@ use Rattle.madt.specs.declared.Found.{Found}
 use Rattle.madt.specs.declared.Walked.{Walked}
 use Rattle.madt.proofs.Accepted.{found-is}
 use Rattle.processors.specs.Image.{image}
-use Rattle.processors.specs.Listing.{processors, count, written}
+use Rattle.words.specs.Rooms.{written}
+use Rattle.processors.specs.Listing.{processors, count}
 use Rattle.processors.proofs.Filling.{twice-all}
 use Rattle.processors.proofs.Image.{eight-each}
 use Rattle.map_promises.proofs.OnlyItsBridges.{only-its-bridges}

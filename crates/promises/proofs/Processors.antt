@@ -27,7 +27,8 @@ use Rattle.tables.proofs.Inside.{Accepted as TablesInside, tables-inside, surve
 use Rattle.madt.specs.Pieces.{Whole}
 use Rattle.madt.specs.Walk.{walkRules}
 use Rattle.madt.proofs.Accepted.{walk-verdict}
-use Rattle.processors.specs.Listing.{coresOf, listed, processors, count, written}
+use Rattle.words.specs.Rooms.{written}
+use Rattle.processors.specs.Listing.{coresOf, listed, processors, count}
 use Rattle.processors.specs.declared.Processor.{Processor}
 use Rattle.processors.specs.Repeats.{repeatsId, firstRepeating, firstRepeat}
 use Rattle.processors.specs.declared.Repeat.{Repeat}

@@ -20,7 +20,8 @@ use Rattle.lines.specs.Answers.{refusalCode}
 use Rattle.words.specs.declared.Verdict.{Verdict}
 use Rattle.words.specs.declared.Verdict.the-variants as verdicts
 use Rattle.processors.specs.Image.{fourBytes, image}
-use Rattle.processors.specs.Listing.{processors, count, hasRoom, written, filled}
+use Rattle.words.specs.Rooms.{hasRoom, written, filled}
+use Rattle.processors.specs.Listing.{processors, count}
 use Rattle.processors.proofs.Image.{eight-each, room-image, filled-image}
 use Rattle.reading.specs.Scan.{madtBytes, scan}
 use Rattle.reading.specs.Reading.{withoutMap, answered, madtFound, readingOf, listAfter}

@@ -8,9 +8,9 @@ use mathlib.Core.Bool.{Bool, true, false, not, _||_, true≢false}
 use borrow.Author.Tests.{ne-eqb}
 use lib.Dec.{eqb}
 use lib.ListN.{length}
-use Rattle.words.specs.Lists.{first, numbersFrom}
+use Rattle.words.specs.Lists.{first, inEach, numbersFrom}
 use Rattle.words.specs.Choice.{if}
-use Rattle.words.specs.Refusals.{refused, refusedWith, rule, unless, firstRefusal, inEach}
+use Rattle.words.specs.Refusals.{refused, refusedWith, rule, unless, firstRefusal}
 use Rattle.words.specs.declared.Refusal.{Refusal}
 use Rattle.words.specs.declared.Verdict.{Verdict}
 use Rattle.words.specs.declared.Verdict.the-variants.{Sound, Refused}

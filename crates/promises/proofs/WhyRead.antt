@@ -11,7 +11,8 @@ use Rattle.words.specs.declared.Verdict.the-variants as verdicts
 use Rattle.words.proofs.Choices.{yes-if}
 use Rattle.words.proofs.Verdicts.{unless-refused, unless-sound}
 use Rattle.tables.specs.declared.Strictness.{Strictness}
-use Rattle.processors.specs.Listing.{processors, count, hasRoom, written, filled}
+use Rattle.words.specs.Rooms.{hasRoom, written, filled}
+use Rattle.processors.specs.Listing.{processors, count}
 use Rattle.reading.specs.Scan.{scan}
 use Rattle.reading.specs.Reading.{withoutMap, madtFound, readingOf, listAfter}
 use Rattle.reading.specs.declared.Answer.{Answer}

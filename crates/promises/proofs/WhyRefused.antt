@@ -10,7 +10,8 @@ use Rattle.words.specs.declared.Refusal.{Refusal}
 use Rattle.words.specs.declared.Verdict.{Verdict}
 use Rattle.words.specs.declared.Verdict.the-variants as verdicts
 use Rattle.tables.specs.declared.Strictness.{Strictness}
-use Rattle.processors.specs.Listing.{processors, hasRoom}
+use Rattle.words.specs.Rooms.{hasRoom}
+use Rattle.processors.specs.Listing.{processors}
 use Rattle.words.proofs.Choices.{if-cases}
 use Rattle.reading.specs.Scan.{scan}
 use Rattle.reading.specs.Reading.{withoutMap, answered, madtFound, readingOf}

@@ -10,7 +10,8 @@ use Rattle.words.specs.Refusals.{rule, firstRefusal}
 use Rattle.words.specs.declared.Verdict.{Verdict}
 use Rattle.words.specs.declared.Verdict.the-variants.{Sound, Refused}
 use Rattle.tables.specs.declared.Strictness.{Strictness}
-use Rattle.processors.specs.Listing.{processors, hasRoom}
+use Rattle.words.specs.Rooms.{hasRoom}
+use Rattle.processors.specs.Listing.{processors}
 use Rattle.reading.specs.Scan.{allRules, scan}
 use Rattle.reading.specs.Reading.{madtFound, readingOf}
 use Rattle.reading.specs.declared.Answer.{Answer}

@@ -27,7 +27,8 @@ use Rattle.madt.specs.Walk.{walkRules}
 use Rattle.madt.specs.declared.Found.{Found}
 use Rattle.madt.proofs.Accepted.{walk-verdict}
 use Rattle.processors.specs.Repeats.{firstRepeat}
-use Rattle.processors.specs.Listing.{processors, count, hasRoom}
+use Rattle.words.specs.Rooms.{hasRoom}
+use Rattle.processors.specs.Listing.{processors, count}
 use Rattle.processors.specs.Image.{image}
 use Rattle.processors.proofs.Image.{eight-each}
 use Rattle.processors.specs.declared.Repeat.{Repeat}

@@ -9,7 +9,8 @@ use Rattle.words.specs.Refusals.{refused, unless}
 use Rattle.tables.specs.declared.Strictness.the-variants.{Strict}
 use Rattle.lines.specs.Answers.{refusalCode, routeOf, traceOf, routeCode, traceCode}
 use Rattle.processors.specs.Image.{image}
-use Rattle.processors.specs.Listing.{processors, count, filled}
+use Rattle.words.specs.Rooms.{filled}
+use Rattle.processors.specs.Listing.{processors, count}
 use Rattle.reading.specs.Scan.{scan}
 use Rattle.reading.specs.Reading.{madtFound}
 use Rattle.reading.specs.declared.Answer.{Answer}

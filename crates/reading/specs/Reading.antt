@@ -6,7 +6,8 @@ use Rattle.words.specs.Refusals.{refused, unless}
 use Rattle.words.specs.declared.Refusal.{Refusal}
 use Rattle.tables.specs.declared.Strictness.{Strictness}
 use Rattle.lines.specs.declared.Map.{Map}
-use Rattle.processors.specs.Listing.{processors, count, hasRoom, filled}
+use Rattle.words.specs.Rooms.{hasRoom, filled}
+use Rattle.processors.specs.Listing.{processors, count}
 use Rattle.reading.specs.Scan.{madtBytes, emptyMap, scan}
 use Rattle.reading.specs.declared.Answer.the-variants.{Read, Refused}
 use Rattle.reading.specs.declared.Reading.{Reading}

@@ -5,8 +5,8 @@ use mathlib.Core.Bool.{Bool, not, _||_}
 use mathlib.Core.List.{List, [], _∷_}
 use lib.Dec.{eqb, ltb}
 use Rattle.words.specs.Bytes.{spelled}
-use Rattle.words.specs.Lists.{numbersBelow}
-use Rattle.words.specs.Refusals.{rule, inEach}
+use Rattle.words.specs.Lists.{inEach, numbersBelow}
+use Rattle.words.specs.Refusals.{rule}
 use Rattle.words.specs.declared.Verdict.{Verdict}
 use Rattle.tables.specs.Table.{headerSize, signature, revision, tableRules}
 use Rattle.tables.specs.declared.Table.{Table}

@@ -14,7 +14,8 @@ use Rattle.capture.specs.Fields.{version}
 use Rattle.words.specs.declared.Verdict.{Verdict}
 use Rattle.words.specs.declared.Verdict.the-variants as verdicts
 use Rattle.tables.specs.declared.Strictness.the-variants.{Strict}
-use Rattle.processors.specs.Listing.{processors, count, hasRoom, written, filled}
+use Rattle.words.specs.Rooms.{hasRoom, written, filled}
+use Rattle.processors.specs.Listing.{processors, count}
 use Rattle.processors.proofs.Filling.{twice-all, too-short, enough-room}
 use Rattle.reading.specs.Scan.{scan}
 use Rattle.reading.specs.Reading.{withoutMap, answered, madtFound, readingOf, listAfter}

@@ -9,7 +9,8 @@ use Rattle.tables.specs.declared.Strictness.the-variants.{Strict}
 use Rattle.lines.specs.Says.{says}
 use Rattle.lines.specs.Answers.{routeOf}
 use Rattle.lines.specs.declared.Map.{Map}
-use Rattle.processors.specs.Listing.{processors, hasRoom}
+use Rattle.words.specs.Rooms.{hasRoom}
+use Rattle.processors.specs.Listing.{processors}
 use Rattle.reading.specs.Scan.{scan}
 use Rattle.reading.specs.Reading.{madtFound}
 use Rattle.text.specs.Lines.{each, versionLine, coreLines, lioLines, htLine, eioLine, bioLine, msiLine, lpcLine, sciLine, refusalLine}

@@ -10,7 +10,7 @@ ghost use mathlib.Core.Path.{_≡_};
 ghost use Prim.Native.Nat.{_≤_};
 ghost use lib.ListN.{length};
 ghost use lib.Seq.{sets};
-ghost use Rattle.processors.specs.Listing.{filled};
+ghost use Rattle.words.specs.Rooms.{filled};
 ghost use Rattle.reading.specs.Reading.{readingOf, listAfter};
 ghost use Rattle.text.specs.Text.{mapText, textOf, outcome};
 ghost use Rattle.text.specs.Rooms.{lent};

@@ -9,8 +9,8 @@ use mathlib.Core.Logic.{⊎-elim}
 use native.Mathlib.Nat.{eq-or-lt-of-le, le-of-suc-le-suc, not-suc-le-zero}
 use lib.ListN.{getD}
 use Rattle.words.specs.Choice.{if}
-use Rattle.words.specs.Lists.{first, numbersFrom}
-use Rattle.words.specs.Refusals.{refused, rule, unless, firstRefusal, inEach, isSound}
+use Rattle.words.specs.Lists.{first, inEach, numbersFrom}
+use Rattle.words.specs.Refusals.{refused, rule, unless, firstRefusal, isSound}
 use Rattle.words.specs.declared.Refusal.{Refusal}
 use Rattle.words.specs.declared.Verdict.{Verdict}
 use Rattle.words.specs.declared.Verdict.the-variants.{Sound, Refused}

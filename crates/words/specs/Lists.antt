@@ -1,7 +1,7 @@
--- Searches and tests over a list, in its order.
+-- Searches and tests over a list, and what its elements give, in its order.
 use Prim.Native.Nat.{ℕ, zero, suc, _+_}
 use mathlib.Core.Bool.{Bool, true, _&&_}
-use mathlib.Core.List.{List, [], _∷_}
+use mathlib.Core.List.{List, [], _∷_, _++_}
 use Rattle.words.specs.Choice.{if}
 
 -- `found` of the first element that the test takes, or `none` where it takes no element
@@ -20,6 +20,11 @@ every test (x ∷ xs) = test x && every test xs
 unfoldable pub those {ℓ} : {A : Type ℓ} → (A → Bool) → List A → List A
 those test [] = []
 those test (x ∷ xs) = if (test x) (x ∷ those test xs) (those test xs)
+
+-- what each element gives, in turn: all that the first gives, then what the next gives
+unfoldable pub inEach {ℓ ℓ′} : {A : Type ℓ} {B : Type ℓ′} → (A → List B) → List A → List B
+inEach gives [] = []
+inEach gives (x ∷ xs) = gives x ++ inEach gives xs
 
 -- the k numbers from `from` on
 unfoldable pub numbersFrom : ℕ → ℕ → List ℕ

@@ -2,7 +2,7 @@
 -- Every layer lists what its rules say, in their order, and asks the list for its first refusal.
 use Prim.Native.Nat.{ℕ}
 use mathlib.Core.Bool.{Bool, true, false}
-use mathlib.Core.List.{List, [], _∷_, _++_}
+use mathlib.Core.List.{List, [], _∷_}
 use Rattle.words.specs.Choice.{if}
 use Rattle.words.specs.declared.Refusal.{Refusal}
 use Rattle.words.specs.declared.Verdict.{Verdict}
@@ -29,11 +29,6 @@ unless turned Sound answer = answer
 unfoldable pub firstRefusal : List Verdict → Verdict
 firstRefusal [] = Sound
 firstRefusal (verdict ∷ later) = unless Refused verdict (firstRefusal later)
-
--- the rules of some things in turn: all of the first, then those of the next
-unfoldable pub inEach {ℓ} : {A : Type ℓ} → (A → List Verdict) → List A → List Verdict
-inEach rules [] = []
-inEach rules (x ∷ xs) = rules x ++ inEach rules xs
 
 -- no rule is broken
 unfoldable pub isSound : Verdict → Bool

@@ -1,7 +1,8 @@
 -- `reading::read_by` scans, and fills the list only where it answers.
 use mathlib.Core.List.{List}
 use Prim.Native.Nat.{ℕ}
-use Rattle.processors.specs.Listing.{processors, filled}
+use Rattle.words.specs.Rooms.{filled}
+use Rattle.processors.specs.Listing.{processors}
 use Rattle.reading.specs.Scan.{madtBytes}
 use Rattle.reading.specs.Reading.{answered, madtFound, readingOf, listAfter}
 use Rattle.reading.specs.declared.Scan.{Scan}

@@ -3,7 +3,8 @@ use mathlib.Core.Path.{ap, sym, _∙_}
 use mathlib.Core.List.{List}
 use Prim.Native.Nat.{ℕ}
 use Rattle.processors.specs.Image.{image}
-use Rattle.processors.specs.Listing.{processors, filled}
+use Rattle.words.specs.Rooms.{filled}
+use Rattle.processors.specs.Listing.{processors}
 use Rattle.reading.specs.Scan.{madtBytes}
 use Rattle.reading.specs.Reading.{madtFound}
 use Rattle.reading.specs.Entries.{answerIn, readCode, readResult, bytesAfter}
