@@ -4,3 +4,4 @@ pub mod Stilling
 pub mod NoClash
 pub mod Entries
 pub mod Claimed
+pub mod AtOnce

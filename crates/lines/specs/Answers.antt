@@ -36,12 +36,17 @@ refusalCode refusal = refusal .number * 2 ^ 48 + refusal .place
 abbrev pub coded : ℕ → ℕ → ℕ → ℕ
 coded kind high low = kind * 2 ^ 40 + high * 2 ^ 32 + low
 
--- kind 0 arrives, with vector and number; 1 unwired; 2 no owner
+-- W-209 of document 02, of an answer to a global number: "kind (0 arrives, 1 unwired, 2 no owner), vector, number, with zeros where there
+-- is no arrival"; `answer` is what comes of these three, and `turned` what comes of a refusal
+unfoldable pub inNumbers : {A : Type 0} → (ℕ → ℕ → ℕ → A) → (Refusal → A) → Route → A
+inNumbers answer turned (Arrives vector number) = answer 0 vector number
+inNumbers answer turned Unwired = answer 1 0 0
+inNumbers answer turned NoOwner = answer 2 0 0
+inNumbers answer turned (Refused refusal) = turned refusal
+
+-- as one number
 unfoldable pub routeCode : Route → ℕ
-routeCode (Arrives vector number) = coded 0 vector number
-routeCode Unwired = coded 1 0 0
-routeCode NoOwner = coded 2 0 0
-routeCode (Refused refusal) = refusalCode refusal
+routeCode route = inNumbers coded refusalCode route
 
 -- kind 0 nothing; 1 LIO input, 2 BIO input, 3 LPC cascade input, with its global number; 4 MSI slot, with node and slot
 unfoldable pub traceCode : Trace → ℕ

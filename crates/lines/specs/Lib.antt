@@ -6,3 +6,4 @@ pub mod Claims
 pub mod Quiet
 pub mod Rules
 pub mod Answers
+pub mod AtOnce

@@ -12,6 +12,13 @@ const KINDS: u64 = 1099511627776;
 
 const HIGH: u64 = 4294967296;
 
+// The kinds of an answer to a global number.
+pub(crate) const ARRIVES: u8 = 0;
+
+pub(crate) const UNWIRED: u8 = 1;
+
+pub(crate) const NO_OWNER: u8 = 2;
+
 // A refusal as a number.
 pub fn refusal_code(refusal: Refusal) -> u64
     ensures { λ r. ⌜ r ≡ refusalCode refusal ⌝ }
@@ -26,14 +33,14 @@ fn coded_as(kind: u8, high: u8, low: u32) -> u64
     (kind as u64) * KINDS + (high as u64) * HIGH + (low as u64)
 }
 
-// The answer to a global number as a number: kind 0 arrives, 1 unwired, 2 no owner.
+// The answer to a global number as a number.
 pub fn route_code(route: Route) -> u64
     ensures { λ r. ⌜ r ≡ routeCode route ⌝ }
 {
     match route {
-        Route::Arrives(vector, number) => coded_as(0, vector, number),
-        Route::Unwired => coded_as(1, 0, 0),
-        Route::NoOwner => coded_as(2, 0, 0),
+        Route::Arrives(vector, number) => coded_as(ARRIVES, vector, number),
+        Route::Unwired => coded_as(UNWIRED, 0, 0),
+        Route::NoOwner => coded_as(NO_OWNER, 0, 0),
         Route::Refused(refusal) => refusal_code(refusal),
     }
 }

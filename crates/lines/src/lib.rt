@@ -16,6 +16,7 @@ mod search; // where two structures clash, or one stands alone
 mod rules; // 38, 34 and 40 to 54: the first rule that a map breaks
 mod asked; // 61, and the two questions
 pub mod codes; // answers as plain numbers
+mod at_once; // the answers to a list of numbers
 
 // "At most 1 LIO, 4 EIO, 4 BIO, 4 MSI, 1 LPC", and one HT: four of each kind that may repeat.
 pub const MOST: u8 = 4;

@@ -17,7 +17,7 @@ ghost use Rattle.lines.specs.Rules.{tooMany, bothKinds, rule40, rule43, 
 // ---- verdicts
 
 // A rule that is broken at a known place, or kept.
-fn rule_of(broken: bool, number: u8, place: u32) -> Verdict
+pub(crate) fn rule_of(broken: bool, number: u8, place: u32) -> Verdict
     ensures { λ r. ⌜ r ≡ rule broken number place ⌝ }
 {
     if broken {
@@ -27,7 +27,7 @@ fn rule_of(broken: bool, number: u8, place: u32) -> Verdict
 }
 
 // The first of two verdicts that refuses.
-fn or_else(first: Verdict, second: Verdict) -> Verdict
+pub(crate) fn or_else(first: Verdict, second: Verdict) -> Verdict
     ensures { λ r. ⌜ r ≡ unless Refused first second ⌝ }
 {
     match first {

@@ -2,14 +2,14 @@
 use native.Mathlib.Omega.{arith}
 use mathlib.Core.Path.{refl, ap, ap₂}
 use Rattle.words.specs.Refusals.{refused}
-use Rattle.lines.specs.Answers.{routeCode, traceCode}
+use Rattle.lines.specs.Answers.{inNumbers, routeCode, traceCode}
 use Rattle.lines.specs.declared.Route.the-variants.{Arrives, Unwired, NoOwner, Refused}
 use Rattle.lines.specs.declared.Trace.the-variants.{Nothing, LioInput, BioInput, LpcCascade, MsiSlot, Refused as NoTrace}
 use Rattle.map_promises.specs.Statements.{RouteCodesApart, TraceCodesApart}
 
 -- THE PROMISES
 pub route-codes-apart : RouteCodesApart
-unfolding routeCode
+unfolding routeCode inNumbers
 route-codes-apart (Arrives a a′) (Arrives b b′) p q e = ap₂ Arrives (omega arith) (omega arith)
 route-codes-apart (Arrives a a′) Unwired p q e = absurd (omega arith)
 route-codes-apart (Arrives a a′) NoOwner p q e = absurd (omega arith)

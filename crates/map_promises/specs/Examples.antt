@@ -1,12 +1,12 @@
 -- "any map may be asked about": maps that no capture gives. Each rule of 61 is broken alone, counts go past the arrays, and
--- unused places hold garbage; what a board with an HT answers; and of a clash the earliest partner is told. All of it is computed by the definitions that the
+-- unused places hold garbage; what a board with an HT answers; what numbers get that are asked at once; and of a clash the earliest partner is told. All of it is computed by the definitions that the
 -- contracts cite.
 use Prim.Native.Nat.{ℕ}
 use mathlib.Core.Bool.{true, false}
 use mathlib.Core.List.{List, [], _∷_, _++_, map}
 use mathlib.Core.Path.{_≡_}
 use lib.ListN.{length, take, replicate}
-use Rattle.words.specs.Refusals.{refusedWith}
+use Rattle.words.specs.Refusals.{refused, refusedWith}
 use Rattle.words.specs.declared.Verdict.{Verdict}
 use Rattle.words.specs.declared.Verdict.the-variants as verdicts
 use Rattle.kinds.specs.Used.{noHt, noEio, noBio, noMsi}
@@ -18,6 +18,7 @@ use Rattle.kinds.specs.declared.Msi.{Msi}
 use Rattle.kinds.specs.declared.Lpc.{Lpc}
 use Rattle.lines.specs.Rules.{firstBroken}
 use Rattle.lines.specs.Answers.{routeOf, traceOf, badMap}
+use Rattle.lines.specs.AtOnce.{atOnce, answersAfter}
 use Rattle.lines.specs.declared.Map.{Map}
 use Rattle.lines.specs.declared.Places.{Places}
 use Rattle.lines.specs.declared.Route.{Route}
@@ -180,19 +181,23 @@ at lio eio msi bio =
       lpc = 279;
     }
 
--- where a number arrives; what arrives at a vector with a number; the first broken rule, with the MADT at 118 and the FADT at 400
+-- where a number arrives; where each of some numbers does, with a list for the answers; what arrives at a vector with a number; the first
+-- broken rule, with the MADT at 118 and the FADT at 400
 pub data Question : Type 0 where
   number : ℕ → Question
+  numbers : List ℕ → List ℕ → Question
   arrival : ℕ → ℕ → Question
   rules : Places → Question
 
 pub data Told : Type 0 where
   routed : Route → Told
+  listed : Verdict → List ℕ → Told
   traced : Trace → Told
   judged : Verdict → Told
 
 unfoldable pub told : Map → Question → Told
 told map (number n) = routed (routeOf map n)
+told map (numbers ns answers) = listed (atOnce map ns answers) (answersAfter map ns answers)
 told map (arrival vector n) = traced (traceOf map vector n)
 told map (rules places) = judged (firstBroken map places 118 400)
 
@@ -308,6 +313,22 @@ rightBridge =
     ∷ example (holding lioA (eios (eio 3 63 ∷ [])) (bios (bio 63 64 ∷ [])) msisA (lpcOn 63 19) 75) (number 3) (routed (Arrives 3 19))
     -- the other bridge may be a short one
     ∷ example (behindEither (bios (shortBio 0 64 10 ∷ bio 5 128 ∷ [])) (lpcOn 5 19) 26) (number 3) (routed (Arrives 4 19))
+    ∷ []
+
+-- ---- "Take a list of 32-bit global numbers and a list for the answers, three numbers each" (W-209 of document 02); 7 is what the list held
+unfoldable pub manyAtOnce : List Example
+manyAtOnce =
+    example (withSci 75) (numbers (72 ∷ 44 ∷ 60 ∷ []) (replicate 10 7)) (listed verdicts.Sound (0 ∷ 3 ∷ 8 ∷ 1 ∷ 0 ∷ 0 ∷ 2 ∷ 0 ∷ 0 ∷ 7 ∷ []))
+    ∷ example htA (numbers (17 ∷ 72 ∷ []) (replicate 6 7)) (listed verdicts.Sound (2 ∷ 0 ∷ 0 ∷ 0 ∷ 3 ∷ 264 ∷ []))
+    ∷ example (twoBridges (lpcOn 5 19) 75) (numbers (147 ∷ 3 ∷ []) (replicate 9 7)) (listed verdicts.Sound (0 ∷ 4 ∷ 19 ∷ 0 ∷ 4 ∷ 19 ∷ 7 ∷ 7 ∷ 7 ∷ []))
+    ∷ example (withSci 75) (numbers (0xFFFFFFFF ∷ []) (replicate 3 7)) (listed verdicts.Sound (2 ∷ 0 ∷ 0 ∷ []))
+    ∷ example (withSci 75) (numbers [] []) (listed verdicts.Sound [])
+    ∷ example (withSci 75) (numbers [] (7 ∷ [])) (listed verdicts.Sound (7 ∷ []))
+    ∷ example (withSci 75) (numbers (72 ∷ []) (7 ∷ 7 ∷ [])) (listed (verdicts.Refused (refused 62 0)) (7 ∷ 7 ∷ []))
+    -- 61 first, also for no numbers
+    ∷ example (withSci 45) (numbers (72 ∷ []) (7 ∷ 7 ∷ [])) (listed (verdicts.Refused badMap) (7 ∷ 7 ∷ []))
+    ∷ example (counting 5 4 4) (numbers (72 ∷ []) (7 ∷ 7 ∷ 7 ∷ [])) (listed (verdicts.Refused badMap) (7 ∷ 7 ∷ 7 ∷ []))
+    ∷ example (withSci 45) (numbers [] []) (listed (verdicts.Refused badMap) [])
     ∷ []
 
 -- ---- "Our older units have an HT controller in place of the EIO" (W-201 of document 02)

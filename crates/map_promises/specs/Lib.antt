@@ -6,3 +6,4 @@ pub mod Examples
 pub mod Routing
 pub mod Walks
 pub mod Fields
+pub mod AtOnce

@@ -1,6 +1,6 @@
 -- `codes::route_code` codes each case.
 use borrow.Author.Needs.{needs}
-use Rattle.lines.specs.Answers.{routeCode}
+use Rattle.lines.specs.Answers.{inNumbers, routeCode}
 use Rattle.lines.proofs.codes.route_code.Statement.{statement}
 use Rattle.lines.proofs.codes.route_code.Tie as tie
 
@@ -29,19 +29,19 @@ refusal-code-requires : tie.Need-refusal-code-requires
 refusal-code-requires c κs = search needs
 
 returns : tie.Need-returns
-unfolding routeCode
+unfolding routeCode inNumbers
 returns c = rw (c .before .before .route .given .1) (c .coded-as .ensures)
 
 returns-2 : tie.Need-returns-2
-unfolding routeCode
+unfolding routeCode inNumbers
 returns-2 c = rw (c .before .enum-told .given .1) (c .coded-as2 .ensures)
 
 returns-3 : tie.Need-returns-3
-unfolding routeCode
+unfolding routeCode inNumbers
 returns-3 c = rw (c .before .enum-told2 .given .1) (c .coded-as3 .ensures)
 
 returns-4 : tie.Need-returns-4
-unfolding routeCode
+unfolding routeCode inNumbers
 returns-4 c = rw (c .before .before .route2 .given .1) (c .refusal-code .ensures)
 
 pub route-code-spec : {M : Type 1} → statement M
