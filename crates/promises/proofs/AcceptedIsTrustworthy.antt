@@ -8,7 +8,6 @@ use mathlib.Core.Bool.{true, false, not, _&&_, true≢false}
 use Rattle.words.specs.Refusals.{rule, isSound}
 use Rattle.words.proofs.Choices.{yes-if}
 use Rattle.words.proofs.Verdicts.{is-sound, rule-kept, each-sound}
-use Rattle.words.specs.declared.Verdict.the-variants as verdicts
 use Rattle.kinds.specs.Ranges.{bitInBoth}
 use Rattle.clashes.proofs.Logic.{and-right}
 use Rattle.tables.specs.declared.Strictness.{Strictness}

@@ -30,11 +30,13 @@ use Rattle.lines.specs.declared.Trace.{Trace}
 use Rattle.lines.specs.declared.Trace.the-variants as traces
 use Rattle.madt.specs.Walk.{walkRules}
 use Rattle.madt.proofs.Accepted.{walk-verdict}
-use Rattle.processors.specs.Listing.{filled, count}
+use Rattle.words.specs.Rooms.{filled}
+use Rattle.processors.specs.Listing.{count}
 use Rattle.processors.specs.Repeats.{firstRepeat}
 use Rattle.processors.specs.declared.Repeat.{Repeat}
 use Rattle.processors.specs.declared.Repeat.the-variants.{At, Nowhere}
 use Rattle.processors.proofs.Inside.{repeat-inside}
+use Rattle.map_promises.proofs.AtOnce.{two-refusals}
 use Rattle.map_promises.proofs.RefusedExactly.{refused-exactly}
 use Rattle.map_promises.proofs.WalkKeepsBooks.{walk-stands}
 use Rattle.reading.specs.Scan.{madtBytes, walkOf, turnedDown, repeatRule, processorRule, scan}
@@ -172,7 +174,7 @@ map-refusals map = go (keepsRules map) refl
     go : (b : Bool) → keepsRules map ≡ b → MapRefusals map
     go true k =
         let never = refused-exactly map .1 k in
-        ((λ n r h. absurd (never .0 n r h)), λ v n r h. absurd (never .1 v n r h))
+        ((λ n r h. absurd (never .0 n r h)), (λ v n r h. absurd (never .1 v n r h)), two-refusals map)
     go false k =
         let always = refused-exactly map .0 k in
-        ((λ n r h. same-route (sym (always .0 n) ∙ h)), λ v n r h. same-trace (sym (always .1 v n) ∙ h))
+        ((λ n r h. same-route (sym (always .0 n) ∙ h)), (λ v n r h. same-trace (sym (always .1 v n) ∙ h)), two-refusals map)

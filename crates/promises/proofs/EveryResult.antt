@@ -14,14 +14,15 @@ use Rattle.words.proofs.Choices.{no-if, if-cases}
 use Rattle.words.proofs.Verdicts.{unless-refused, unless-sound}
 use Rattle.tables.specs.declared.Strictness.{Strictness}
 use Rattle.tables.specs.declared.Strictness.the-variants.{Ordinary, Strict}
-use Rattle.lines.specs.Answers.{refusalCode, routeCode, traceCode}
+use Rattle.lines.specs.Answers.{refusalCode, inNumbers, routeCode, traceCode}
 use Rattle.lines.specs.declared.Route.{Route}
 use Rattle.lines.specs.declared.Route.the-variants as routes
 use Rattle.lines.specs.declared.Trace.{Trace}
 use Rattle.lines.specs.declared.Trace.the-variants as traces
-use Rattle.processors.specs.Listing.{hasRoom, filled}
+use Rattle.words.specs.Rooms.{hasRoom, filled}
 use Rattle.map_promises.specs.Statements.{RouteFits, TraceFits}
 use Rattle.map_promises.proofs.AnswersFit.{answers-fit}
+use Rattle.map_promises.proofs.AtOnce.{refused-leaves-answers}
 use Rattle.reading.specs.Scan.{emptyMap, turnedDown, scan}
 use Rattle.reading.specs.Reading.{withoutMap, madtFound, readingOf, listAfter}
 use Rattle.reading.specs.declared.Answer.the-variants as answers
@@ -34,7 +35,7 @@ use Rattle.text.specs.Text.{outcome}
 use Rattle.text.specs.declared.Written.{Written}
 use Rattle.text.specs.declared.Written.the-variants.{Whole, NoRoom}
 use Rattle.promises.specs.RefusalTable.{isRefusalNumber, OfTheTable}
-use Rattle.promises.specs.EveryResult.{OfTheList, RefusalBut, ScanRefuses, ReadRefuses, CReadRefuses, CRouteRefuses, CTraceRefuses, NoRoomLeaves, MapRouteRefuses, MapTraceRefuses}
+use Rattle.promises.specs.EveryResult.{OfTheList, RefusalBut, ScanRefuses, ReadRefuses, CReadRefuses, CRouteRefuses, CTraceRefuses, NoRoomLeaves, MapRouteRefuses, MapTraceRefuses, MapRouteEachRefuses}
 use Rattle.promises.proofs.EveryRefusal.{of-scan, not-60, reading-refusals, refused-leaves-list, route-refusals, trace-refusals, map-refusals}
 use Rattle.promises.proofs.ReadForC.{c-reading}
 use Rattle.promises.proofs.Told.{tell-none}
@@ -64,7 +65,7 @@ coded Never capture result r e o never = (omega (arith, e, above-0 (r .number) (
 
 -- ---- an answer's is not
 route-below : (t : Route) → RouteFits t → ((r : Refusal) → t ≡ routes.Refused r → ⊥) → routeCode t < 2 ^ 48
-unfolding routeCode
+unfolding routeCode inNumbers
 route-below (routes.Arrives vector number) fits never = omega (arith, fits .0, fits .1)
 route-below routes.Unwired fits never = omega arith
 route-below routes.NoOwner fits never = omega arith
@@ -155,3 +156,8 @@ map-route-refuses κs a q x p r h = map-refusals _ .0 _ r (sym p ∙ h)
 
 pub map-trace-refuses : MapTraceRefuses
 map-trace-refuses κs a q x p r h = map-refusals _ .1 _ _ r (sym p ∙ h)
+
+pub map-route-each-refuses : MapRouteEachRefuses
+map-route-each-refuses κs a q x p r h =
+    let told = sym (p .0) ∙ h in
+    (map-refusals _ .2 _ _ r told, p .1 ∙ refused-leaves-answers _ _ _ r told)

@@ -5,9 +5,9 @@ use mathlib.Core.List.{List}
 use mathlib.Core.Path.{_≡_, refl}
 use Rattle.reading.specs.declared.Scan.{Scan}
 use Rattle.words.specs.Choice.{if}
-use Rattle.words.specs.Refusals.{unless, firstRefusal, inEach, isSound}
+use Rattle.words.specs.Refusals.{unless, firstRefusal, isSound}
 use Rattle.words.specs.Bytes.{numberAt, spelled, total, byteSum}
-use Rattle.words.specs.Lists.{first, every, those, numbersFrom, numbersBelow}
+use Rattle.words.specs.Lists.{first, every, those, inEach, numbersFrom, numbersBelow}
 use Rattle.capture.specs.Fields.{version, segmentCount, totalLength, rsdpAddress, headerSize, descriptor, descriptorsEnd, segmentAddress, segmentLength, segments, lengths, segmentPlace}
 use Rattle.capture.specs.Presence.{isPresent, placeOf, goesOn, runEnd, holds, placeIn, located, rsdpStretch, rsdpPlace, presenceRules}
 use Rattle.capture.specs.Pairs.{pairAt, pairsOf, tellsOf, toldOf, pinsOf, pairBroken, pairRules}
@@ -39,7 +39,8 @@ use Rattle.madt.specs.Rules.{isType, isKnown, lengthOf, wrongLength as wrongStr
 use Rattle.madt.specs.Contents.{ofType, made, standing, theOne, bridgeOf, mapOf, placesOf, isEnabledCore, enabledCores, foundIn}
 use Rattle.madt.specs.Walk.{rulesInTurn, givesBoth, kindRules, walkRules, turnedAway, walked}
 use Rattle.processors.specs.Image.{fourBytes, image}
-use Rattle.processors.specs.Listing.{numbersOf, processors, count, hasRoom, written, filled}
+use Rattle.words.specs.Rooms.{hasRoom, written, filled}
+use Rattle.processors.specs.Listing.{numbersOf, processors, count}
 use Rattle.processors.specs.Repeats.{sharesWithOne, repeatsId, firstRepeating, firstRepeat}
 use Rattle.reading.specs.Entries.{answerIn, readCode, readResult, bytesAfter}
 use Rattle.reading.specs.Reading.{withoutMap, answered, madtFound, readingOf, listAfter}

@@ -15,6 +15,7 @@ one-answer =
       write-text = λ κs a r s x y p q. (p .0 ∙ sym (q .0), ap (λ l. (tt, (l, tt))) (p .1 .0 ∙ sym (q .1 .0)));
       route = λ κs a r s x y p q. (p ∙ sym q, refl);
       trace = λ κs a r s x y p q. (p ∙ sym q, refl);
+      route-each = λ κs a r s x y p q. (p .0 ∙ sym (q .0), ap (λ l. (tt, (tt, (l, tt)))) (p .1 ∙ sym (q .1)));
       keeps-rules = λ κs a r s x y p q. (p ∙ sym q, refl);
       first-broken = λ κs a r s x y p q. (p ∙ sym q, refl);
       arrival = λ κs a r s x y p q. (p ∙ sym q, refl);

@@ -20,6 +20,8 @@ use Rattle.lines.specs.declared.Trace.{Trace}
 use Rattle.lines.specs.declared.Trace.the-variants as traces
 use Rattle.lines.proofs.Map.route.Kinds as route
 use Rattle.lines.proofs.Map.route.Reads as route-reads
+use Rattle.lines.proofs.Map.route_each.Kinds as route-each
+use Rattle.lines.proofs.Map.route_each.Reads as route-each-reads
 use Rattle.lines.proofs.Map.trace.Kinds as trace
 use Rattle.lines.proofs.Map.trace.Reads as trace-reads
 use Rattle.reading.specs.Scan.{emptyMap}
@@ -41,8 +43,8 @@ use Rattle.text.proofs.write_text.Kinds as write-text
 use Rattle.text.proofs.write_text.Reads as write-text-reads
 use Rattle.promises.specs.RefusalTable.{OfTheTable}
 
--- whatever is handed in, every result that a contract allows is as claimed. Below, a .0 and a .1 .0 are the first two
--- parameters, and x .1 .0 is the second at the call's exit.
+-- whatever is handed in, every result that a contract allows is as claimed. Below, a .0, a .1 .0 and a .1 .1 .0 are the first three
+-- parameters, and x .1 .0 and x .1 .1 .0 are the second and the third at the call's exit.
 abbrev pub Always : {n : ℕ} (ps : List (PK n)) (r : RK n) → Out n ps r → Out n ps r → Type 0
 Always {n} ps r Allowed Claimed =
     (κs : Lfts n) (a : Dens κs ps) (result : resT r κs .Denot) (x : AtExit (endedOf n ps r) κs)
@@ -99,7 +101,7 @@ NoRoomLeaves =
     Always write-text.ps write-text.r write-text-reads.Post
     (λ κs a result x. result ≡ writings.NoRoom → (now (x .1 .0) ≡ now (a .1 .0)) × (length (now (a .1 .0)) < 16384))
 
--- ---- "any map may be asked about": 61 at place 0, and no other refusal
+-- ---- "any map may be asked about": 61 at place 0, of a list of numbers 62 at place 0 too, and no other refusal
 abbrev pub MapRouteRefuses : Type 0
 MapRouteRefuses =
     Always route.ps route.r route-reads.Post
@@ -109,3 +111,9 @@ abbrev pub MapTraceRefuses : Type 0
 MapTraceRefuses =
     Always trace.ps trace.r trace-reads.Post
     (λ κs a result x. (r : Refusal) → result ≡ traces.Refused r → r ≡ refused 61 0)
+
+abbrev pub MapRouteEachRefuses : Type 0
+MapRouteEachRefuses =
+    Always route-each.ps route-each.r route-each-reads.Post
+    (λ κs a result x. (r : Refusal) → result ≡ verdicts.Refused r
+    → ((r ≡ refused 61 0) ⊎ (r ≡ refused 62 0)) × (now (x .1 .1 .0) ≡ now (a .1 .1 .0)))

@@ -15,6 +15,8 @@ use Rattle.lines.proofs.Map.route.Kinds as route
 use Rattle.lines.proofs.Map.route.Reads as route-reads
 use Rattle.lines.proofs.Map.trace.Kinds as trace
 use Rattle.lines.proofs.Map.trace.Reads as trace-reads
+use Rattle.lines.proofs.Map.route_each.Kinds as route-each
+use Rattle.lines.proofs.Map.route_each.Reads as route-each-reads
 use Rattle.lines.proofs.Map.arrival.Kinds as arrival
 use Rattle.lines.proofs.Map.arrival.Reads as arrival-reads
 use Rattle.lines.proofs.Map.traced.Kinds as traced
@@ -53,6 +55,7 @@ pub record OneAnswer : Type 0 where
   -- and over a map
   pub route : Determined route.ps route.r route-reads.Post
   pub trace : Determined trace.ps trace.r trace-reads.Post
+  pub route-each : Determined route-each.ps route-each.r route-each-reads.Post
   pub keeps-rules : Determined keeps-rules.ps keeps-rules.r keeps-rules-reads.Post
   pub first-broken : Determined first-broken.ps first-broken.r first-broken-reads.Post
   pub arrival : Determined arrival.ps arrival.r arrival-reads.Post

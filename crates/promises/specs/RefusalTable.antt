@@ -1,4 +1,4 @@
--- Document 01, "Refusals in order": the numbers of its table as W-201, W-202 and W-212 of document 02 changed it, and the mission's first demand:
+-- Document 01, "Refusals in order": the numbers of its table as W-201, W-202, W-209 and W-212 of document 02 changed it, and the mission's first demand:
 -- each public call "either answers or refuses with a number and a place from our table".
 use Prim.Native.Nat.{ℕ, _<_}
 use mathlib.Core.Bool.{Bool, true, false, _&&_, _||_}
@@ -13,6 +13,7 @@ use Rattle.words.specs.declared.Verdict.the-variants as verdicts
 use Rattle.tables.specs.declared.Strictness.{Strictness}
 use Rattle.tables.specs.declared.Strictness.the-variants.{Strict}
 use Rattle.lines.specs.Answers.{refusalCode, routeOf, traceOf, routeCode, traceCode}
+use Rattle.lines.specs.AtOnce.{atOnce}
 use Rattle.lines.specs.declared.Map.{Map}
 use Rattle.lines.specs.declared.Route.the-variants as routes
 use Rattle.lines.specs.declared.Trace.the-variants as traces
@@ -27,7 +28,7 @@ among low high n = leb low n && leb n high
 
 -- the numbers that a capture is refused with: 1 to 7 of the capture, 10 to 14 of the RSDP, 20 to 30 of the tables, 31 to 33, 35, 71 to
 -- 78 (where 36 was), 37 and 38 of a structure, 34 of all structures, 39 of the processors, 40 to 45 and 51 to 54 of the map, 60 of the
--- list. The table's last, 61, is of a map that is asked about by itself.
+-- list. 61 and 62 are of a map that is asked about by itself.
 abbrev pub isRefusalNumber : ℕ → Bool
 isRefusalNumber n =
     among 1 7 n
@@ -84,8 +85,10 @@ TraceRefusals capture vector number =
     × (traceResult capture vector number ≡ traceCode (traceOf (scan Strict capture .map) vector number))
     × ((r : Refusal) → traceOf (scan Strict capture .map) vector number ≡ traces.Refused r → ⊥))
 
--- "any map may be asked about": a question about a map by itself is refused with 61 at place 0, and with nothing else
+-- "any map may be asked about": a question about a map by itself is refused with 61 at place 0, a list of questions (W-209 of document 02)
+-- with 62 at place 0 too, and with nothing else
 abbrev pub MapRefusals : Map → Type 0
 MapRefusals map =
     ((number : ℕ) (r : Refusal) → routeOf map number ≡ routes.Refused r → r ≡ refused 61 0)
     × ((vector number : ℕ) (r : Refusal) → traceOf map vector number ≡ traces.Refused r → r ≡ refused 61 0)
+    × ((numbers answers : List ℕ) (r : Refusal) → atOnce map numbers answers ≡ verdicts.Refused r → (r ≡ refused 61 0) ⊎ (r ≡ refused 62 0))
