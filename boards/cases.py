@@ -16,7 +16,7 @@ from board import place_of_table, rebuilt, rsdp, structure, summed, table
 from printed import PRINTED, REAL
 
 # The kinds of question that crates/vectors/src/main.rt knows.
-CHECK, RSDP, REACH, SURVEY, READ, ROUTE, TRACE, READ_BYTES = range(8)
+CHECK, RSDP, REACH, SURVEY, READ, ROUTE, TRACE, READ_BYTES, ROUTE_EACH, ROUTE_SINGLY = range(10)
 # The readings that it asks: surveys and readings are the ordinary one's if not said, routes and traces the strict one's, by the C entries.
 ORDINARY, STRICT = range(2)
 LABEL = 64  # bytes of a label, at most
@@ -52,10 +52,10 @@ def survey(label, data, answer, strictness=ORDINARY):
     ask(SURVEY, label, data, answer, strictness=strictness)
 
 
-def both(asked, label, *question, ordinary, strict):
+def both(asked, label, *question, ordinary, strict, **more):
     """One question to both readings, with the answer of each."""
-    asked(label + ", ordinary", *question, ordinary, strictness=ORDINARY)
-    asked(label + ", strict", *question, strict, strictness=STRICT)
+    asked(label + ", ordinary", *question, ordinary, strictness=ORDINARY, **more)
+    asked(label + ", strict", *question, strict, strictness=STRICT, **more)
 
 
 def found(madt_place, madt_length, fadt_place, fadt_length, sci):
@@ -1199,6 +1199,97 @@ for kind, label, data, answer, *rest in list(cases):
         new = rebuilt(data)
         if len(new) <= MOST_BYTES:  # two captures are full, and cannot grow by what a rebuilt one has more
             ask(kind, ("moved: " + label)[:LABEL], new, moved(answer, data, new), *rest)
+
+# W-209: a list of numbers at once. Of three boards, where each global number arrives: kind, core vector and number.
+UNWIRED, NO_OWNER = (1, 0, 0), (2, 0, 0)
+
+
+def on_a(number):
+    """Board A: the LPC lines on input 19 of the bridge, LIO inputs 0 to 23, the bridge."""
+    if number < 16:
+        return 0, 3, 19
+    if number < 48:
+        return (0, 2, number - 16) if number < 40 else UNWIRED
+    return (0, 3, number - 64) if 64 <= number < 128 else NO_OWNER
+
+
+def on_two_bridges(number):
+    """As board A, and a bridge of node 5 with base 128 behind an EIO of cascade 4; the LPC is behind it."""
+    if number < 16:
+        return 0, 4, 19
+    return (0, 4, number - 128) if 128 <= number < 192 else on_a(number)
+
+
+def on_ht(number):
+    """As board A, with an HT: the inputs that it names have no owner, and the bridge's first 32 inputs arrive where input 16 would."""
+    if number < 16:
+        return 0, 3, 256 + 19
+    if number - 16 in NAMED:
+        return NO_OWNER
+    if 32 <= number < 40:
+        return 0, 3, number - 16
+    return (0, 3 if number < 96 else 2, 256 + number - 64) if 64 <= number < 128 else on_a(number)
+
+
+def three_each(numbers, told):
+    return "".join(f" {part}" for number in numbers for part in told(number))
+
+
+def at_once(label, data, numbers, answer, room, strictness=STRICT):
+    """The answer is followed by the whole list, with a dash for each number that is as it was."""
+    ask(ROUTE_EACH, label, b"".join(le(number, 4) for number in numbers) + data, answer, room, len(numbers), strictness)
+
+
+def singly(label, data, numbers, answer):
+    ask(ROUTE_SINGLY, label, b"".join(le(number, 4) for number in numbers) + data, answer, 0, len(numbers))
+
+
+ALL = range(320)
+BOARDS = (("board A", A, on_a), ("two bridges", ON_5, on_two_bridges), ("HT", OLD, on_ht))
+for name, data, told in BOARDS:
+    whole = "answered" + three_each(ALL, told)
+    at_once(f"at once, {name}: 0 to 319", data, ALL, whole, 960)
+    singly(f"singly, {name}: 0 to 319", data, ALL, whole)
+    at_once(f"at once, {name} rebuilt: 0 to 319", rebuilt(data), ALL, whole, 960)
+    at_once(f"at once, {name}: 319 to 0", data, ALL[::-1], "answered" + three_each(ALL[::-1], told), 960)
+    at_once(f"62: {name}, 0 to 319 and a list of 959", data, ALL, refused(62, 0) + 959 * " -", 959)
+    at_once(f"at once, {name}: 0 to 319 and a list of 961", data, ALL, whole + " -", 961)
+at_once("at once: no limit of 320 numbers", A, range(400), "answered" + three_each(range(400), on_a), 1200)
+at_once("62: 400 numbers and a list of 1199", A, range(400), refused(62, 0) + 1199 * " -", 1199)
+
+# Lists of 3n - 1, 3n, 3n + 1 and more; one of each kind, in every turn.
+at_once("62: one number, no list", A, [72], refused(62, 0), 0)
+at_once("62: one number, a list of 1", A, [72], refused(62, 0) + " -", 1)
+at_once("62: one number, a list of 2", A, [72], refused(62, 0) + " - -", 2)
+at_once("at once: one number, a list of 3", A, [72], "answered 0 3 8", 3)
+at_once("at once: one number, a list of 4", A, [72], "answered 0 3 8 -", 4)
+at_once("at once: one number, a list of 6", A, [72], "answered 0 3 8 - - -", 6)
+at_once("at once: unwired, a list of 4", A, [44], "answered 1 0 0 -", 4)
+at_once("at once: no owner, a list of 4", A, [60], "answered 2 0 0 -", 4)
+at_once("at once: arrives, unwired, no owner", A, [75, 47, 128], "answered 0 3 11 1 0 0 2 0 0 - - -", 12)
+at_once("at once: unwired, no owner, arrives", A, [40, 48, 16], "answered 1 0 0 2 0 0 0 2 0 - - -", 12)
+at_once("at once: no owner, arrives, unwired", A, [63, 0, 41], "answered 2 0 0 0 3 19 1 0 0 - - -", 12)
+at_once("62: three numbers, a list of 8", A, [75, 47, 128], refused(62, 0) + 8 * " -", 8)
+at_once("at once, HT: a named input, one that is not, a pin of each half", OLD, [17, 24, 95, 96], "answered 2 0 0 0 2 8 0 3 287 0 2 288 -", 13)
+
+# A number twice, the largest, and no numbers.
+at_once("at once: a number twice", A, [72, 60, 72, 72], "answered 0 3 8 2 0 0 0 3 8 0 3 8", 12)
+at_once("at once: 4,294,967,295", A, [ONES], "answered 2 0 0", 3)
+at_once("at once: 4,294,967,295 among others", A, [72, ONES, 127], "answered 0 3 8 2 0 0 0 3 63", 9)
+at_once("at once: 65,535 and 65,536 + 72", A, [65535, 65536 + 72], "answered 2 0 0 2 0 0", 6)
+at_once("at once: no numbers, no list", A, [], "answered", 0)
+at_once("at once: no numbers, a list of 1", A, [], "answered -", 1)
+at_once("at once: no numbers, a list of 3", A, [], "answered - - -", 3)
+singly("singly: 4,294,967,295 among others", A, [72, ONES, 127], "answered 0 3 8 2 0 0 0 3 63")
+
+# 61 before 62, whatever the lists are. What comes with a refused capture is the empty map, which breaks 40.
+for label, data in (("no LIO", made(C, eio(3, 0))), ("the SCI does not arrive", put(MSI, msi(64, 192), 60)), ("no capture", b"")):
+    at_once(f"61: {label}", data, [72], refused(61, 0) + " - - - -", 4)
+    at_once(f"61 before 62: {label}", data, [72, 75], refused(61, 0) + " - - - - -", 5)
+    at_once(f"61: {label}, no numbers, no list", data, [], refused(61, 0), 0)
+    at_once(f"61: {label}, no numbers, a list of 3", data, [], refused(61, 0) + " - - -", 3)
+    at_once(f"61 before 62: {label}, 0 to 319, no list", data, ALL, refused(61, 0), 0)
+both(at_once, "at once: revision 5", revised(5, STRUCTURES_OF_A), [72], ordinary="answered 0 3 8", strict=refused(61, 0) + " - - -", room=3)
 
 
 # Board A's neighbours among document 01's twelve examples, which are proved from the boards' bytes.

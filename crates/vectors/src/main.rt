@@ -4,9 +4,14 @@
 // A question is a head of 96 bytes and then the capture. The head: a label in 64 bytes, the kind of question (32 bits), the
 // capture's length (32 bits), two numbers of 64 bits that some kinds ask about, the label's length (32 bits), and the strictness
 // (32 bits), which some kinds ask with: 0 for the ordinary reading, 1 for the strict one.
+//
+// Where a list of numbers is asked about, they stand ahead of the capture, 32 bits each, and count in its length. The head's first number
+// says how long the answers' list is, its second one how many numbers are asked about. The map is the capture's, or the empty one, which
+// breaks 40, where the capture is refused.
 use capture::Root;
 use libc::STDIN_FILENO;
 use libc::STDOUT_FILENO;
+use lines::Map;
 use lines::codes;
 use reading::Answer;
 use reading::Reading;
@@ -52,9 +57,20 @@ const TRACE: u32 = 6;
 
 const READ_BYTES: u32 = 7;
 
+const ROUTE_EACH: u32 = 8;
+
+const ROUTE_SINGLY: u32 = 9;
+
 const MOST_NUMBERS: usize = 520;
 
 const MOST_LIST_BYTES: usize = 2080;
+
+// How many numbers may be asked about in a list, how long the list for their answers may be, and how many bytes a number takes.
+const MOST_ASKED: usize = 400;
+
+const MOST_ANSWERS: usize = 1203;
+
+const NUMBER: usize = 4;
 
 // What stands above the place of a refusal in a C result, above both values of an answer, and above its second value.
 const REFUSALS: u64 = 281474976710656;
@@ -214,6 +230,13 @@ fn answer_read_bytes(bytes: &[u8], room: usize) {
     read_bytes_into(bytes, &mut list, room);
 }
 
+// Kind, high value and low value of a C result that is no refusal.
+fn say_parts(result: u64) {
+    say_number(b" ", result / KINDS);
+    say_number(b" ", result % KINDS / HIGH);
+    say_number(b" ", result % HIGH);
+}
+
 // A C result: a refusal, or kind, high value and low value.
 fn say_result(result: u64) {
     if REFUSALS <= result {
@@ -221,9 +244,8 @@ fn say_result(result: u64) {
         say_number(b" at ", result % REFUSALS);
         return;
     }
-    say_number(b"kind ", result / KINDS);
-    say_number(b" ", result % KINDS / HIGH);
-    say_number(b" ", result % HIGH);
+    say(b"kind");
+    say_parts(result);
 }
 
 // Where a number arrives: the strict reading by the C entry, the ordinary one by the map that it finds.
@@ -258,6 +280,84 @@ fn trace(strictness: Strictness, bytes: &[u8], vector: u32, number: u32) -> u64 
     }
 }
 
+// The numbers that stand ahead of a capture.
+fn take_numbers(bytes: &[u8], numbers: &mut [u32]) {
+    let mut i = 0;
+    while i < numbers.len() {
+        numbers[i] = words::u32_at(bytes, NUMBER * i);
+        i += 1;
+    }
+}
+
+// The map of the capture that stands behind some numbers.
+fn map_behind(strictness: Strictness, bytes: &[u8], numbers: &[u32]) -> Map {
+    let found = reading::scan_capture(
+        strictness,
+        words::part(bytes, NUMBER * numbers.len(), bytes.len()),
+    );
+    found.map
+}
+
+// Every number of an answers' list, or a dash where it is as it was.
+fn say_answers(answers: &[u32]) {
+    let mut i = 0;
+    while i < answers.len() {
+        if answers[i] == UNTOUCHED {
+            say(b" -");
+        } else {
+            say_number(b" ", wide(answers[i]));
+        }
+        i += 1;
+    }
+}
+
+// Some numbers asked about at once.
+fn route_each(strictness: Strictness, bytes: &[u8], numbers: &mut [u32], answers: &mut [u32]) {
+    take_numbers(bytes, numbers);
+    let map = map_behind(strictness, bytes, numbers);
+    match map.route_each(numbers, answers) {
+        Verdict::Sound => say(b"answered"),
+        Verdict::Refused(refusal) => say_refusal(refusal),
+    }
+    say_answers(answers);
+}
+
+// The answers of a map that keeps the rules to some numbers, one by one.
+fn say_singly(map: Map, numbers: &[u32]) {
+    let mut i = 0;
+    while i < numbers.len() {
+        say_parts(codes::route_code(map.route(numbers[i])));
+        i += 1;
+    }
+}
+
+// The same numbers asked about one by one.
+fn route_singly(strictness: Strictness, bytes: &[u8], numbers: &mut [u32]) {
+    take_numbers(bytes, numbers);
+    say(b"answered");
+    say_singly(map_behind(strictness, bytes, numbers), numbers);
+}
+
+fn answer_route_each(strictness: Strictness, bytes: &[u8], room: usize, asked: usize) {
+    let mut numbers = [0u32; MOST_ASKED];
+    let mut answers = [UNTOUCHED; MOST_ANSWERS];
+    if asked <= MOST_ASKED && room <= MOST_ANSWERS {
+        route_each(
+            strictness,
+            bytes,
+            &mut numbers[..asked],
+            &mut answers[..room],
+        );
+    }
+}
+
+fn answer_route_singly(strictness: Strictness, bytes: &[u8], asked: usize) {
+    let mut numbers = [0u32; MOST_ASKED];
+    if asked <= MOST_ASKED {
+        route_singly(strictness, bytes, &mut numbers[..asked]);
+    }
+}
+
 fn strictness_of(head: &[u8]) -> Strictness {
     if words::u32_at(head, STRICTNESS) == ORDINARY {
         return Strictness::Ordinary;
@@ -282,6 +382,17 @@ fn answer(head: &[u8], bytes: &[u8]) {
             words::u32_at(head, SECOND),
         )),
         READ_BYTES => answer_read_bytes(bytes, words::u32_at(head, FIRST) as usize),
+        ROUTE_EACH => answer_route_each(
+            strictness,
+            bytes,
+            words::u32_at(head, FIRST) as usize,
+            words::u32_at(head, SECOND) as usize,
+        ),
+        ROUTE_SINGLY => answer_route_singly(
+            strictness,
+            bytes,
+            words::u32_at(head, SECOND) as usize,
+        ),
         _ => say(b"no such question"),
     }
 }

@@ -1,0 +1,60 @@
+-- `vectors::take_numbers` is safe and ends.
+use mathlib.Core.Path.{_≡_}
+use Prim.Native.Nat.{_-_, _≤_}
+use lib.ListN.{length}
+use borrow.Author.Needs.{needs}
+use Rattle.vectors.proofs.take_numbers.Statement.{statement}
+use Rattle.vectors.proofs.take_numbers.Tie as tie
+
+abbrev Inv-loop : tie.InvT-loop
+Inv-loop bytes numbers₀ i₀ numbers i = (i ≤ length numbers₀) × (length numbers ≡ length numbers₀)
+
+abbrev μ-loop : tie.MeasureT-loop
+μ-loop bytes numbers₀ i₀ numbers i = length numbers₀ - i
+
+loop-holds : tie.Need-loop-holds Inv-loop μ-loop
+loop-holds c = search needs
+
+mul-u32-at : tie.Need-mul-u32-at Inv-loop μ-loop
+mul-u32-at c = search needs
+
+u32-at-requires : tie.Need-u32-at-requires Inv-loop μ-loop
+u32-at-requires c κs = search needs
+
+mul-numbers : tie.Need-mul-numbers Inv-loop μ-loop
+mul-numbers c = search needs
+
+slice-write-numbers : tie.Need-slice-write-numbers Inv-loop μ-loop
+slice-write-numbers c = search needs
+
+add-i : tie.Need-add-i Inv-loop μ-loop
+add-i c = search needs
+
+loop-less : tie.Need-loop-less Inv-loop μ-loop
+loop-less c = search needs
+
+loop-again : tie.Need-loop-again Inv-loop μ-loop
+loop-again c = search needs
+
+same-length : tie.Need-same-length Inv-loop μ-loop
+same-length c = search needs
+
+returns : tie.Need-returns Inv-loop μ-loop
+returns c = search needs
+
+pub take-numbers-spec : {M : Type 1} → statement M
+take-numbers-spec =
+    tie.close
+    (tie.spec
+    Inv-loop
+    μ-loop
+    loop-holds
+    mul-u32-at
+    u32-at-requires
+    mul-numbers
+    slice-write-numbers
+    add-i
+    loop-less
+    loop-again
+    same-length
+    returns)
