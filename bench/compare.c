@@ -12,9 +12,9 @@
  * The second place of a refusal is in no result: Yasmirand only prints it. So some refused captures are written to the
  * folder PRINTED, each with the line that reference.c expects, and bench/run compares what ./map prints.
  *
- * All that is strict reading. Of Yasmirand's programs only `vectors` answers in the ordinary one (W-207). So questions about
- * some captures are written to the folder ASKED, with the lines that reference.c expects, and bench/run compares what
- * `vectors` prints.
+ * All that is strict reading. Of Yasmirand's programs only `vectors` answers in the ordinary one (W-207), and it alone takes
+ * lists of numbers (W-209). So questions about some captures are written to the folder ASKED, with the lines that reference.c
+ * expects, and bench/run compares what `vectors` prints.
  *
  * Captures and lists end where the memory ends that may be touched, so that a byte too far stops the program.
  */
@@ -60,6 +60,7 @@ enum {
     FEWER_OF_ONE = 4,      /* with revision 1 there are so many times fewer of each */
     ASKED_STRICTLY = 4,    /* one in so many is asked about in the strict reading too */
     ASKED_SAMPLE = 2,      /* questions of each sort about an accepted one */
+    REFUSED_LISTS = 4,     /* all accepted ones are asked about with a list of numbers (W-209), and one refused one in so many */
 };
 
 /* ---- One case: how a capture is made, and what is known of it beforehand ---- */
@@ -726,6 +727,52 @@ static void ask_vectors_again(struct random *random, const struct test *test, st
     }
 }
 
+static const char *asked_folder;
+static unsigned asked_lists[NUMBERS]; /* of both readings, by refusal number */
+
+/* A number for a list that has so many: one of them again, the next after the last, an end, or one that tells readers apart. */
+static uint32_t next_of_list(struct random *random, const struct board *board, const uint32_t *numbers, uint32_t count)
+{
+    static const uint32_t edges[] = {0, 15, 16, 47, 48, 63, 64, 65535, UINT32_MAX};
+    uint64_t sort = below(random, 8);
+
+    if (count > 0 && sort == 0)
+        return numbers[below(random, count)];
+    if (count > 0 && sort <= 2)
+        return numbers[count - 1] + 1;
+    return sort == 3 ? edges[below(random, sizeof edges / sizeof edges[0])] : interesting_number(random, board);
+}
+
+/* Makes a list, of numbers from 0 on or of mixed ones; gives how many there are. `vectors` must have room for the capture too. */
+static uint32_t make_list(struct random *random, const struct test *test, uint32_t numbers[EACH_MAX])
+{
+    size_t room = (ASKED_BYTES_MAX - test->capture.length) / 4;
+    bool from_0_on = one_in(random, 8), is_short = one_in(random, 2);
+    size_t count = from_0_on ? EACH_MAX : below(random, is_short ? 8 : EACH_MAX + 1);
+
+    if (count > room)
+        count = room;
+    for (uint32_t i = 0; i < count; i++)
+        numbers[i] = from_0_on ? i : next_of_list(random, &test->board, numbers, i);
+    return (uint32_t)count;
+}
+
+/* Writes a question about a list of numbers, and keeps the list: the label has no room for it. */
+static void ask_vectors_list(struct random *random, const struct test *test, struct query about)
+{
+    uint32_t numbers[EACH_MAX], count = make_list(random, test, numbers);
+    size_t lent = random_list_length(random, 3 * count), answers = lent > ANSWERS_MAX ? ANSWERS_MAX : lent;
+    struct list_query query = {about.reading, (uint32_t)answers, count, numbers, about.capture, about.length};
+    char label[64], answer[ANSWER_ROOM], path[4096];
+
+    asked = reference_in(about.reading);
+    asked_lists[answer_list_query(&query, answer)]++;
+    snprintf(label, sizeof label, "case %" PRIu64 " routes of %" PRIu32 ", list of %zu", test->number, count, answers);
+    write_list_question(label, &query, answer);
+    snprintf(path, sizeof path, "%s/case-%" PRIu64 "-%s.numbers", asked_folder, test->number, name_of_reading(about.reading));
+    save_file(path, numbers, 4 * count);
+}
+
 /* The generator is handed over as a copy: where the readings agree, both are asked the same. */
 static void ask_vectors_all(struct random random, const struct test *test, const uint8_t *capture, enum reading reading)
 {
@@ -736,9 +783,10 @@ static void ask_vectors_all(struct random random, const struct test *test, const
         ask_vectors_more(&random, test, about, result);
     else
         ask_vectors_again(&random, test, about);
+    if (refusal_number(result) == 0 || one_in(&random, REFUSED_LISTS))
+        ask_vectors_list(&random, test, about);
 }
 
-static const char *asked_folder;
 static unsigned asked_other[NUMBERS], asked_one[NUMBERS]; /* captures of other revisions and of revision 1, by refusal number */
 
 static unsigned asked_at_most(unsigned refusal)
@@ -758,7 +806,7 @@ static void keep_for_vectors(struct random *random, const struct test *test, con
     unsigned *kept = one ? &asked_one[refusal] : &asked_other[refusal];
     char path[4096];
 
-    if (test->capture.length > ASKED_CAPTURE_MAX || *kept == asked_at_most(refusal) / (one ? FEWER_OF_ONE : 1))
+    if (test->capture.length > ASKED_BYTES_MAX || *kept == asked_at_most(refusal) / (one ? FEWER_OF_ONE : 1))
         return;
     ++*kept;
     ask_vectors_all(*random, test, capture, ORDINARY);
@@ -859,6 +907,18 @@ static bool hits_suffice(enum reading reading, const struct hits *hits)
     return suffice;
 }
 
+/* Whether lists of numbers are answered often enough, and refused with each number. */
+static bool lists_suffice(void)
+{
+    unsigned answered = asked_lists[ACCEPTED], broken = asked_lists[BROKEN_MAP], too_short = asked_lists[ANSWERS_TOO_SHORT];
+    bool suffice = answered >= LEAST_HITS && broken >= LEAST_HITS && too_short >= LEAST_HITS;
+
+    printf("lists of numbers: answered %u\nrefused%4u: %4u%4u: %4u\n", answered, BROKEN_MAP, broken, ANSWERS_TOO_SHORT, too_short);
+    if (!suffice)
+        printf("compare: lists of numbers were not answered and refused with 61 and 62 %u times each\n", LEAST_HITS);
+    return suffice;
+}
+
 static void check_examples(const struct reader *reader, const char *boards)
 {
     struct tally tally = ask_examples(reader, boards);
@@ -911,10 +971,11 @@ int main(int argc, char **argv)
 
     bool strict_suffices = hits_suffice(STRICT, &hits[STRICT]);
     bool ordinary_suffices = hits_suffice(ORDINARY, &hits[ORDINARY]);
+    bool enough_lists = lists_suffice();
 
     if (differences != 0)
         printf("compare: %u differences\n", differences);
-    if (differences != 0 || !strict_suffices || !ordinary_suffices)
+    if (differences != 0 || !strict_suffices || !ordinary_suffices || !enough_lists)
         return 1;
     printf("compare: %" PRIu64 " captures, every refusal at least %d times in both readings, no difference\n", count,
            LEAST_HITS);

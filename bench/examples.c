@@ -22,6 +22,7 @@
 #include "bridges.h"
 #include "files.h"
 #include "ht.h"
+#include "lists.h"
 #include "pins.h"
 #include "questions.h"
 #include "readings.h"
@@ -97,6 +98,8 @@ static void ask_example(struct tally *tally, const struct reader *reader, const 
     case TRACE:
         expect(tally, reader, reader->trace(a->bytes, a->length, example->first, example->second), example->answer, tell_trace,
                "%s, trace (%" PRIu32 ", %" PRIu32 ")", example->what, example->first, example->second);
+        break;
+    case ROUTE_EACH: /* lists.c has them */
         break;
     }
 }
@@ -1153,6 +1156,7 @@ void ask_vectors_examples(const char *boards)
     ask_vectors_bridge_answers(boards);
     ask_vectors_ht_answers(boards);
     ask_vectors_reading_examples(boards);
+    ask_vectors_list_examples(boards);
     ask_vectors_real_captures(boards);
 }
 

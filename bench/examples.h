@@ -24,7 +24,7 @@ struct tally ask_examples(const struct reader *reader, const char *boards);
  */
 void save_examples_for_map(const char *boards, const char *folder);
 
-/* Writes questions about them for `vectors`, in both readings, with the lines that the documents fix (questions.h). */
+/* Writes questions about them for `vectors`, and those of W-209, in both readings, with the lines that the documents fix. */
 void ask_vectors_examples(const char *boards);
 
 #endif

@@ -67,13 +67,13 @@ void close_questions(void)
 
 /* ---- Questions ---- */
 
-/* A question is a head of 96 bytes and the capture. Where the head's fields stand: */
+/* A question is a head of 96 bytes and the capture, before which the numbers of a list stand. Where the head's fields stand: */
 enum {
     HEAD_LENGTH = 96,
     HEAD_LABEL = 0, /* padded with zeros */
     LABEL_MAX = 64,
     HEAD_QUESTION = 64,
-    HEAD_CAPTURE_LENGTH = 68,
+    HEAD_BYTES = 68, /* how many follow */
     HEAD_FIRST = 72,
     HEAD_SECOND = 80,
     HEAD_LABEL_LENGTH = 88,
@@ -86,11 +86,11 @@ void write_question(const char *label, const struct query *query, const char *an
     uint8_t head[HEAD_LENGTH] = {0};
     size_t label_length = strlen(label);
 
-    assert(label_length <= LABEL_MAX && query->length <= ASKED_CAPTURE_MAX && file->count < QUESTIONS_MAX);
+    assert(label_length <= LABEL_MAX && query->length <= ASKED_BYTES_MAX && file->count < QUESTIONS_MAX);
     file->count++;
     memcpy(head + HEAD_LABEL, label, label_length);
     put_u32(head + HEAD_QUESTION, query->question);
-    put_u32(head + HEAD_CAPTURE_LENGTH, (uint32_t)query->length);
+    put_u32(head + HEAD_BYTES, (uint32_t)query->length);
     put_u64(head + HEAD_FIRST, query->first);
     put_u64(head + HEAD_SECOND, query->second);
     put_u32(head + HEAD_LABEL_LENGTH, (uint32_t)label_length);
@@ -98,6 +98,18 @@ void write_question(const char *label, const struct query *query, const char *an
     fwrite(head, 1, sizeof head, file->questions);
     fwrite(query->capture, 1, query->length, file->questions);
     fprintf(file->lines, "%s: %s\n", label, answer);
+}
+
+void write_list_question(const char *label, const struct list_query *query, const char *answer)
+{
+    static uint8_t bytes[ASKED_BYTES_MAX];
+    size_t list_length = 4 * (size_t)query->count, length = list_length + query->length;
+
+    assert(query->answers <= ANSWERS_MAX && query->count <= EACH_MAX && length <= ASKED_BYTES_MAX);
+    for (size_t i = 0; i < query->count; i++)
+        put_u32(bytes + 4 * i, query->numbers[i]);
+    memcpy(bytes + list_length, query->capture, query->length);
+    write_question(label, &(struct query){query->reading, ROUTE_EACH, query->answers, query->count, bytes, length}, answer);
 }
 
 /* ---- Answers ---- */
@@ -134,4 +146,32 @@ uint64_t answer_query(const struct reader *reader, const struct query *query, ch
 
     snprintf(answer, ANSWER_ROOM, "%s", print_answer(result).words);
     return result;
+}
+
+enum { TRIPLE = 3 }; /* the numbers of an answer to one of a list: kind, core vector and number */
+
+/* 61 comes first, also for an empty list. A refused capture refuses any route. */
+static unsigned refusal_of_list(const struct list_query *query)
+{
+    if (refusal_number(reference_in(query->reading)->route(query->capture, query->length, 0)) != 0)
+        return BROKEN_MAP;
+    return query->answers < TRIPLE * query->count ? ANSWERS_TOO_SHORT : 0;
+}
+
+/* Each number of the answers' list, or a dash where it stays as it was: everywhere, if it is refused. */
+unsigned answer_list_query(const struct list_query *query, char answer[ANSWER_ROOM])
+{
+    unsigned refusal = refusal_of_list(query);
+    uint32_t answered = refusal == 0 ? query->count : 0;
+    struct text said = tell_refusal((struct reference_refusal){refusal, 0, 0});
+    int length = snprintf(answer, ANSWER_ROOM, "%s", refusal == 0 ? "answered" : said.words);
+
+    for (uint32_t i = 0; i < answered; i++) {
+        uint64_t single = reference_in(query->reading)->route(query->capture, query->length, query->numbers[i]);
+
+        length += snprintf(answer + length, ANSWER_ROOM - (size_t)length, "%s", print_answer(single).words + strlen("kind"));
+    }
+    for (uint32_t i = TRIPLE * answered; i < query->answers; i++)
+        length += snprintf(answer + length, ANSWER_ROOM - (size_t)length, " -");
+    return refusal;
 }
