@@ -1,13 +1,14 @@
--- Laws of numbers that are asked at once: an answer takes three numbers; what is left to write at each turn of the loop; and what comes of
--- the call.
+-- Laws of numbers that are asked at once: an answer takes three numbers, which are stored one by one; what is left to write at each turn of the
+-- loop; and what comes of the call.
 use mathlib.Core.Path.{_≡_, refl, sym, _∙_}
 use mathlib.Core.Bool.{Bool, true, false, not}
 use mathlib.Core.List.{List, [], _∷_}
-use Prim.Native.Nat.{ℕ, _+_, _*_, _/_, _≤_, _<_}
+use Prim.Native.Nat.{ℕ, suc, _+_, _*_, _/_, _≤_, _<_}
 use native.Mathlib.Omega.{arith}
 use borrow.Author.Tests.{lt-ltb, le-ltb, ltb-true, ltb-false, not-false}
 use lib.Dec.{ltb}
-use lib.ListN.{length, drop, getD, drop-of-length-le}
+use lib.ListN.{length, drop, set, getD, drop-of-length-le}
+use lib.Seq.{sets}
 use Rattle.words.specs.Lists.{first, inEach}
 use Rattle.words.specs.Refusals.{rule, unless, firstRefusal}
 use Rattle.words.specs.Rooms.{written}
@@ -28,6 +29,13 @@ use Rattle.lines.specs.declared.Map.{Map}
 use Rattle.lines.specs.declared.Owner.{Owner}
 use Rattle.lines.specs.declared.Owner.the-variants.{LpcInput, LioInput, BioInput, Nobody}
 use Rattle.lines.specs.declared.Route.{Route}
+
+-- ---- three stores in a row
+pub three-stores : (list : List ℕ) (n a b c : ℕ) → set (set (set list n a) (n + 1) b) (n + 2) c ≡ sets list n (a ∷ b ∷ c ∷ [])
+three-stores list n a b c =
+    let one : n + 1 ≡ suc n = omega arith in
+    let two : n + 2 ≡ suc (suc n) = omega arith in
+    rw (one, two)
 
 -- ---- an answer takes three numbers: an arrival is never a refusal
 abbrev pub Three : Route → Type 0

@@ -65,7 +65,7 @@ impl Map {
         ensures { λ r. ⌜ now (answers .exit) ≡ answersAfter self (now (numbers .entry)) (now (answers .entry)) ⌝ }
     {
         let kept = self.keeps_rules();
-        // three times the numbers might be more than a usize holds
+        // by a division, so that no product has to fit
         let short = answers.len() / TRIPLE < numbers.len();
         let verdict = or_else(rule_of(!kept, 61, 0), rule_of(short, 62, 0));
         match verdict {

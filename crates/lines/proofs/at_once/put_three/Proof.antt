@@ -1,10 +1,8 @@
 -- `put_three` stores three numbers.
-use Prim.Native.Nat.{suc, _+_}
-use mathlib.Core.Path.{_≡_}
-use native.Mathlib.Numerals.{add-one}
 use native.Mathlib.Omega.{arith}
 use lib.ListN.{length-set}
 use borrow.Author.Needs.{needs}
+use Rattle.lines.proofs.AtOnce.{three-stores}
 use Rattle.lines.proofs.at_once.put_three.Statement.{statement}
 use Rattle.lines.proofs.at_once.put_three.Tie as tie
 
@@ -36,9 +34,7 @@ same-length : tie.Need-same-length
 same-length c = search needs
 
 returns : tie.Need-returns
-returns c =
-    let e : c .args .n + 2 ≡ suc (suc (c .args .n)) = omega arith in
-    rw (e, add-one)
+returns c = three-stores (c .args .list .now) (c .args .n) (c .args .kind) (c .args .vector) (c .args .number)
 
 pub put-three-spec : {M : Type 1} → statement M
 put-three-spec =
