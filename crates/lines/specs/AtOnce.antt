@@ -13,7 +13,7 @@ use Rattle.lines.specs.Rules.{keepsRules}
 use Rattle.lines.specs.declared.Map.{Map}
 use Rattle.lines.specs.declared.Route.{Route}
 
--- "three numbers each: kind .., vector, number"; a refusal has none
+-- "three numbers each": kind, core vector and number; a refusal has none
 unfoldable pub tripleOf : Route → List ℕ
 tripleOf route = inNumbers (λ kind vector number. kind ∷ vector ∷ number ∷ []) (λ refusal. []) route
 

@@ -24,7 +24,7 @@ use Rattle.lines.specs.declared.Map.{Map}
 use Rattle.lines.specs.declared.Route.{Route}
 use Rattle.lines.specs.declared.Route.the-variants.{Arrives, Unwired, NoOwner, Refused}
 use Rattle.lines.proofs.AtOnce.{three, three-each, left-alone, all-written}
-use Rattle.map_promises.specs.AtOnce.{SixtyOneExactly, SixtyTwoExactly, Tell, Answered, AtOnceAnswers, RefusedLeavesAnswers, SameAtOnce}
+use Rattle.map_promises.specs.AtOnce.{SixtyOneExactly, SixtyTwoExactly, TellRoute, Answered, AtOnceAnswers, NoneIsFine, RefusedLeavesAnswers, SameAtOnce}
 use Rattle.map_promises.proofs.RefusedExactly.{refused-exactly}
 use Rattle.map_promises.proofs.SameAnswers.{same-answers}
 
@@ -129,7 +129,7 @@ whole entries list l = rw (length-append, length-drop) (omega arith)
 abbrev Never : Route → Type 0
 Never route = (r : Refusal) → route ≡ Refused r → ⊥
 
-tells : (route : Route) → Never route → Tell (getD (tripleOf route) 0 0) (getD (tripleOf route) 1 0) (getD (tripleOf route) 2 0) route
+tells : (route : Route) → Never route → TellRoute (getD (tripleOf route) 0 0) (getD (tripleOf route) 1 0) (getD (tripleOf route) 2 0) route
 unfolding tripleOf inNumbers
 tells (Arrives v n) never = (refl, refl, refl)
 tells Unwired never = (refl, refl, refl)
@@ -179,13 +179,12 @@ module _ (map : Map) (kept : keepsRules map ≡ true) where
   unfolding written triplesOf inEach
   nothing-written answers = refl
 
-  -- THE PROMISE
-  pub at-once-answers : AtOnceAnswers map kept
-  at-once-answers =
-      record {
-        each = λ numbers answers enough. (fine numbers answers enough, answered numbers answers enough);
-        none = λ answers. (fine [] answers (omega arith), after [] answers (omega arith) ∙ nothing-written answers);
-      }
+-- THE PROMISES
+pub at-once-answers : (map : Map) → AtOnceAnswers map
+at-once-answers map kept numbers answers enough = (fine map kept numbers answers enough, answered map kept numbers answers enough)
+
+pub none-is-fine : (map : Map) → NoneIsFine map
+none-is-fine map kept answers = (fine map kept [] answers (omega arith), after map kept [] answers (omega arith) ∙ nothing-written map kept answers)
 
 -- ---- the same map
 each-same : {A : Type 0} (gives other : A → List ℕ) → ((x : A) → gives x ≡ other x) → (xs : List A) → inEach gives xs ≡ inEach other xs

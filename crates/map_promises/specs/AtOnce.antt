@@ -28,28 +28,34 @@ SixtyTwoExactly map numbers answers =
     Exactly (λ p q. atOnce map numbers answers ≡ Refused (refusedWith 62 p q)) ((keepsRules map ≡ true) × (length answers < 3 * length numbers)) (OnePlace (λ p. p ≡ 0))
 
 -- "kind (0 arrives, 1 unwired, 2 no owner), vector, number, with zeros where there is no arrival": three numbers tell an answer
-abbrev pub Tell : ℕ → ℕ → ℕ → Route → Type 0
-Tell kind vector number (Arrives v n) = (kind ≡ 0) × (vector ≡ v) × (number ≡ n)
-Tell kind vector number Unwired = (kind ≡ 1) × (vector ≡ 0) × (number ≡ 0)
-Tell kind vector number NoOwner = (kind ≡ 2) × (vector ≡ 0) × (number ≡ 0)
-Tell kind vector number (NoRoute refusal) = ⊥
+abbrev pub TellRoute : ℕ → ℕ → ℕ → Route → Type 0
+TellRoute kind vector number (Arrives v n) = (kind ≡ 0) × (vector ≡ v) × (number ≡ n)
+TellRoute kind vector number Unwired = (kind ≡ 1) × (vector ≡ 0) × (number ≡ 0)
+TellRoute kind vector number NoOwner = (kind ≡ 2) × (vector ≡ 0) × (number ≡ 0)
+TellRoute kind vector number (NoRoute refusal) = ⊥
 
 -- what an answers' list holds afterwards
 pub record Answered (map : Map) (numbers answers after : List ℕ) : Type 0 where
   -- "Each triple equals the single answer": that to the number in the same turn, and its code is the one that C gets
   pub told : (i : ℕ) → i < length numbers
-      → Tell (getD after (3 * i) 0) (getD after (3 * i + 1) 0) (getD after (3 * i + 2) 0) (routeOf map (getD numbers i 0))
+      → TellRoute (getD after (3 * i) 0) (getD after (3 * i + 1) 0) (getD after (3 * i + 2) 0) (routeOf map (getD numbers i 0))
   pub codes : (i : ℕ) → i < length numbers
       → coded (getD after (3 * i) 0) (getD after (3 * i + 1) 0) (getD after (3 * i + 2) 0) ≡ routeCode (routeOf map (getD numbers i 0))
   -- "what lies past the written part of a lent list or room stays" (document 01)
   pub rest : (j : ℕ) → 3 * length numbers ≤ j → getD after j 0 ≡ getD answers j 0
   pub size : length after ≡ length answers
 
--- numbers that are neither 61 nor 62 are answered; "an empty list is fine", and changes nothing
-pub record AtOnceAnswers (map : Map) (kept : keepsRules map ≡ true) : Type 0 where
-  pub each : (numbers answers : List ℕ) → 3 * length numbers ≤ length answers
-      → (atOnce map numbers answers ≡ Sound) × Answered map numbers answers (answersAfter map numbers answers)
-  pub none : (answers : List ℕ) → (atOnce map [] answers ≡ Sound) × (answersAfter map [] answers ≡ answers)
+-- where neither is told, each number is answered
+abbrev pub AtOnceAnswers : Map → Type 0
+AtOnceAnswers map =
+    keepsRules map ≡ true
+    → (numbers answers : List ℕ) → 3 * length numbers ≤ length answers
+    → (atOnce map numbers answers ≡ Sound) × Answered map numbers answers (answersAfter map numbers answers)
+
+-- "an empty list is fine", and changes nothing
+abbrev pub NoneIsFine : Map → Type 0
+NoneIsFine map =
+    keepsRules map ≡ true → (answers : List ℕ) → (atOnce map [] answers ≡ Sound) × (answersAfter map [] answers ≡ answers)
 
 -- "every lent list or room untouched" (document 01)
 abbrev pub RefusedLeavesAnswers : Map → List ℕ → List ℕ → Type 0
