@@ -28,6 +28,7 @@ atOnceRules map numbers answers =
     ∷ rule (ltb (length answers) (3 * length numbers)) 62 0
     ∷ []
 
+-- what the call gives back: the first of them that is broken, or sound
 unfoldable pub atOnce : Map → List ℕ → List ℕ → Verdict
 atOnce map numbers answers = firstRefusal (atOnceRules map numbers answers)
 
