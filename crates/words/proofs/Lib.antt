@@ -6,6 +6,8 @@ pub mod Tests
 pub mod Order
 pub mod Choices
 pub mod Searches
+pub mod Counted
 pub mod Turns
 pub mod Verdicts
+pub mod TwoRules
 pub mod Those

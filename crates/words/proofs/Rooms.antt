@@ -1,4 +1,4 @@
--- Writing entries into a lent list, one behind the other from its front on.
+-- Writing entries into a list, one behind the other from its front on.
 use mathlib.Core.Path.{_≡_, refl, sym, _∙_}
 use mathlib.Core.List.{List, [], _∷_, _++_}
 use Prim.Native.Nat.{ℕ, _+_, _*_, _≤_, _<_}
@@ -15,32 +15,32 @@ sets-append l i [] us = rw add-zero
 sets-append l i (v ∷ vs) us = rw (sets-append _ _ vs us, add-suc, suc-add)
 
 -- ---- what a loop that writes `all` keeps: once what is left is written from place n on, the list is the one that is wanted
-pub record Writing (all old list : List ℕ) (n : ℕ) (left : List ℕ) : Type 0 where
+pub record Writing {A : Type 0} (all old list : List A) (n : ℕ) (left : List A) : Type 0 where
   pub fits : n + length left ≤ length list
   pub same : length list ≡ length old
   pub rest : sets list n left ≡ written all old
 
 -- what is left begins with one entry of a certain length, and then come the later ones
-pub record Next (entry : ℕ) (left one later : List ℕ) : Type 0 where
+pub record Next {A : Type 0} (entry : ℕ) (left one later : List A) : Type 0 where
   pub split : left ≡ one ++ later
   pub size : length one ≡ entry
 
-pub write-start : (all old : List ℕ) → length all ≤ length old → Writing all old old 0 all
+pub write-start : {A : Type 0} (all old : List A) → length all ≤ length old → Writing all old old 0 all
 unfolding written
 write-start all old h = record { fits = omega arith; same = refl; rest = rw zero-add at (sets-eq all old 0 (omega arith)) }
 
-module _ {all old list : List ℕ} {n : ℕ} {left : List ℕ} (inv : Writing all old list n left) where
+module _ {A : Type 0} {all old list : List A} {n : ℕ} {left : List A} (inv : Writing all old list n left) where
   pub write-end : left ≡ [] → list ≡ written all old
   write-end e = rw e at (inv .rest)
 
-  module _ {entry : ℕ} {one later : List ℕ} (next : Next entry left one later) where
+  module _ {entry : ℕ} {one later : List A} (next : Next entry left one later) where
     room : n + (entry + length later) ≤ length list
     room = rw (next .split, length-append, next .size) at (inv .fits)
 
     pub write-room : n + entry ≤ length list
     write-room = let enough = room in omega arith
 
-    pub write-next : {list′ : List ℕ} {n′ : ℕ} → list′ ≡ sets list n one → n′ ≡ n + entry → Writing all old list′ n′ later
+    pub write-next : {list′ : List A} {n′ : ℕ} → list′ ≡ sets list n one → n′ ≡ n + entry → Writing all old list′ n′ later
     write-next l m =
         let enough = room in
         let kept = length-sets list n one in

@@ -12,7 +12,7 @@ unfoldable pub hasRoom : List ℕ → List ℕ → Bool
 hasRoom entries list = leb (length entries) (length list)
 
 -- a list with entries written from its front on; "what lies past the written part" stays
-unfoldable pub written : List ℕ → List ℕ → List ℕ
+unfoldable pub written : {A : Type 0} → List A → List A → List A
 written entries list = entries ++ drop (length entries) list
 
 -- the same where there is room; a list that is too short stays as it is
