@@ -1,5 +1,5 @@
 // Document 01, "Where a line arrives": owners, wired inputs, and the arrival of a global number. Nothing
-// here asks whether the map keeps the rules: `Map::arrival` is for callers that know it, and `Map::route`, with 61 first, for
+// here asks whether the map keeps the rules: the calls are for callers that know it, and `Map::route`, with 61 first, for
 // all others.
 use crate::MOST;
 use crate::Map;
@@ -13,7 +13,7 @@ ghost use Prim.Native.Nat.{_-_, _≤_, min};
 ghost use lib.ListN.{take};
 ghost use Rattle.parts.specs.Inputs.{owns};
 ghost use Rattle.lines.specs.Says.{says};
-ghost use Rattle.lines.specs.Routes.{lioArrival, bioOwner, owner, arrival};
+ghost use Rattle.lines.specs.Routes.{lioArrival, bioOwner, owner, arrivalOf, arrival};
 
 // The first global number of the LIO: those below are the LPC's.
 pub(crate) const LIO_FIRST: u32 = 16;
@@ -68,8 +68,8 @@ pub fn used(count: u8) -> usize
 }
 
 impl Map {
-    // Whose a global number is.
-    fn owner(self, number: u32) -> Owner
+    // Whose a global number is, in a map that is known to keep the rules.
+    pub fn owner(self, number: u32) -> Owner
         ensures { λ r. ⌜ r ≡ owner (says self) number ⌝ }
     {
         let bios = self.bios;
@@ -90,17 +90,24 @@ impl Map {
         bio_owner(bios, used(self.biocount), number)
     }
 
-    // Where a global number arrives in a map that is known to keep the rules.
-    pub fn arrival(self, number: u32) -> Route
-        ensures { λ r. ⌜ r ≡ arrival (says self) number ⌝ }
+    // Where a number with this owner arrives, likewise.
+    pub fn arrival_of(self, owner: Owner) -> Route
+        ensures { λ r. ⌜ r ≡ arrivalOf (says self) owner ⌝ }
     {
         let lpc = kinds::said_lpc(self.lpc);
         let lio = kinds::said_lio(self.lio);
-        match self.owner(number) {
+        match owner {
             Owner::LpcInput => self.hub_arrival(lpc.node, lpc.cascade),
             Owner::LioInput(i) => lio_arrival(lio, i),
             Owner::BioInput(node, v) => self.hub_arrival(node, v),
             Owner::Nobody => Route::NoOwner,
         }
+    }
+
+    // Where a global number arrives, likewise.
+    pub fn arrival(self, number: u32) -> Route
+        ensures { λ r. ⌜ r ≡ arrival (says self) number ⌝ }
+    {
+        self.arrival_of(self.owner(number))
     }
 }

@@ -6,17 +6,16 @@ use mathlib.Core.Bool.{Bool, true, false, not}
 use mathlib.Core.List.{List, [], _∷_, _++_}
 use mathlib.Core.Logic.{_⊎_, inl, inr, ⊎-elim}
 use mathlib.Core.Path.{_≡_, refl, sym, ap, ap₂, _∙_}
-use borrow.Author.Tests.{lt-ltb, le-ltb}
+use borrow.Author.Tests.{lt-ltb, le-ltb, ltb-true, not-true, not-false}
 use lib.Dec.{ltb}
 use lib.ListN.{length, drop, getD, length-append, length-drop, List·getD-append}
 use lib.Seq.{getD-append-add, getD-drop}
 use Rattle.words.specs.Lists.{inEach}
-use Rattle.words.specs.Refusals.{refused, refusedWith}
+use Rattle.words.specs.Refusals.{refused}
 use Rattle.words.specs.Rooms.{written}
 use Rattle.words.specs.declared.Refusal.{Refusal}
 use Rattle.words.specs.declared.Verdict.the-variants as verdicts
-use Rattle.words.proofs.Order.{order}
-use Rattle.words.proofs.Verdicts.{not-sound, same-refusal, first-none, first-broken, first-kept}
+use Rattle.words.proofs.TwoRules.{none-due, one-of-two}
 use Rattle.lines.specs.Rules.{keepsRules}
 use Rattle.lines.specs.Answers.{inNumbers, routeOf, coded, routeCode}
 use Rattle.lines.specs.AtOnce.{tripleOf, triplesOf, atOnceRules, atOnce, answersAfter}
@@ -26,6 +25,7 @@ use Rattle.lines.specs.declared.Route.the-variants.{Arrives, Unwired, NoOwner, 
 use Rattle.lines.proofs.AtOnce.{three, three-each, left-alone, all-written}
 use Rattle.map_promises.specs.AtOnce.{SixtyOneExactly, SixtyTwoExactly, TellRoute, Answered, AtOnceAnswers, NoneIsFine, RefusedLeavesAnswers, SameAtOnce}
 use Rattle.map_promises.proofs.RefusedExactly.{refused-exactly}
+use Rattle.map_promises.proofs.TwoRules.{rephrased, first-exactly, second-exactly}
 use Rattle.map_promises.proofs.SameAnswers.{same-answers}
 
 -- ---- 61 and 62
@@ -33,66 +33,27 @@ module _ (map : Map) (numbers answers : List ℕ) where
   abbrev tooShort : Bool
   tooShort = ltb (length answers) (3 * length numbers)
 
-  broken-map : keepsRules map ≡ false → atOnce map numbers answers ≡ verdicts.Refused (refused 61 0)
-  unfolding atOnce atOnceRules
-  broken-map broken = first-broken (not (keepsRules map)) 61 0 _ (ap not broken)
-
-  short-list : keepsRules map ≡ true → length answers < 3 * length numbers → atOnce map numbers answers ≡ verdicts.Refused (refused 62 0)
-  unfolding atOnce atOnceRules
-  short-list kept short = first-kept (not (keepsRules map)) 61 0 _ (ap not kept) (first-broken tooShort 62 0 [] (lt-ltb _ _ short))
-
   room-for-all : keepsRules map ≡ true → 3 * length numbers ≤ length answers → atOnce map numbers answers ≡ verdicts.Sound
   unfolding atOnce atOnceRules
-  room-for-all kept enough =
-      first-kept (not (keepsRules map)) 61 0 _ (ap not kept) (first-kept tooShort 62 0 [] (le-ltb _ _ enough) first-none)
-
-  abbrev Told : Refusal → Type 0
-  Told r = atOnce map numbers answers ≡ verdicts.Refused r
-
-  -- a refusal that is told is the one that is due
-  of-broken : keepsRules map ≡ false → {r : Refusal} → Told r → refused 61 0 ≡ r
-  of-broken broken h = same-refusal (sym (broken-map broken) ∙ h)
-
-  of-short : keepsRules map ≡ true → length answers < 3 * length numbers → {r : Refusal} → Told r → refused 62 0 ≡ r
-  of-short kept short h = same-refusal (sym (short-list kept short) ∙ h)
-
-  of-none : keepsRules map ≡ true → 3 * length numbers ≤ length answers → {r : Refusal} {X : Type 0} → Told r → X
-  of-none kept enough h = not-sound (sym h ∙ room-for-all kept enough)
-
-  -- the list is too short, or it is not
-  by-size : {X : Type 0} → (length answers < 3 * length numbers → X) → (3 * length numbers ≤ length answers → X) → X
-  by-size short enough =
-      ⊎-elim short (⊎-elim (λ e. enough (omega arith)) (λ l. enough (omega arith))) (order (length answers) (3 * length numbers))
+  room-for-all kept enough = none-due (not (keepsRules map)) tooShort 61 62 (ap not kept) (le-ltb _ _ enough)
 
   -- there are no others
-  pub two-refusals : (r : Refusal) → Told r → (r ≡ refused 61 0) ⊎ (r ≡ refused 62 0)
-  two-refusals r h = go (keepsRules map) refl
-    where
-      go : (b : Bool) → keepsRules map ≡ b → (r ≡ refused 61 0) ⊎ (r ≡ refused 62 0)
-      go false broken = inl (sym (of-broken broken h))
-      go true kept = by-size (λ short. inr (sym (of-short kept short h))) (λ enough. of-none kept enough h)
+  pub two-refusals : (r : Refusal) → atOnce map numbers answers ≡ verdicts.Refused r → (r ≡ refused 61 0) ⊎ (r ≡ refused 62 0)
+  unfolding atOnce atOnceRules
+  two-refusals r h = ⊎-elim (λ x. inl (sym (x .1))) (λ x. inr (sym (x .2))) (one-of-two (not (keepsRules map)) tooShort 61 62 r h)
 
   -- THE PROMISES
   pub sixty-one-exactly : SixtyOneExactly map numbers answers
-  sixty-one-exactly = ((λ p q h. go (keepsRules map) refl h), λ broken. (0, 0, broken-map broken))
-    where
-      go : (b : Bool) → keepsRules map ≡ b → {p q : ℕ} → Told (refusedWith 61 p q) → (keepsRules map ≡ false) × ((p ≡ 0) × (q ≡ 0))
-      go false broken h = let e = of-broken broken h in (broken, (sym (ap (λ (r : Refusal). r .place) e), sym (ap (λ (r : Refusal). r .second) e)))
-      go true kept h =
-          absurd (by-size (λ short. let e = ap (λ (r : Refusal). r .number) (of-short kept short h) in omega arith) (λ enough. of-none kept enough h))
+  unfolding atOnce atOnceRules
+  sixty-one-exactly =
+      rephrased (λ p q h. h) (λ p q h. h) (not-true _) (ap not) (first-exactly (not (keepsRules map)) tooShort 61 62 (λ e. omega arith))
 
   pub sixty-two-exactly : SixtyTwoExactly map numbers answers
-  sixty-two-exactly = ((λ p q h. go (keepsRules map) refl h), λ due. (0, 0, short-list (due .0) (due .1)))
-    where
-      go : (b : Bool) → keepsRules map ≡ b → {p q : ℕ} → Told (refusedWith 62 p q)
-          → ((keepsRules map ≡ true) × (length answers < 3 * length numbers)) × ((p ≡ 0) × (q ≡ 0))
-      go false broken h = absurd (let e = ap (λ (r : Refusal). r .number) (of-broken broken h) in omega arith)
-      go true kept h =
-          by-size
-          (λ short.
-          let e = of-short kept short h in
-          ((kept, short), (sym (ap (λ (r : Refusal). r .place) e), sym (ap (λ (r : Refusal). r .second) e))))
-          (λ enough. of-none kept enough h)
+  unfolding atOnce atOnceRules
+  sixty-two-exactly =
+      rephrased (λ p q h. h) (λ p q h. h)
+      (λ x. (not-false _ (x .0), ltb-true _ _ (x .1))) (λ x. (ap not (x .0), lt-ltb _ _ (x .1)))
+      (second-exactly (not (keepsRules map)) tooShort 61 62 (λ e. omega arith))
 
   pub refused-leaves-answers : RefusedLeavesAnswers map numbers answers
   refused-leaves-answers r h = left-alone map numbers answers h

@@ -19,6 +19,7 @@ pub mod WithoutHt
 pub mod SameAnswers
 pub mod Places
 pub mod RefusedExactly
+pub mod TwoRules
 pub mod AtOnce
 pub mod CodesApart
 pub mod AnswersFit

@@ -3,7 +3,7 @@
 use Prim.Native.Nat.{ℕ, _+_, _-_, _<_, _≤_}
 use native.Mathlib.Nat.{add-sub-cancel-left}
 use native.Mathlib.Omega.{arith}
-use mathlib.Core.Path.{_≡_, sym, _∙_, ap}
+use mathlib.Core.Path.{_≡_, refl, sym, _∙_, ap, ap₂}
 use mathlib.Core.Logic.{_⊎_, inl, inr, ⊎-elim}
 use mathlib.Core.Bool.{true, false, true≢false}
 use borrow.Author.Tests.{leb-true, ltb-true, le-leb, lt-ltb, le-ltb}
@@ -20,11 +20,12 @@ use Rattle.lines.specs.Routes.{lioArrival, bioOwner, owner, arrivalOf, arrival,
 use Rattle.lines.specs.Rules.{keepsRules}
 use Rattle.lines.specs.Answers.{routeOf}
 use Rattle.lines.specs.declared.Map.{Map}
+use Rattle.lines.specs.declared.Owner.{Owner}
 use Rattle.lines.specs.declared.Owner.the-variants.{LpcInput, LioInput, BioInput, Nobody}
 use Rattle.lines.specs.declared.Route.{Route}
 use Rattle.lines.specs.declared.Route.the-variants.{Arrives, NoOwner, Unwired}
 use Rattle.map_promises.specs.Sources.{input, pin, slot, bioAt, IsBehind}
-use Rattle.map_promises.specs.Routing.{IsSourced, IsUnwired, IsLpcLine, Rest, RouteIsSources, UnwiredExactly, NoOwnerExactly}
+use Rattle.map_promises.specs.Routing.{IsSourced, IsUnwired, IsLpcLine, Rest, RouteIsSources, UnwiredExactly, NoOwnerExactly, Owns, OwnerExactly}
 use Rattle.map_promises.proofs.Bridges.{bridge-node}
 use Rattle.map_promises.proofs.Kept.{Good, good, named-wired, bio-number}
 use Rattle.map_promises.proofs.Logic.{order, is-bool, wired-small}
@@ -137,47 +138,58 @@ module _ (map : Map) (kept : keepsRules map ≡ true) where
   abbrev Kinds : ℕ → Type 0
   Kinds n = IsLpcLine said n ⊎ (IsSourced said n ⊎ (IsUnwired said n ⊎ (routeOf map n ≡ NoOwner)))
 
-  low-kind : (n : ℕ) → n < 16 → Kinds n
-  unfolding arrivalOf
-  low-kind n l =
-      ⊎-elim
-      (λ no. inr (inr (inr (routed map kept n ∙ rw (owner-nobody said n l no)))))
-      (λ yes. inl (l, yes))
-      (is-bool (said .lpc .present))
+  -- what owns it, but for nobody
+  abbrev Holds : Owner → ℕ → Type 0
+  Holds LpcInput n = Owns said LpcInput n
+  Holds (LioInput i) n = Owns said (LioInput i) n
+  Holds (BioInput node v) n = Owns said (BioInput node v) n
+  Holds Nobody n = 0 < 1
 
-  lio-kind : (n : ℕ) → 16 ≤ n → n < 48 → Kinds n
-  unfolding arrivalOf
-  lio-kind n a b =
-      let e : 16 + (n - 16) ≡ n = omega arith in
+  held-low : (n : ℕ) → n < 16 → Holds (owner said n) n
+  held-low n l =
+      ⊎-elim (λ no. rw (owner-nobody said n l no) (omega arith)) (λ yes. rw (owner-lpc said n l yes) (l, yes)) (is-bool (said .lpc .present))
+
+  held-lio : (n : ℕ) → 16 ≤ n → n < 48 → Holds (owner said n) n
+  held-lio n a b =
       ⊎-elim
-      (λ free.
-      ⊎-elim
-      (λ no. inr (inr (inl (n - 16, omega arith, no, e))))
-      (λ yes. inr (inl (input (n - 16), (yes, free), e)))
-      (is-bool (wired (said .lio) (n - 16))))
-      (λ named. inr (inr (inr (routed map kept n ∙ rw (owner-named said n a b named)))))
+      (λ free. rw (owner-lio said n a b free) (omega arith, free, omega arith))
+      (λ named. rw (owner-named said n a b named) (omega arith))
       (is-bool (isNamed (said .ht) (n - 16)))
 
-  bio-kind : (n : ℕ) → 48 ≤ n → Kinds n
-  unfolding arrivalOf bioOwner
-  bio-kind n a =
+  held-pin : (n j : ℕ) → 48 ≤ n → j < length (said .bios) → owns n (bioAt said j) ≡ true → Holds (owner said n) n
+  held-pin n j a k t =
+      let base = bioAt said j .base in
+      let end = base + bioAt said j .pins in
+      let low : base ≤ n = leb-true _ _ (and-left (leb base n) (ltb n end) t) in
+      let high : n < end = ltb-true _ _ (and-right (leb base n) (ltb n end) t) in
+      rw (owner-bio said n a ∙ owned j n k low high) (j, (k, omega arith), omega arith, refl)
+
+  held-bio : (n : ℕ) → 48 ≤ n → Holds (owner said n) n
+  unfolding bioOwner
+  held-bio n a =
       ⊎-elim
-      (λ w.
-      let base = bioAt said (w .0) .base in
-      let end = base + bioAt said (w .0) .pins in
-      let low : base ≤ n = leb-true _ _ (and-left (leb base n) (ltb n end) (w .2)) in
-      let high : n < end = ltb-true _ _ (and-right (leb base n) (ltb n end) (w .2)) in
-      inr (inl (pin (w .0) (n - base), (w .1, omega arith), omega arith)))
-      (λ w. inr (inr (inr (routed map kept n ∙ rw (owner-bio said n a, w .1)))))
+      (λ w. held-pin n (w .0) a (w .1) (w .2))
+      (λ w. rw (owner-bio said n a ∙ w .1) (omega arith))
       (found-or-not noBio (owns n) (λ b. BioInput (b .node) (n - b .base)) Nobody (said .bios))
 
-  kind : (n : ℕ) → Kinds n
-  kind n =
+  held : (n : ℕ) → Holds (owner said n) n
+  held n =
       ⊎-elim
-      (low-kind n)
+      (held-low n)
       (λ r. let a : 16 ≤ n = ⊎-elim (λ z. omega arith) (λ z. omega arith) r in
-      ⊎-elim (lio-kind n a) (λ s. bio-kind n (⊎-elim (λ z. omega arith) (λ z. omega arith) s)) (order n 48))
+      ⊎-elim (held-lio n a) (λ s. held-bio n (⊎-elim (λ z. omega arith) (λ z. omega arith) s)) (order n 48))
       (order n 16)
+
+  kind : (n : ℕ) → Kinds n
+  unfolding arrivalOf
+  kind n = go (owner said n) refl (held n)
+    where
+      go : (o : Owner) → owner said n ≡ o → Holds o n → Kinds n
+      go LpcInput e h = inl h
+      go (LioInput i) e h =
+          ⊎-elim (λ no. inr (inr (inl (i, h .0, no, h .2)))) (λ yes. inr (inl (input i, (yes, h .1), h .2))) (is-bool (wired (said .lio) i))
+      go (BioInput node v) e h = inr (inl (pin (h .0) v, h .1, h .2))
+      go Nobody e h = inr (inr (inr (routed map kept n ∙ ap (arrivalOf said) e)))
 
   pub answered : (n : ℕ) → Lands n ⊎ ((routeOf map n ≡ Unwired) ⊎ (routeOf map n ≡ NoOwner))
   answered n =
@@ -218,6 +230,42 @@ module _ (map : Map) (kept : keepsRules map ≡ true) where
       (⊎-elim (λ s. absurd (r .sourced s)) (⊎-elim (λ u. absurd (r .unwired u)) (λ o. o)))
       (kind n)
 
+  -- ---- the owner that is told is the one that owns the number
+  owns-it : (n : ℕ) → Owns said (owner said n) n
+  unfolding arrivalOf
+  owns-it n = go (owner said n) refl (held n)
+    where
+      go : (o : Owner) → owner said n ≡ o → Holds o n → Owns said o n
+      go LpcInput e h = h
+      go (LioInput i) e h = h
+      go (BioInput node v) e h = h
+      go Nobody e h = of-unowned n (routed map kept n ∙ ap (arrivalOf said) e)
+
+  -- where nothing else has the number, nobody owns it
+  nobody-owns : (n : ℕ) → Rest said n → owner said n ≡ Nobody
+  nobody-owns n r = go (owner said n) refl (held n)
+    where
+      go : (o : Owner) → owner said n ≡ o → Holds o n → owner said n ≡ Nobody
+      go LpcInput e h = absurd (r .lpc h)
+      go (LioInput i) e h =
+          absurd (⊎-elim (λ no. r .unwired (i, h .0, no, h .2)) (λ yes. r .sourced (input i, (yes, h .1), h .2)) (is-bool (wired (said .lio) i)))
+      go (BioInput node v) e h = absurd (r .sourced (pin (h .0) v, h .1, h .2))
+      go Nobody e h = e
+
+  owned-so : (whose : Owner) (n : ℕ) → Owns said whose n → owner said n ≡ whose
+  owned-so LpcInput n h = owner-lpc said n (h .0) (h .1)
+  owned-so (LioInput i) n h =
+      let same : n - 16 ≡ i = omega (arith, h .2) in
+      owner-lio said n (omega (arith, h .2)) (omega (arith, h .0, h .2)) (rw same (h .1)) ∙ ap LioInput same
+  owned-so (BioInput node v) n h =
+      let base = bioAt said (h .0) .base in
+      let f = bio-fits said (g .ranged) (h .0) (h .1 .0) in
+      let less = h .1 .1 in
+      let is = h .2 in
+      let same : n - base ≡ v = omega arith in
+      owner-bio said n (omega arith) ∙ owned (h .0) n (h .1 .0) (omega arith) (omega arith) ∙ ap₂ BioInput (h .3) same
+  owned-so Nobody n h = nobody-owns n h
+
 -- THE PROMISES
 pub route-is-sources : (map : Map) → keepsRules map ≡ true → RouteIsSources map
 route-is-sources map h = route-is-source map h
@@ -227,3 +275,6 @@ unwired-exactly map h n = (of-unwired map h n, unwired-routed map h n)
 
 pub no-owner-exactly : (map : Map) → keepsRules map ≡ true → NoOwnerExactly map
 no-owner-exactly map h n = (of-unowned map h n, unowned map h n)
+
+pub owner-exactly : (map : Map) → keepsRules map ≡ true → OwnerExactly map
+owner-exactly map h whose n = ((λ e. rw e at (owns-it map h n)), owned-so map h whose n)
