@@ -18,6 +18,10 @@ one-answer =
       route-each = λ κs a r s x y p q. (p .0 ∙ sym (q .0), ap (λ l. (tt, (tt, (l, tt)))) (p .1 ∙ sym (q .1)));
       keeps-rules = λ κs a r s x y p q. (p ∙ sym q, refl);
       first-broken = λ κs a r s x y p q. (p ∙ sym q, refl);
+      owner = λ κs a r s x y p q. (p ∙ sym q, refl);
+      arrival-of = λ κs a r s x y p q. (p ∙ sym q, refl);
       arrival = λ κs a r s x y p q. (p ∙ sym q, refl);
       traced = λ κs a r s x y p q. (p ∙ sym q, refl);
+      fill = λ κs a r s x y p q. (p ∙ sym q, refl);
+      look-up = λ κs a r s x y p q. (p ∙ sym q, refl);
     }

@@ -24,6 +24,12 @@ use Rattle.lines.proofs.Map.route_each.Kinds as route-each
 use Rattle.lines.proofs.Map.route_each.Reads as route-each-reads
 use Rattle.lines.proofs.Map.trace.Kinds as trace
 use Rattle.lines.proofs.Map.trace.Reads as trace-reads
+use Rattle.owners.specs.Table.{emptyTable}
+use Rattle.owners.specs.declared.Lookup.the-variants as lookups
+use Rattle.owners.proofs.fill.Kinds as fill
+use Rattle.owners.proofs.fill.Reads as fill-reads
+use Rattle.owners.proofs.look_up.Kinds as look-up
+use Rattle.owners.proofs.look_up.Reads as look-up-reads
 use Rattle.reading.specs.Scan.{emptyMap}
 use Rattle.reading.specs.declared.Answer.the-variants as answers
 use Rattle.reading.proofs.scan_capture.Kinds as scan-capture
@@ -117,3 +123,14 @@ MapRouteEachRefuses =
     Always route-each.ps route-each.r route-each-reads.Post
     (λ κs a result x. (r : Refusal) → result ≡ verdicts.Refused r
     → ((r ≡ refused 61 0) ⊎ (r ≡ refused 62 0)) × (now (x .1 .1 .0) ≡ now (a .1 .1 .0)))
+
+-- ---- with its owner table: 61 at place 0, where nobody owns a number then; of a lookup 63 at place 0 too
+abbrev pub FillRefuses : Type 0
+FillRefuses =
+    Always fill.ps fill.r fill-reads.Post
+    (λ κs a result x. (r : Refusal) → result .verdict ≡ verdicts.Refused r → (r ≡ refused 61 0) × (result .table ≡ emptyTable))
+
+abbrev pub LookUpRefuses : Type 0
+LookUpRefuses =
+    Always look-up.ps look-up.r look-up-reads.Post
+    (λ κs a result x. (r : Refusal) → result ≡ lookups.Refused r → (r ≡ refused 61 0) ⊎ (r ≡ refused 63 0))

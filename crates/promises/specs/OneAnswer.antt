@@ -17,10 +17,18 @@ use Rattle.lines.proofs.Map.trace.Kinds as trace
 use Rattle.lines.proofs.Map.trace.Reads as trace-reads
 use Rattle.lines.proofs.Map.route_each.Kinds as route-each
 use Rattle.lines.proofs.Map.route_each.Reads as route-each-reads
+use Rattle.lines.proofs.Map.owner.Kinds as owner
+use Rattle.lines.proofs.Map.owner.Reads as owner-reads
+use Rattle.lines.proofs.Map.arrival_of.Kinds as arrival-of
+use Rattle.lines.proofs.Map.arrival_of.Reads as arrival-of-reads
 use Rattle.lines.proofs.Map.arrival.Kinds as arrival
 use Rattle.lines.proofs.Map.arrival.Reads as arrival-reads
 use Rattle.lines.proofs.Map.traced.Kinds as traced
 use Rattle.lines.proofs.Map.traced.Reads as traced-reads
+use Rattle.owners.proofs.fill.Kinds as fill
+use Rattle.owners.proofs.fill.Reads as fill-reads
+use Rattle.owners.proofs.look_up.Kinds as look-up
+use Rattle.owners.proofs.look_up.Reads as look-up-reads
 use Rattle.reading.proofs.scan_capture.Kinds as scan-capture
 use Rattle.reading.proofs.scan_capture.Reads as scan-capture-reads
 use Rattle.reading.proofs.read.Kinds as read
@@ -58,5 +66,10 @@ pub record OneAnswer : Type 0 where
   pub route-each : Determined route-each.ps route-each.r route-each-reads.Post
   pub keeps-rules : Determined keeps-rules.ps keeps-rules.r keeps-rules-reads.Post
   pub first-broken : Determined first-broken.ps first-broken.r first-broken-reads.Post
+  pub owner : Determined owner.ps owner.r owner-reads.Post
+  pub arrival-of : Determined arrival-of.ps arrival-of.r arrival-of-reads.Post
   pub arrival : Determined arrival.ps arrival.r arrival-reads.Post
   pub traced : Determined traced.ps traced.r traced-reads.Post
+  -- with its owner table
+  pub fill : Determined fill.ps fill.r fill-reads.Post
+  pub look-up : Determined look-up.ps look-up.r look-up-reads.Post

@@ -1,0 +1,48 @@
+-- W-211 of document 02, the owner table: "Keep, beside the map, a table of owners for the numbers 0 to 319, filled from it".
+use Prim.Native.Nat.{ℕ}
+use mathlib.Core.Bool.{Bool, _&&_}
+use mathlib.Core.List.{List, map as mapped}
+use lib.Dec.{eqb}
+use lib.ListN.{getD, replicate}
+use Rattle.words.specs.Lists.{every, numbersBelow}
+use Rattle.lines.specs.Says.{says}
+use Rattle.lines.specs.Routes.{owner}
+use Rattle.lines.specs.declared.Map.{Map}
+use Rattle.lines.specs.declared.Owner.{Owner}
+use Rattle.lines.specs.declared.Owner.the-variants.{LpcInput, LioInput, BioInput, Nobody}
+use Rattle.owners.specs.declared.Entry.{Entry}
+use Rattle.owners.specs.declared.OwnerTable.{OwnerTable}
+use Rattle.owners.specs.declared.Parts.{Parts}
+
+abbrev pub entryOf : Owner → Entry
+entryOf owner = record { owner = owner }
+
+-- the owner of each number, by the map
+unfoldable pub tableOf : Map → OwnerTable
+tableOf map = record { entries = mapped (λ number. entryOf (owner (says map) number)) (numbersBelow 320) }
+
+-- beside a refusal: nobody owns a number
+unfoldable pub emptyTable : OwnerTable
+emptyTable = record { entries = replicate 320 (entryOf Nobody) }
+
+-- the owner that a table has for a number; past its end, nobody
+unfoldable pub ownerIn : OwnerTable → ℕ → Owner
+ownerIn table number = getD (table .entries) number (entryOf Nobody) .owner
+
+-- an owner is what it is, with the node and the input that it names
+unfoldable pub inParts : Owner → Parts
+inParts LpcInput = record { kind = 0; node = 0; input = 0 }
+inParts (LioInput i) = record { kind = 1; node = 0; input = i }
+inParts (BioInput node v) = record { kind = 2; node = node; input = v }
+inParts Nobody = record { kind = 3; node = 0; input = 0 }
+
+-- two owners are the same
+unfoldable pub sameOwner : Owner → Owner → Bool
+sameOwner one other =
+    let a = inParts one in
+    let b = inParts other in
+    eqb (a .kind) (b .kind) && eqb (a .node) (b .node) && eqb (a .input) (b .input)
+
+-- its content is "what that map fills in": each number has the owner that it has by the map
+unfoldable pub isFilled : Map → OwnerTable → Bool
+isFilled map table = every (λ number. sameOwner (ownerIn table number) (owner (says map) number)) (numbersBelow 320)
