@@ -16,7 +16,7 @@ from board import place_of_table, rebuilt, rsdp, structure, summed, table
 from printed import PRINTED, REAL
 
 # The kinds of question that crates/vectors/src/main.rt knows.
-CHECK, RSDP, REACH, SURVEY, READ, ROUTE, TRACE, READ_BYTES, ROUTE_EACH, ROUTE_SINGLY = range(10)
+CHECK, RSDP, REACH, SURVEY, READ, ROUTE, TRACE, READ_BYTES, ROUTE_EACH, ROUTE_SINGLY, LOOKUP, BY_MAP, CHANGED = range(13)
 # The readings that it asks: surveys and readings are the ordinary one's if not said, routes and traces the strict one's, by the C entries.
 ORDINARY, STRICT = range(2)
 LABEL = 64  # bytes of a label, at most
@@ -1235,13 +1235,17 @@ def three_each(numbers, told):
     return "".join(f" {part}" for number in numbers for part in told(number))
 
 
+def ask_numbers(kind, label, numbers, data, answer, first=0, strictness=STRICT):
+    ask(kind, label, b"".join(le(number, 4) for number in numbers) + data, answer, first, len(numbers), strictness)
+
+
 def at_once(label, data, numbers, answer, room, strictness=STRICT):
     """The answer is followed by the whole list, with a dash for each number that is as it was."""
-    ask(ROUTE_EACH, label, b"".join(le(number, 4) for number in numbers) + data, answer, room, len(numbers), strictness)
+    ask_numbers(ROUTE_EACH, label, numbers, data, answer, room, strictness)
 
 
 def singly(label, data, numbers, answer):
-    ask(ROUTE_SINGLY, label, b"".join(le(number, 4) for number in numbers) + data, answer, 0, len(numbers))
+    ask_numbers(ROUTE_SINGLY, label, numbers, data, answer)
 
 
 ALL = range(320)
@@ -1291,6 +1295,112 @@ for label, data in (("no LIO", made(C, eio(3, 0))), ("the SCI does not arrive", 
     at_once(f"61 before 62: {label}, 0 to 319, no list", data, ALL, refused(61, 0), 0)
 both(at_once, "at once: revision 5", revised(5, STRUCTURES_OF_A), [72], ordinary="answered 0 3 8", strict=refused(61, 0) + " - - -", room=3)
 
+# W-211: the owner table. Whose each global number is, on three boards; where it arrives is said above.
+
+
+def whose_on_a(number):
+    if number < 16:
+        return "lpc"
+    if number < 48:
+        return f"lio {number - 16}"
+    return f"bio 0 {number - 64}" if 64 <= number < 128 else "nobody"
+
+
+def whose_on_ht(number):
+    return "nobody" if number - 16 in NAMED else whose_on_a(number)
+
+
+# Board A with 32 inputs of its bridge, and a bridge of node 5 with 16 inputs, the numbers 310 to 325, behind an EIO of cascade 4.
+ACROSS = paired((0, 32), (5, 16), structures=[eio(4, 5), bio(5, 310)])
+
+
+def whose_across(number):
+    if 310 <= number < 326:
+        return f"bio 5 {number - 310}"
+    return "nobody" if 96 <= number < 128 else whose_on_a(number)
+
+
+def on_across(number):
+    if 310 <= number < 326:
+        return 0, 4, number - 310
+    return NO_OWNER if 96 <= number < 128 else on_a(number)
+
+
+def lookup(label, filler, data, numbers, answer, strictness=STRICT):
+    """The table of one capture's map, and the numbers looked up with it and another's map."""
+    ask_numbers(LOOKUP, label, numbers, filler + data, answer, len(filler), strictness)
+
+
+def by_map(label, data, numbers, answer, strictness=STRICT):
+    ask_numbers(BY_MAP, label, numbers, data, answer, strictness=strictness)
+
+
+def with_changed(label, data, entries, number, answer):
+    """A number looked up once for each of some entries of the table, which is changed by one."""
+    ask_numbers(CHANGED, label, entries, data, answer, number)
+
+
+FILLED, NOT_KEPT, NOT_ITS_OWN = "filled", refused(61, 0), refused(63, 0)
+UP_TO_399, EDGES = range(400), [400, 1 << 16, 1 << 31, ONES]
+DISPLAYED = (("board A", A, whose_on_a, on_a), ("HT", OLD, whose_on_ht, on_ht), ("fewer pins", ACROSS, whose_across, on_across))
+for name, data, whose, where in DISPLAYED:
+    for span, numbers in (("0 to 399", UP_TO_399), ("400 and the edges", EDGES)):
+        told = "".join(f" {whose(number)}{three_each([number], where)}" for number in numbers)
+        lookup(f"lookup, {name}: {span}", data, data, numbers, FILLED + told)
+        lookup(f"lookup, {name}, the table rebuilt: {span}", rebuilt(data), data, numbers, FILLED + told)
+        by_map(f"by the map, {name}: {span}", data, numbers, "asked" + told)
+    for number in (0, 72, 319, 320, ONES):
+        with_changed(f"63: {name}, each entry changed, {number}", data, ALL, number, FILLED + 320 * f" {NOT_ITS_OWN}")
+    for other, table_of, *_ in DISPLAYED:
+        if other != name:
+            lookup(f"63: {name} with the table of {other}", table_of, data, [0, 72, 319, 320, ONES], FILLED + 5 * f" {NOT_ITS_OWN}")
+
+# 319 is the table's last: a bridge from 319 on is another table, one from 320 on is not.
+FROM_319, FROM_320 = plus(eio(4, 5), bio(5, 319)), plus(eio(4, 5), bio(5, 320))
+lookup("lookup: 319 and 320, a bridge from 310 on", ACROSS, ACROSS, [319, 320], "filled bio 5 9 0 4 9 bio 5 10 0 4 10")
+lookup("lookup: 319 and 320, a bridge from 319 on", FROM_319, FROM_319, [319, 320], "filled bio 5 0 0 4 0 bio 5 1 0 4 1")
+lookup("lookup: 319 and 320, a bridge from 320 on", FROM_320, FROM_320, [319, 320], "filled nobody 2 0 0 bio 5 0 0 4 0")
+lookup("63: one entry, 319, differs", A, FROM_319, [72, 319, 320], FILLED + 3 * f" {NOT_ITS_OWN}")
+lookup("63: one entry, 319, differs, the other way", FROM_319, A, [72, 319, 320], FILLED + 3 * f" {NOT_ITS_OWN}")
+lookup("lookup: a board that differs from 320 on has the same table", A, FROM_320, [72, 319, 320, 383, 384],
+       "filled bio 0 8 0 3 8 nobody 2 0 0 bio 5 0 0 4 0 bio 5 63 0 4 63 nobody 2 0 0")
+lookup("lookup: from 320 on, the other way", FROM_320, A, [72, 319, 320], "filled bio 0 8 0 3 8 nobody 2 0 0 nobody 2 0 0")
+
+# A table says whose a number is, and not where it arrives: boards may differ in that, and the answer is that of the map that is asked.
+LOW_ONLY = put(LIO, lio(2, 0, 0xFFFF, 0))
+lookup("lookup: the table of a board with EIO cascade 9", put(EIO, eio(9, 0)), A, [3, 72], "filled lpc 0 3 19 bio 0 8 0 3 8")
+lookup("lookup: EIO cascade 9 with the table of board A", A, put(EIO, eio(9, 0)), [3, 72], "filled lpc 0 9 19 bio 0 8 0 9 8")
+lookup("lookup: inputs 16 to 23 unwired, the table of board A", A, LOW_ONLY, [31, 32, 33], "filled lio 15 0 2 15 lio 16 1 0 0 lio 17 1 0 0")
+lookup("lookup: board A with the table of that board", LOW_ONLY, A, [31, 32, 33], "filled lio 15 0 2 15 lio 16 0 2 16 lio 17 0 2 17")
+
+# One difference in owners each: the LPC, an input that the HT names, the hardware ID of a bridge, its base, its inputs.
+for label, filler, data in (
+    ("an LPC", NO_LPC, A), ("no LPC", A, NO_LPC), ("another named input", older(ht=naming(8, 7)), OLD),
+    ("the hardware ID alone", made(C, L, eio(3, 5), bio(5, 64)), made(C, L, eio(3, 0), bio(0, 64))),
+    ("the hardware ID alone, the other way", made(C, L, eio(3, 0), bio(0, 64)), made(C, L, eio(3, 5), bio(5, 64))),
+    ("the base by one", put(BIO, bio(0, 65)), A), ("an input fewer", paired((0, 63)), A), ("an input more", A, paired((0, 63))),
+):
+    lookup(f"63: {label}", filler, data, [72, 400], FILLED + 2 * f" {NOT_ITS_OWN}")
+lookup("lookup: no LPC", NO_LPC, NO_LPC, [0, 15, 83], "filled nobody 2 0 0 nobody 2 0 0 bio 0 19 0 3 19")
+lookup("lookup: the bridge of node 5", made(C, L, eio(3, 5), bio(5, 64)), made(C, L, eio(3, 5), bio(5, 64)), [64, 127], "filled bio 5 0 0 3 0 bio 5 63 0 3 63")
+lookup("lookup: the last global number", LAST_BASE, LAST_BASE, [64, 65471, 65472, 65535, 65536],
+       "filled nobody 2 0 0 nobody 2 0 0 bio 0 0 0 3 0 bio 0 63 0 3 63 nobody 2 0 0")
+lookup("lookup: no numbers", A, A, [], FILLED)
+with_changed("lookup: no entry changed", A, [], 72, FILLED)
+
+# 61 before 63, whatever the table is. What comes with a refused capture is the empty map, which breaks 40; nobody owns a number in its table.
+for label, data in (("no LIO", made(C, eio(3, 0))), ("the SCI does not arrive", put(MSI, msi(64, 192), 60)), ("no capture", b"")):
+    lookup(f"61 before 63: {label}, the table of board A", A, data, [0, 72, 320], FILLED + 3 * f" {NOT_KEPT}")
+    lookup(f"61: {label}, its own table", data, data, [0, 72, 320], NOT_KEPT + 3 * f" {NOT_KEPT}")
+    lookup(f"63: {label}, its table with board A's map", data, A, [0, 72, 320], NOT_KEPT + 3 * f" {NOT_ITS_OWN}")
+    lookup(f"61: {label}, no numbers", data, data, [], NOT_KEPT)
+    by_map(f"61, by the map: {label}", data, [0, 72, 320], "asked" + 3 * f" {NOT_KEPT}")
+    with_changed(f"61: {label}, an entry changed", data, [0, 319], 72, NOT_KEPT + 2 * f" {NOT_KEPT}")
+NEWER = revised(5, STRUCTURES_OF_A)
+both(lookup, "lookup: revision 5", NEWER, NEWER, [72], ordinary="filled bio 0 8 0 3 8", strict=f"{NOT_KEPT} {NOT_KEPT}")
+both(lookup, "lookup: the table of revision 5", NEWER, A, [72], ordinary="filled bio 0 8 0 3 8", strict=f"{NOT_KEPT} {NOT_ITS_OWN}")
+both(lookup, "lookup: revision 5, the table of board A", A, NEWER, [72], ordinary="filled bio 0 8 0 3 8", strict=f"{FILLED} {NOT_KEPT}")
+both(by_map, "by the map: revision 5", NEWER, [72], ordinary="asked bio 0 8 0 3 8", strict=f"asked {NOT_KEPT}")
 
 # Board A's neighbours among document 01's twelve examples, which are proved from the boards' bytes.
 NEIGHBOURS = [("msiFrom63", "MSI start 63, count 193", put(MSI, msi(63, 193))), ("msiTo257", "MSI start 65, count 192", put(MSI, msi(65, 192))),

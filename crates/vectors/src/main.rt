@@ -5,9 +5,10 @@
 // capture's length (32 bits), two numbers of 64 bits that some kinds ask about, the label's length (32 bits), and the strictness
 // (32 bits), which some kinds ask with: 0 for the ordinary reading, 1 for the strict one.
 //
-// Where a list of numbers is asked about, they stand ahead of the capture, 32 bits each, and count in its length. The head's first number
-// says how long the answers' list is, its second one how many numbers are asked about. The map is the capture's, or the empty one, which
-// breaks 40, where the capture is refused.
+// Where a list of numbers is asked about, they stand ahead of the capture, 32 bits each, and count in its length. The head's second number
+// says how many they are. Its first one says how long the answers' list is (kind 8); or how many bytes of a first capture, whose map fills the owner
+// table, stand ahead of the one whose map is asked (10); or which number is looked up, with the entries of the listed numbers changed in its table, one at
+// a time (12). A map is the capture's, or the empty one, which breaks 40, where the capture is refused.
 use capture::Root;
 use libc::STDIN_FILENO;
 use libc::STDOUT_FILENO;
@@ -20,6 +21,8 @@ use tables::Survey;
 use tables::Tables;
 use words::Refusal;
 use words::Verdict;
+
+mod lookups; // the questions about the owner table
 
 const HEAD: usize = 96;
 
@@ -60,6 +63,12 @@ const READ_BYTES: u32 = 7;
 const ROUTE_EACH: u32 = 8;
 
 const ROUTE_SINGLY: u32 = 9;
+
+const LOOKUP: u32 = 10;
+
+const BY_MAP: u32 = 11;
+
+const CHANGED: u32 = 12;
 
 const MOST_NUMBERS: usize = 520;
 
@@ -289,13 +298,17 @@ fn take_numbers(bytes: &[u8], numbers: &mut [u32]) {
     }
 }
 
+fn map_of(strictness: Strictness, capture: &[u8]) -> Map {
+    let found = reading::scan_capture(strictness, capture);
+    found.map
+}
+
 // The map of the capture that stands behind some numbers.
 fn map_behind(strictness: Strictness, bytes: &[u8], numbers: &[u32]) -> Map {
-    let found = reading::scan_capture(
+    map_of(
         strictness,
         words::part(bytes, NUMBER * numbers.len(), bytes.len()),
-    );
-    found.map
+    )
 }
 
 // Every number of an answers' list, or a dash where it is as it was.
@@ -391,6 +404,13 @@ fn answer(head: &[u8], bytes: &[u8]) {
         ROUTE_SINGLY => answer_route_singly(
             strictness,
             bytes,
+            words::u32_at(head, SECOND) as usize,
+        ),
+        LOOKUP | BY_MAP | CHANGED => lookups::answer_lookups(
+            kind,
+            strictness,
+            bytes,
+            words::u32_at(head, FIRST),
             words::u32_at(head, SECOND) as usize,
         ),
         _ => say(b"no such question"),
