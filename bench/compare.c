@@ -13,8 +13,8 @@
  * folder PRINTED, each with the line that reference.c expects, and bench/run compares what ./map prints.
  *
  * All that is strict reading. Of Yasmirand's programs only `vectors` answers in the ordinary one (W-207), and it alone takes
- * lists of numbers (W-209). So questions about some captures are written to the folder ASKED, with the lines that reference.c
- * expects, and bench/run compares what `vectors` prints.
+ * lists of numbers (W-209) and tables of owners (W-211). So questions about some captures are written to the folder ASKED, with
+ * the lines that reference.c expects, and bench/run compares what `vectors` prints.
  *
  * Captures and lists end where the memory ends that may be touched, so that a byte too far stops the program.
  */
@@ -61,6 +61,9 @@ enum {
     ASKED_STRICTLY = 4,    /* one in so many is asked about in the strict reading too */
     ASKED_SAMPLE = 2,      /* questions of each sort about an accepted one */
     REFUSED_LISTS = 4,     /* all accepted ones are asked about with a list of numbers (W-209), and one refused one in so many */
+    REFUSED_OWNERS = 8,    /* the same for owners (W-211) */
+    OTHER_REFUSED = 4,     /* one other capture in so many, whose table is tried, is a refused one */
+    WHOLE_TABLES = 16,     /* one list in so many to be looked up has all numbers of a table */
 };
 
 /* ---- One case: how a capture is made, and what is known of it beforehand ---- */
@@ -757,21 +760,184 @@ static uint32_t make_list(struct random *random, const struct test *test, uint32
     return (uint32_t)count;
 }
 
-/* Writes a question about a list of numbers, and keeps the list: the label has no room for it. */
+/* Keeps what a label has no room for. */
+static void keep_beside_question(const struct test *test, enum reading reading, const char *ending, const void *bytes, size_t length)
+{
+    char path[4096];
+
+    snprintf(path, sizeof path, "%s/case-%" PRIu64 "-%s.%s", asked_folder, test->number, name_of_reading(reading), ending);
+    save_file(path, bytes, length);
+}
+
+/* Writes a question about a list of numbers, and keeps the list. */
 static void ask_vectors_list(struct random *random, const struct test *test, struct query about)
 {
     uint32_t numbers[EACH_MAX], count = make_list(random, test, numbers);
     size_t lent = random_list_length(random, 3 * count), answers = lent > ANSWERS_MAX ? ANSWERS_MAX : lent;
     struct list_query query = {about.reading, (uint32_t)answers, count, numbers, about.capture, about.length};
-    char label[64], answer[ANSWER_ROOM], path[4096];
+    char label[64], answer[ANSWER_ROOM];
 
     asked = reference_in(about.reading);
     asked_lists[answer_list_query(&query, answer)]++;
     snprintf(label, sizeof label, "case %" PRIu64 " routes of %" PRIu32 ", list of %zu", test->number, count, answers);
     write_list_question(label, &query, answer);
-    snprintf(path, sizeof path, "%s/case-%" PRIu64 "-%s.numbers", asked_folder, test->number, name_of_reading(about.reading));
-    save_file(path, numbers, 4 * count);
+    keep_beside_question(test, about.reading, "numbers", numbers, 4 * count);
 }
+
+/* ---- Owners (W-211) ---- */
+
+/* How often lookups are answered, by where the table is from, and how often they are refused, by number: questions. */
+static struct {
+    unsigned by_map, by_own_table, by_other_table;
+    unsigned refused[NUMBERS];
+} asked_owners;
+
+/* The last captures before that were asked about, one that the ordinary reading accepts and one that it refuses. */
+static struct kept {
+    uint64_t number; /* of the case */
+    size_t length;   /* 0: there was none */
+    uint8_t bytes[CAPTURE_ROOM];
+} last_accepted, last_refused;
+
+static void keep_capture(const struct test *test, struct kept *kept)
+{
+    kept->number = test->number;
+    kept->length = test->capture.length;
+    memcpy(kept->bytes, test->capture.bytes, kept->length);
+}
+
+/* Makes a list of numbers to look up: all that a table has, or some, many of which are at its end or above it. It has one at least. */
+static uint32_t make_looked_up(struct random *random, const struct board *board, uint32_t numbers[OWNERS])
+{
+    static const uint32_t edges[] = {OWNERS - 2, OWNERS - 1, OWNERS, OWNERS + 1, 255, 256, 65535, 65536, UINT32_C(1) << 31};
+    bool is_whole = one_in(random, WHOLE_TABLES);
+    uint32_t count = is_whole ? OWNERS : (uint32_t)between(random, 1, 16);
+
+    for (uint32_t i = 0; i < count; i++)
+        if (is_whole)
+            numbers[i] = i;
+        else if (one_in(random, 4))
+            numbers[i] = edges[below(random, sizeof edges / sizeof edges[0])];
+        else
+            numbers[i] = next_of_list(random, board, numbers, i);
+    return count;
+}
+
+/* Writes a question about owners, if `vectors` takes so many bytes. An answer is counted where the caller says. */
+static void ask_vectors_owner(const struct test *test, const struct owner_query *query, const char *how, unsigned *answered)
+{
+    char label[64], answer[ANSWER_ROOM];
+
+    if (query->count == 0 || !has_room_for_owner_question(query))
+        return;
+    asked = reference_in(query->reading);
+
+    unsigned refusal = answer_owner_query(query, answer);
+
+    ++*(refusal == 0 ? answered : &asked_owners.refused[refusal]);
+    snprintf(label, sizeof label, "case %" PRIu64 " owners of %" PRIu32 ", %s", test->number, query->count, how);
+    write_owner_question(label, query, answer);
+}
+
+/* A number is looked up with tables in which an entry is changed, one for each of the numbers that a table has. */
+static void ask_vectors_changed(const struct test *test, struct owner_query query, uint32_t number)
+{
+    uint32_t entries[OWNERS], count = 0;
+    char how[32];
+
+    for (uint32_t i = 0; i < query.count; i++)
+        if (query.numbers[i] < OWNERS)
+            entries[count++] = query.numbers[i];
+    query.question = CHANGED_ENTRIES;
+    query.number = number;
+    query.count = count;
+    query.numbers = entries;
+    snprintf(how, sizeof how, "changed, for %" PRIu32, number);
+    ask_vectors_owner(test, &query, how, &asked_owners.by_other_table);
+}
+
+/* Numbers are looked up by the map alone, with its own table, with another capture's, and with changed ones. */
+static void ask_vectors_owners(struct random *random, const struct test *test, struct query about)
+{
+    const struct kept *other = one_in(random, OTHER_REFUSED) ? &last_refused : &last_accepted;
+    uint32_t numbers[OWNERS], count = make_looked_up(random, &test->board, numbers);
+    struct bytes map = {about.capture, about.length};
+    struct owner_query by_map = {about.reading, BY_MAP_ALONE, 0, count, numbers, {NULL, 0}, map};
+    struct owner_query by_own = {about.reading, LOOK_UP, 0, count, numbers, map, map};
+    struct owner_query by_other = {about.reading, LOOK_UP, 0, count, numbers, {other->bytes, other->length}, map};
+    char how[32];
+
+    ask_vectors_owner(test, &by_map, "by the map", &asked_owners.by_map);
+    ask_vectors_owner(test, &by_own, "own table", &asked_owners.by_own_table);
+    snprintf(how, sizeof how, "table of case %" PRIu64, other->number);
+    if (other->length != 0)
+        ask_vectors_owner(test, &by_other, how, &asked_owners.by_other_table);
+    ask_vectors_changed(test, by_map, numbers[below(random, count)]);
+    keep_beside_question(test, about.reading, "owners", numbers, 4 * count);
+}
+
+/* Moves a bridge by one, or to the table's end, where it has both 319 and 320, or ends or begins beside the end. */
+static void move_bridge(struct random *random, struct board *board)
+{
+    uint8_t *bio = nth_of_kind(board, BIO, below(random, count_kind(board, BIO)));
+    uint16_t base = get_u16(bio + BIO_BASE), by_one = (uint16_t)(one_in(random, 2) ? base + 1 : base - 1);
+    uint16_t at_end = (uint16_t)(OWNERS - below(random, PINS + 1));
+
+    put_u16(bio + BIO_BASE, one_in(random, 3) ? by_one : at_end);
+}
+
+/* Has a line of the LIO, the LPC or the HT arrive elsewhere, or gives a bridge another number of pins; or the LPC is gone. */
+static void change_lines(struct random *random, struct board *board)
+{
+    size_t some_byte = below(random, 8); /* of the LIO's masks, or of the HT's bytes */
+
+    switch (below(random, 5)) {
+    case 0:
+        if (count_kind(board, LPC) != 0)
+            put_u16(nth_of_kind(board, LPC, 0) + LPC_CASCADE, (uint16_t)below(random, PINS));
+        break;
+    case 1:
+        remove_kind(board, LPC);
+        break;
+    case 2:
+        if (is_ht_board(board))
+            nth_of_kind(board, HT, 0)[HT_BYTES + some_byte] = some_input(random, named_inputs(board));
+        break;
+    case 3: /* where this makes 0 or 65 of it, the pair is empty or wrong */
+        board->pair[below(random, PAIRS)].number ^= 1;
+        break;
+    default:
+        if (count_kind(board, LIO) != 0)
+            nth_of_kind(board, LIO, 0)[LIO_MASKS + some_byte] ^= (uint8_t)(1 << below(random, 8));
+        break;
+    }
+}
+
+/* Lookups with the map of a board that is much like an accepted one, and with its own table, or that of the one it was made of. */
+static void ask_vectors_owners_alike(struct random *random, const struct test *test, struct query about)
+{
+    static struct board board;
+    static struct capture alike;
+
+    board = test->board;
+    if (count_kind(&board, BIO) != 0 && one_in(random, 2))
+        move_bridge(random, &board);
+    else
+        change_lines(random, &board);
+    lay_out(&board, &alike);
+
+    uint32_t numbers[OWNERS], count = make_looked_up(random, &board, numbers);
+    struct bytes map = {alike.bytes, alike.length}, first = {about.capture, about.length};
+    struct owner_query by_own = {about.reading, LOOK_UP, 0, count, numbers, map, map};
+    struct owner_query by_first = {about.reading, LOOK_UP, 0, count, numbers, first, map};
+
+    ask_vectors_owner(test, &by_own, "alike, own table", &asked_owners.by_own_table);
+    ask_vectors_owner(test, &by_first, "alike, table of the first", &asked_owners.by_other_table);
+    keep_beside_question(test, about.reading, "alike.owners", numbers, 4 * count);
+    keep_beside_question(test, about.reading, "alike.cap", alike.bytes, alike.length);
+}
+
+/* ---- Which captures `vectors` is asked about ---- */
 
 /* The generator is handed over as a copy: where the readings agree, both are asked the same. */
 static void ask_vectors_all(struct random random, const struct test *test, const uint8_t *capture, enum reading reading)
@@ -785,6 +951,10 @@ static void ask_vectors_all(struct random random, const struct test *test, const
         ask_vectors_again(&random, test, about);
     if (refusal_number(result) == 0 || one_in(&random, REFUSED_LISTS))
         ask_vectors_list(&random, test, about);
+    if (refusal_number(result) == 0 || one_in(&random, REFUSED_OWNERS))
+        ask_vectors_owners(&random, test, about);
+    if (refusal_number(result) == 0)
+        ask_vectors_owners_alike(&random, test, about);
 }
 
 static unsigned asked_other[NUMBERS], asked_one[NUMBERS]; /* captures of other revisions and of revision 1, by refusal number */
@@ -812,6 +982,7 @@ static void keep_for_vectors(struct random *random, const struct test *test, con
     ask_vectors_all(*random, test, capture, ORDINARY);
     if (one_in(random, ASKED_STRICTLY))
         ask_vectors_all(*random, test, capture, STRICT);
+    keep_capture(test, refusal == ACCEPTED ? &last_accepted : &last_refused);
     snprintf(path, sizeof path, "%s/case-%" PRIu64 ".cap", asked_folder, test->number);
     save_file(path, test->capture.bytes, test->capture.length);
 }
@@ -919,6 +1090,21 @@ static bool lists_suffice(void)
     return suffice;
 }
 
+/* Whether lookups are answered often enough in each way, and refused with each number. */
+static bool owners_suffice(void)
+{
+    unsigned broken = asked_owners.refused[BROKEN_MAP], other_table = asked_owners.refused[OTHER_TABLE];
+    bool answered = asked_owners.by_map >= LEAST_HITS && asked_owners.by_own_table >= LEAST_HITS &&
+                    asked_owners.by_other_table >= LEAST_HITS;
+    bool suffice = answered && broken >= LEAST_HITS && other_table >= LEAST_HITS;
+
+    printf("owners: answered %u by the map, %u with its own table, %u with another capture's\nrefused%4u: %4u%4u: %4u\n",
+           asked_owners.by_map, asked_owners.by_own_table, asked_owners.by_other_table, BROKEN_MAP, broken, OTHER_TABLE, other_table);
+    if (!suffice)
+        printf("compare: owners were not answered in each way and refused with 61 and 63 %u times each\n", LEAST_HITS);
+    return suffice;
+}
+
 static void check_examples(const struct reader *reader, const char *boards)
 {
     struct tally tally = ask_examples(reader, boards);
@@ -972,10 +1158,11 @@ int main(int argc, char **argv)
     bool strict_suffices = hits_suffice(STRICT, &hits[STRICT]);
     bool ordinary_suffices = hits_suffice(ORDINARY, &hits[ORDINARY]);
     bool enough_lists = lists_suffice();
+    bool enough_owners = owners_suffice();
 
     if (differences != 0)
         printf("compare: %u differences\n", differences);
-    if (differences != 0 || !strict_suffices || !ordinary_suffices || !enough_lists)
+    if (differences != 0 || !strict_suffices || !ordinary_suffices || !enough_lists || !enough_owners)
         return 1;
     printf("compare: %" PRIu64 " captures, every refusal at least %d times in both readings, no difference\n", count,
            LEAST_HITS);

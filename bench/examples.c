@@ -23,6 +23,7 @@
 #include "files.h"
 #include "ht.h"
 #include "lists.h"
+#include "owners.h"
 #include "pins.h"
 #include "questions.h"
 #include "readings.h"
@@ -99,7 +100,7 @@ static void ask_example(struct tally *tally, const struct reader *reader, const 
         expect(tally, reader, reader->trace(a->bytes, a->length, example->first, example->second), example->answer, tell_trace,
                "%s, trace (%" PRIu32 ", %" PRIu32 ")", example->what, example->first, example->second);
         break;
-    case ROUTE_EACH: /* lists.c has them */
+    case ROUTE_EACH: case LOOK_UP: case BY_MAP_ALONE: case CHANGED_ENTRIES: /* lists.c and owners.c have them */
         break;
     }
 }
@@ -1157,6 +1158,7 @@ void ask_vectors_examples(const char *boards)
     ask_vectors_ht_answers(boards);
     ask_vectors_reading_examples(boards);
     ask_vectors_list_examples(boards);
+    ask_vectors_owner_examples(boards);
     ask_vectors_real_captures(boards);
 }
 
@@ -1170,6 +1172,7 @@ struct tally ask_examples(const struct reader *reader, const char *boards)
     ask_pin_answers(&tally, reader, boards);
     ask_bridge_answers(&tally, reader, boards);
     ask_ht_answers(&tally, reader, boards);
+    ask_owner_examples(&tally, reader, boards);
     ask_reading_examples(&tally, reader, boards);
     ask_real_captures(&tally, reader, boards);
     return tally;

@@ -1,5 +1,5 @@
 /*
- * The cases that document 01 writes down, cases of requests W-201, W-202, W-203, W-205, W-206, W-207, W-208 and W-212 of
+ * The cases that document 01 writes down, cases of requests W-201, W-202, W-203, W-205, W-206, W-207, W-208, W-211 and W-212 of
  * document 02, and the captures of boards/ with their printed maps: asked of one reader.
  */
 #ifndef EXAMPLES_H

@@ -5,7 +5,6 @@
 
 #include <assert.h>
 #include <inttypes.h>
-#include <stdbool.h>
 #include <stdio.h>
 #include <stdlib.h>
 #include <string.h>
@@ -67,7 +66,7 @@ void close_questions(void)
 
 /* ---- Questions ---- */
 
-/* A question is a head of 96 bytes and the capture, before which the numbers of a list stand. Where the head's fields stand: */
+/* A question is a head of 96 bytes and the capture or two, before which the numbers of a list stand. Where the head's fields stand: */
 enum {
     HEAD_LENGTH = 96,
     HEAD_LABEL = 0, /* padded with zeros */
@@ -100,16 +99,47 @@ void write_question(const char *label, const struct query *query, const char *an
     fprintf(file->lines, "%s: %s\n", label, answer);
 }
 
+/* Writes numbers, 32 bits each; gives how many bytes they take. */
+static size_t put_numbers(uint8_t *bytes, const uint32_t *numbers, uint32_t count)
+{
+    for (size_t i = 0; i < count; i++)
+        put_u32(bytes + 4 * i, numbers[i]);
+    return 4 * (size_t)count;
+}
+
 void write_list_question(const char *label, const struct list_query *query, const char *answer)
 {
     static uint8_t bytes[ASKED_BYTES_MAX];
-    size_t list_length = 4 * (size_t)query->count, length = list_length + query->length;
 
-    assert(query->answers <= ANSWERS_MAX && query->count <= EACH_MAX && length <= ASKED_BYTES_MAX);
-    for (size_t i = 0; i < query->count; i++)
-        put_u32(bytes + 4 * i, query->numbers[i]);
+    assert(query->answers <= ANSWERS_MAX && query->count <= EACH_MAX && 4 * query->count + query->length <= ASKED_BYTES_MAX);
+
+    size_t list_length = put_numbers(bytes, query->numbers, query->count), length = list_length + query->length;
+
     memcpy(bytes + list_length, query->capture, query->length);
     write_question(label, &(struct query){query->reading, ROUTE_EACH, query->answers, query->count, bytes, length}, answer);
+}
+
+bool has_room_for_owner_question(const struct owner_query *query)
+{
+    return 4 * (size_t)query->count + query->table.length + query->map.length <= ASKED_BYTES_MAX;
+}
+
+/* The head's first number tells where the first of two captures ends, or which number is looked up with changed tables. */
+void write_owner_question(const char *label, const struct owner_query *query, const char *answer)
+{
+    static uint8_t bytes[ASKED_BYTES_MAX];
+    uint32_t first = query->question == LOOK_UP ? (uint32_t)query->table.length : query->number;
+
+    assert(query->count <= LOOKED_UP_MAX && has_room_for_owner_question(query));
+
+    size_t length = put_numbers(bytes, query->numbers, query->count);
+
+    if (query->question == LOOK_UP)
+        memcpy(bytes + length, query->table.bytes, query->table.length);
+    length += query->table.length;
+    memcpy(bytes + length, query->map.bytes, query->map.length);
+    length += query->map.length;
+    write_question(label, &(struct query){query->reading, query->question, first, query->count, bytes, length}, answer);
 }
 
 /* ---- Answers ---- */
@@ -173,5 +203,60 @@ unsigned answer_list_query(const struct list_query *query, char answer[ANSWER_RO
     }
     for (uint32_t i = TRIPLE * answered; i < query->answers; i++)
         length += snprintf(answer + length, ANSWER_ROOM - (size_t)length, " -");
+    return refusal;
+}
+
+/* What `vectors` makes of an entry that it changes. */
+static void change_owner(struct reference_owner *owner)
+{
+    switch (owner->kind) {
+    case OWNED_BY_LPC:
+        owner->kind = OWNED_BY_NOBODY;
+        break;
+    case OWNED_BY_NOBODY:
+        owner->kind = OWNED_BY_LPC;
+        break;
+    default: /* another input */
+        owner->input ^= 1;
+        break;
+    }
+}
+
+/* The lookup of a place in the question's list, with the table that was filled in. */
+static uint64_t look_up(const struct owner_query *query, const struct reference_owners *filled, uint32_t place,
+                        struct reference_owner *owner)
+{
+    uint32_t listed = query->numbers[place];
+    bool is_changed = query->question == CHANGED_ENTRIES;
+    struct reference_owners table = *filled;
+
+    if (is_changed)
+        change_owner(&table.of[listed]);
+    return reference_look_up(query->map.bytes, query->map.length, query->reading,
+                             query->question == BY_MAP_ALONE ? NULL : &table, is_changed ? query->number : listed, owner);
+}
+
+/* What the filling gave, or "asked" without a table, and then of each lookup the refusal, or the owner and the answer. */
+unsigned answer_owner_query(const struct owner_query *query, char answer[ANSWER_ROOM])
+{
+    const struct bytes *filling_capture = query->question == LOOK_UP ? &query->table : &query->map;
+    struct reference_owners filled;
+    uint64_t filling = reference_fill(filling_capture->bytes, filling_capture->length, query->reading, &filled);
+    struct text said = filling == 0 ? (struct text){"filled"} : print_answer(filling);
+    int length = snprintf(answer, ANSWER_ROOM, "%s", query->question == BY_MAP_ALONE ? "asked" : said.words);
+    unsigned refusal = 0;
+
+    for (uint32_t i = 0; i < query->count; i++) {
+        struct reference_owner owner;
+        uint64_t result = look_up(query, &filled, i, &owner);
+        struct text answered = print_answer(result);
+
+        refusal = refusal_number(result);
+        if (refusal != 0)
+            length += snprintf(answer + length, ANSWER_ROOM - (size_t)length, " %s", answered.words);
+        else
+            length += snprintf(answer + length, ANSWER_ROOM - (size_t)length, " %s%s", print_owner(owner).words,
+                               answered.words + strlen("kind"));
+    }
     return refusal;
 }

@@ -153,6 +153,24 @@ struct text print_answer(uint64_t result)
     return text;
 }
 
+struct text print_owner(struct reference_owner owner)
+{
+    struct text text;
+
+    switch (owner.kind) {
+    case OWNED_BY_LPC:
+        return (struct text){"lpc"};
+    case OWNED_BY_LIO:
+        snprintf(text.words, sizeof text.words, "lio %" PRIu32, owner.input);
+        return text;
+    case OWNED_BY_BIO:
+        snprintf(text.words, sizeof text.words, "bio %u %" PRIu32, owner.hardware_id, owner.input);
+        return text;
+    default:
+        return (struct text){"nobody"};
+    }
+}
+
 struct text tell_read(uint64_t result)
 {
     struct text text;

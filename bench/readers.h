@@ -71,6 +71,9 @@ struct text tell_trace(uint64_t result);
 /* A result of `route` or `trace` as the program `vectors` prints it: "kind 0 3 8", or "refused 29 at 118". */
 struct text print_answer(uint64_t result);
 
+/* An owner as `vectors` prints it: "lpc", "lio 10", "bio 0 8", or "nobody". */
+struct text print_owner(struct reference_owner owner);
+
 /* A refusal as ./map prints it: "refused 52 at 262 with 243", or "refused 75 at 243" where the second place is 0. */
 struct text tell_refusal(struct reference_refusal refusal);
 

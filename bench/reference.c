@@ -1,6 +1,6 @@
 /*
- * The reference: document 01 and requests W-201, W-202, W-203, W-206, W-207, W-208 and W-212 of document 02 written down in
- * plain C, from the documents alone, without a look at the proved reader, so that an error would have to be made twice to go
+ * The reference: document 01 and requests W-201, W-202, W-203, W-206, W-207, W-208, W-211 and W-212 of document 02 written down
+ * in plain C, from the documents alone, without a look at the proved reader, so that an error would have to be made twice to go
  * unseen.
  *
  * Titles in quotation marks are sections of document 01; the numbers given to refuse() are those of its table
@@ -743,24 +743,47 @@ static uint64_t route_lio_input(const struct board *board, uint32_t input)
 {
     const struct half *half = half_of_input(&board->lio, input);
 
-    if (is_named_by_ht(board, input))
-        return NO_OWNER;
     return half == NULL ? UNWIRED : arrives(half->cascade, input);
 }
 
-static uint64_t route(const struct board *board, uint32_t number)
+static const struct reference_owner NOBODY = {OWNED_BY_NOBODY, 0, 0};
+
+/* Whose a number is. A LIO input that is not wired owns its number too; a BIO owns as many as it has inputs (W-212). */
+static struct reference_owner owner_of(const struct board *board, uint32_t number)
 {
+    uint32_t lio_input = number - LIO_FIRST; /* if it is one */
+
     if (number < LPC_INPUTS)
-        return board->lpcs == 0 ? NO_OWNER : route_pin(board, board->lpc.node, board->lpc.cascade);
+        return board->lpcs == 0 ? NOBODY : (struct reference_owner){OWNED_BY_LPC, 0, 0};
     if (number < LIO_FIRST + LIO_INPUTS)
-        return route_lio_input(board, number - LIO_FIRST);
+        return is_named_by_ht(board, lio_input) ? NOBODY : (struct reference_owner){OWNED_BY_LIO, lio_input, 0};
     for (size_t i = 0; i < board->bios; i++) {
         const struct bio *bio = &board->bio[i];
 
         if (number >= bio->base && number - bio->base < bio->pins)
-            return route_pin(board, bio->node, number - bio->base);
+            return (struct reference_owner){OWNED_BY_BIO, number - bio->base, bio->node};
     }
-    return NO_OWNER;
+    return NOBODY;
+}
+
+/* The answer to a global number follows from its owner. */
+static uint64_t route_owner(const struct board *board, struct reference_owner owner)
+{
+    switch (owner.kind) {
+    case OWNED_BY_LPC:
+        return route_pin(board, board->lpc.node, board->lpc.cascade);
+    case OWNED_BY_LIO:
+        return route_lio_input(board, owner.input);
+    case OWNED_BY_BIO:
+        return route_pin(board, owner.hardware_id, owner.input);
+    default:
+        return NO_OWNER;
+    }
+}
+
+static uint64_t route(const struct board *board, uint32_t number)
+{
+    return route_owner(board, owner_of(board, number));
 }
 
 /*
@@ -811,7 +834,7 @@ static uint64_t trace(const struct board *board, uint32_t asked, uint32_t number
 
     if (vector != asked) /* no cascade is so high */
         return NOTHING;
-    if (number < LIO_INPUTS && route_lio_input(board, number) == arrives(vector, number))
+    if (number < LIO_INPUTS && route(board, LIO_FIRST + number) == arrives(vector, number))
         return traced(LIO_INPUT, 0, LIO_FIRST + number);
     return board->hts != 0 ? trace_ht(board, vector, number) : trace_eio(board, vector, number);
 }
@@ -1083,4 +1106,43 @@ uint64_t reference_ordinary_trace(const uint8_t *capture, size_t capture_len, ui
 struct reference_refusal reference_ordinary_judge(const uint8_t *capture, size_t capture_len)
 {
     return judge(capture, capture_len, ORDINARY);
+}
+
+/* ---- W-211: tables of owners ---- */
+
+static bool is_same_owner(struct reference_owner a, struct reference_owner b)
+{
+    return a.kind == b.kind && a.input == b.input && a.hardware_id == b.hardware_id;
+}
+
+/* Rule 63: the content of all entries counts, whichever number is looked up, and nothing else of the map that filled them in. */
+static bool is_filled_from(const struct board *board, const struct reference_owners *table)
+{
+    for (uint32_t number = 0; number < OWNERS; number++)
+        if (!is_same_owner(table->of[number], owner_of(board, number)))
+            return false;
+    return true;
+}
+
+uint64_t reference_fill(const uint8_t *capture, size_t capture_len, enum reading reading, struct reference_owners *table)
+{
+    struct board board;
+    bool is_refused = read_board(capture, capture_len, &board, reading) != 0;
+
+    for (uint32_t number = 0; number < OWNERS; number++)
+        table->of[number] = is_refused ? NOBODY : owner_of(&board, number);
+    return is_refused ? refuse(61, 0) : 0;
+}
+
+uint64_t reference_look_up(const uint8_t *capture, size_t capture_len, enum reading reading, const struct reference_owners *table,
+                           uint32_t number, struct reference_owner *owner)
+{
+    struct board board;
+
+    if (read_board(capture, capture_len, &board, reading) != 0)
+        return refuse(61, 0);
+    if (table != NULL && !is_filled_from(&board, table))
+        return refuse(63, 0);
+    *owner = table != NULL && number < OWNERS ? table->of[number] : owner_of(&board, number);
+    return route_owner(&board, *owner);
 }

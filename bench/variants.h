@@ -1,6 +1,6 @@
 /*
  * Boards that are made of board A by giving it other structures, another SCI and pairs, and questions about them with the
- * answers that the documents fix. pins.c, bridges.c, ht.c and lists.c write such boards down.
+ * answers that the documents fix. pins.c, bridges.c, ht.c, lists.c and owners.c write such boards down.
  */
 #ifndef VARIANTS_H
 #define VARIANTS_H
