@@ -2,7 +2,7 @@
 use mathlib.Core.Path.{refl}
 use Rattle.words.specs.Choice.{if}
 use Rattle.words.specs.Refusals.{unless, firstRefusal, isSound}
-use Rattle.words.specs.Lists.{first, every, inEach}
+use Rattle.words.specs.Lists.{first, every, inEach, numbersFrom, numbersBelow}
 use Rattle.words.specs.Rooms.{written}
 use Rattle.kinds.specs.Ranges.{lioField, htField, eioField, msiField, bioField, lpcField}
 use Rattle.kinds.specs.Used.{usedHalf, saidLio, saidHt, saidLpc}
@@ -19,11 +19,13 @@ use Rattle.lines.specs.Routes.{lioArrival, through, bioOwner, owner, arrivalOf,
 use Rattle.lines.specs.Rules.{eiosFit, biosFit, msisFit, rangesKept, noBridge, noInput, lost, rulesTo45, rulesFrom51, mapRules, firstBroken, keepsRules}
 use Rattle.lines.specs.Traces.{slotTold, isLpcPin, pinTold, landed, comesBy, hubTraced, ledByLio, traced}
 use Rattle.lines.specs.declared.Map.{Map}
-use Rattle.map_promises.specs.Examples.{Question, Told, told, brokenAlone, fewerPins, rightBridge, manyAtOnce, onTheHt, unusedPlaces, firstNamed, MapExamples}
+use Rattle.owners.specs.Table.{tableOf, emptyTable, ownerIn, inParts, sameOwner, isFilled}
+use Rattle.owners.specs.Lookups.{fillingOf, lookupRules, ownerBy, lookupOf}
+use Rattle.map_promises.specs.Examples.{Question, Told, told, brokenAlone, fewerPins, rightBridge, manyAtOnce, besideTheMap, onTheHt, unusedPlaces, firstNamed, MapExamples}
 
 -- what is told, with all that it is computed by
 unfoldable computed : Map → Question → Told
-unfolding if first every inEach written fold lioField htField eioField msiField bioField lpcField usedHalf saidLio saidHt saidLpc clash sooner nearer partner better firstClash lonelier firstLone hasBit coreVector isNamed namesUnwired hasPin inNumbers routeOf traceOf tripleOf triplesOf atOnceRules atOnce answersAfter placed claims hubsOf nodesOf lioArrival through bioOwner owner arrivalOf arrival atLater atBoth spotted eiosFit biosFit msisFit rangesKept noBridge noInput lost rulesTo45 rulesFrom51 mapRules firstBroken unless firstRefusal isSound keepsRules slotTold isLpcPin pinTold landed comesBy hubTraced ledByLio traced told
+unfolding if first every inEach numbersFrom numbersBelow written fold lioField htField eioField msiField bioField lpcField usedHalf saidLio saidHt saidLpc clash sooner nearer partner better firstClash lonelier firstLone hasBit coreVector isNamed namesUnwired hasPin inNumbers routeOf traceOf tripleOf triplesOf atOnceRules atOnce answersAfter placed claims hubsOf nodesOf lioArrival through bioOwner owner arrivalOf arrival atLater atBoth spotted eiosFit biosFit msisFit rangesKept noBridge noInput lost rulesTo45 rulesFrom51 mapRules firstBroken unless firstRefusal isSound keepsRules slotTold isLpcPin pinTold landed comesBy hubTraced ledByLio traced tableOf emptyTable ownerIn inParts sameOwner isFilled fillingOf lookupRules ownerBy lookupOf told
 computed map question = told map question
 
 -- THE PROMISES
@@ -42,6 +44,10 @@ right-bridge = refl
 pub many-at-once : MapExamples manyAtOnce
 unfolding computed manyAtOnce
 many-at-once = refl
+
+pub beside-the-map : MapExamples besideTheMap
+unfolding computed besideTheMap
+beside-the-map = refl
 
 pub on-the-ht : MapExamples onTheHt
 unfolding computed onTheHt

@@ -21,6 +21,7 @@ pub mod Places
 pub mod RefusedExactly
 pub mod TwoRules
 pub mod AtOnce
+pub mod Owners
 pub mod CodesApart
 pub mod AnswersFit
 pub mod Examples

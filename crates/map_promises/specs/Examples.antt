@@ -1,11 +1,11 @@
 -- "any map may be asked about": maps that no capture gives. Each rule of 61 is broken alone, counts go past the arrays, and
--- unused places hold garbage; what a board with an HT answers; what numbers get that are asked at once; and of a clash the earliest partner is told. All of it is computed by the definitions that the
+-- unused places hold garbage; what a board with an HT answers; what numbers get that are asked at once, and with an owner table; and of a clash the earliest partner is told. All of it is computed by the definitions that the
 -- contracts cite.
 use Prim.Native.Nat.{ℕ}
 use mathlib.Core.Bool.{true, false}
 use mathlib.Core.List.{List, [], _∷_, _++_, map}
 use mathlib.Core.Path.{_≡_}
-use lib.ListN.{length, take, replicate}
+use lib.ListN.{length, take, set, replicate}
 use Rattle.words.specs.Refusals.{refused, refusedWith}
 use Rattle.words.specs.declared.Verdict.{Verdict}
 use Rattle.words.specs.declared.Verdict.the-variants as verdicts
@@ -20,11 +20,19 @@ use Rattle.lines.specs.Rules.{firstBroken}
 use Rattle.lines.specs.Answers.{routeOf, traceOf, badMap}
 use Rattle.lines.specs.AtOnce.{atOnce, answersAfter}
 use Rattle.lines.specs.declared.Map.{Map}
+use Rattle.lines.specs.declared.Owner.{Owner}
+use Rattle.lines.specs.declared.Owner.the-variants.{LpcInput as OwnedByLpc, LioInput as OwnedByLio, BioInput as OwnedByBio, Nobody}
 use Rattle.lines.specs.declared.Places.{Places}
 use Rattle.lines.specs.declared.Route.{Route}
 use Rattle.lines.specs.declared.Route.the-variants.{Arrives, Unwired, NoOwner, Refused}
 use Rattle.lines.specs.declared.Trace.{Trace}
 use Rattle.lines.specs.declared.Trace.the-variants.{Nothing, LioInput, BioInput, LpcCascade, MsiSlot, Refused as NoTrace}
+use Rattle.owners.specs.Table.{entryOf, tableOf, emptyTable}
+use Rattle.owners.specs.Lookups.{fillingOf, lookupOf}
+use Rattle.owners.specs.declared.OwnerTable.{OwnerTable}
+use Rattle.owners.specs.declared.Filling.{Filling}
+use Rattle.owners.specs.declared.Lookup.{Lookup}
+use Rattle.owners.specs.declared.Lookup.the-variants as lookups
 
 -- ---- structures
 -- a LIO by its low and its high half, each by cascade and mask
@@ -182,24 +190,30 @@ at lio eio msi bio =
     }
 
 -- where a number arrives; where each of some numbers does, with a list for the answers; what arrives at a vector with a number; the first
--- broken rule, with the MADT at 118 and the FADT at 400
+-- broken rule, with the MADT at 118 and the FADT at 400; what comes of filling an owner table; whose a number is, with an owner table
 pub data Question : Type 0 where
   number : ℕ → Question
   numbers : List ℕ → List ℕ → Question
   arrival : ℕ → ℕ → Question
   rules : Places → Question
+  table : Question
+  beside : OwnerTable → ℕ → Question
 
 pub data Told : Type 0 where
   routed : Route → Told
   listed : Verdict → List ℕ → Told
   traced : Trace → Told
   judged : Verdict → Told
+  filled : Filling → Told
+  whose : Lookup → Told
 
 unfoldable pub told : Map → Question → Told
 told map (number n) = routed (routeOf map n)
 told map (numbers ns answers) = listed (atOnce map ns answers) (answersAfter map ns answers)
 told map (arrival vector n) = traced (traceOf map vector n)
 told map (rules places) = judged (firstBroken map places 118 400)
+told map table = filled (fillingOf map)
+told map (beside owners n) = whose (lookupOf map owners n)
 
 pub data Example : Type 0 where
   example : Map → Question → Told → Example
@@ -329,6 +343,54 @@ manyAtOnce =
     ∷ example (withSci 45) (numbers (72 ∷ []) (7 ∷ 7 ∷ [])) (listed (verdicts.Refused badMap) (7 ∷ 7 ∷ []))
     ∷ example (counting 5 4 4) (numbers (72 ∷ []) (7 ∷ 7 ∷ 7 ∷ [])) (listed (verdicts.Refused badMap) (7 ∷ 7 ∷ 7 ∷ []))
     ∷ example (withSci 45) (numbers [] []) (listed (verdicts.Refused badMap) [])
+    ∷ []
+
+-- ---- "Keep, beside the map, a table of owners for the numbers 0 to 319" (W-211 of document 02)
+-- board A with a bridge of node 5 behind, from a number on
+abbrev pub bridgeFrom : ℕ → Map
+bridgeFrom base = onTwo (bios (bio 0 64 ∷ bio 5 base ∷ [])) msisA
+
+-- board A's table with the owner of one number changed
+abbrev pub changed : ℕ → Owner → OwnerTable
+changed n owner = record { entries = set (tableOf (withSci 75) .entries) n (entryOf owner) }
+
+abbrev pub looked : Map → OwnerTable → ℕ → Owner → Route → Example
+looked map owners n owner route = example map (beside owners n) (whose (lookups.Told owner route))
+
+abbrev pub turned : Map → OwnerTable → ℕ → ℕ → Example
+turned map owners n refusal = example map (beside owners n) (whose (lookups.Refused (refused refusal 0)))
+
+unfoldable pub besideTheMap : List Example
+besideTheMap =
+    looked (withSci 75) (tableOf (withSci 75)) 0 OwnedByLpc (Arrives 3 19)
+    ∷ looked (withSci 75) (tableOf (withSci 75)) 15 OwnedByLpc (Arrives 3 19)
+    ∷ looked (withSci 75) (tableOf (withSci 75)) 26 (OwnedByLio 10) (Arrives 2 10)
+    ∷ looked (withSci 75) (tableOf (withSci 75)) 44 (OwnedByLio 28) Unwired
+    ∷ looked (withSci 75) (tableOf (withSci 75)) 60 Nobody NoOwner
+    ∷ looked (withSci 75) (tableOf (withSci 75)) 83 (OwnedByBio 0 19) (Arrives 3 19)
+    ∷ looked (withSci 75) (tableOf (withSci 75)) 0xFFFFFFFF Nobody NoOwner
+    -- an input that the HT names has no owner
+    ∷ looked htA (tableOf htA) 17 Nobody NoOwner
+    ∷ looked htA (tableOf htA) 72 (OwnedByBio 0 8) (Arrives 3 264)
+    -- 319 is the table's last
+    ∷ looked (bridgeFrom 300) (tableOf (bridgeFrom 300)) 319 (OwnedByBio 5 19) (Arrives 4 19)
+    ∷ looked (bridgeFrom 300) (tableOf (bridgeFrom 300)) 320 (OwnedByBio 5 20) (Arrives 4 20)
+    ∷ looked (bridgeFrom 320) (tableOf (withSci 75)) 320 (OwnedByBio 5 0) (Arrives 4 0)
+    ∷ turned (bridgeFrom 319) (tableOf (withSci 75)) 0 63
+    -- a table says whose a number is, and the map where it arrives
+    ∷ looked (withEios (eios (eio 9 0 ∷ []))) (tableOf (withSci 75)) 72 (OwnedByBio 0 8) (Arrives 9 8)
+    -- one entry that differs is enough: in its kind, its input, its hardware ID; asked or not, above the table too
+    ∷ turned (withSci 75) (changed 0 Nobody) 0 63
+    ∷ turned (withSci 75) (changed 319 OwnedByLpc) 72 63
+    ∷ turned (withSci 75) (changed 26 (OwnedByLio 11)) 400 63
+    ∷ turned (withSci 75) (changed 72 (OwnedByBio 0 9)) 72 63
+    ∷ turned (withSci 75) (changed 72 (OwnedByBio 5 8)) 72 63
+    ∷ turned (withSci 75) emptyTable 72 63
+    -- 61 first, of the table that such a map would fill in, and of any other
+    ∷ turned (withSci 45) (tableOf (withSci 45)) 72 61
+    ∷ turned (withSci 45) emptyTable 72 61
+    ∷ turned (counting 5 4 4) (tableOf (withSci 75)) 72 61
+    ∷ example (withSci 45) table (filled (record { verdict = verdicts.Refused badMap; table = emptyTable }))
     ∷ []
 
 -- ---- "Our older units have an HT controller in place of the EIO" (W-201 of document 02)

@@ -7,3 +7,4 @@ pub mod Routing
 pub mod Walks
 pub mod Fields
 pub mod AtOnce
+pub mod Owners

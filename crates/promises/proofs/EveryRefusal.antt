@@ -8,7 +8,7 @@ use mathlib.Core.List.{List, _∷_, _++_}
 use mathlib.Core.Bool.{Bool, true, false, true≢false}
 use lib.ListN.{length}
 use Rattle.words.specs.declared.Refusal.{Refusal}
-use Rattle.words.specs.Refusals.{firstRefusal}
+use Rattle.words.specs.Refusals.{refused, firstRefusal}
 use Rattle.words.proofs.Choices.{no-if, if-cases}
 use Rattle.words.proofs.Verdicts.{unless-refused, unless-sound}
 use Rattle.words.specs.declared.Verdict.{Verdict}
@@ -23,6 +23,7 @@ use Rattle.tables.specs.declared.Strictness.{Strictness}
 use Rattle.tables.specs.declared.Strictness.the-variants.{Strict}
 use Rattle.lines.specs.Says.{says}
 use Rattle.lines.specs.Rules.{mapRules, keepsRules}
+use Rattle.lines.specs.Answers.{routeOf, traceOf}
 use Rattle.lines.specs.declared.Map.{Map}
 use Rattle.lines.specs.declared.Route.{Route}
 use Rattle.lines.specs.declared.Route.the-variants as routes
@@ -36,7 +37,8 @@ use Rattle.processors.specs.Repeats.{firstRepeat}
 use Rattle.processors.specs.declared.Repeat.{Repeat}
 use Rattle.processors.specs.declared.Repeat.the-variants.{At, Nowhere}
 use Rattle.processors.proofs.Inside.{repeat-inside}
-use Rattle.map_promises.proofs.AtOnce.{two-refusals}
+use Rattle.map_promises.proofs.AtOnce as at-once
+use Rattle.map_promises.proofs.Owners.{two-refusals, refused-filling}
 use Rattle.map_promises.proofs.RefusedExactly.{refused-exactly}
 use Rattle.map_promises.proofs.WalkKeepsBooks.{walk-stands}
 use Rattle.reading.specs.Scan.{madtBytes, walkOf, turnedDown, repeatRule, processorRule, scan}
@@ -168,13 +170,27 @@ same-route e = cc
 same-trace : {q r : Refusal} → _≡_ {A = Trace} (traces.Refused q) (traces.Refused r) → r ≡ q
 same-trace e = cc
 
-pub map-refusals : (map : Map) → MapRefusals map
-map-refusals map = go (keepsRules map) refl
+-- a route and a trace
+abbrev SingleRefusals : Map → Type 0
+SingleRefusals map =
+    ((n : ℕ) (r : Refusal) → routeOf map n ≡ routes.Refused r → r ≡ refused 61 0)
+    × ((v n : ℕ) (r : Refusal) → traceOf map v n ≡ traces.Refused r → r ≡ refused 61 0)
+
+single-refusals : (map : Map) → SingleRefusals map
+single-refusals map = go (keepsRules map) refl
   where
-    go : (b : Bool) → keepsRules map ≡ b → MapRefusals map
-    go true k =
-        let never = refused-exactly map .1 k in
-        ((λ n r h. absurd (never .0 n r h)), (λ v n r h. absurd (never .1 v n r h)), two-refusals map)
+    go : (b : Bool) → keepsRules map ≡ b → SingleRefusals map
+    go true k = let never = refused-exactly map .1 k in ((λ n r h. absurd (never .0 n r h)), λ v n r h. absurd (never .1 v n r h))
     go false k =
         let always = refused-exactly map .0 k in
-        ((λ n r h. same-route (sym (always .0 n) ∙ h)), (λ v n r h. same-trace (sym (always .1 v n) ∙ h)), two-refusals map)
+        ((λ n r h. same-route (sym (always .0 n) ∙ h)), λ v n r h. same-trace (sym (always .1 v n) ∙ h))
+
+pub map-refusals : (map : Map) → MapRefusals map
+map-refusals map =
+    let single = single-refusals map in (
+      single .0,
+      single .1,
+      at-once.two-refusals map,
+      (λ r h. refused-filling map r h .0),
+      λ table n r h. ⊎-elim (λ w. inl (w .1)) (λ w. inr (w .1)) (two-refusals map table n r h),
+    )

@@ -23,6 +23,7 @@ use Rattle.words.specs.Rooms.{hasRoom, filled}
 use Rattle.map_promises.specs.Statements.{RouteFits, TraceFits}
 use Rattle.map_promises.proofs.AnswersFit.{answers-fit}
 use Rattle.map_promises.proofs.AtOnce.{refused-leaves-answers}
+use Rattle.map_promises.proofs.Owners.{refused-filling}
 use Rattle.owners.specs.declared.Filling.{Filling}
 use Rattle.reading.specs.Scan.{emptyMap, turnedDown, scan}
 use Rattle.reading.specs.Reading.{withoutMap, madtFound, readingOf, listAfter}
@@ -38,7 +39,6 @@ use Rattle.text.specs.declared.Written.the-variants.{Whole, NoRoom}
 use Rattle.promises.specs.RefusalTable.{isRefusalNumber, OfTheTable}
 use Rattle.promises.specs.EveryResult.{OfTheList, RefusalBut, ScanRefuses, ReadRefuses, CReadRefuses, CRouteRefuses, CTraceRefuses, NoRoomLeaves, MapRouteRefuses, MapTraceRefuses, MapRouteEachRefuses, FillRefuses, LookUpRefuses}
 use Rattle.promises.proofs.EveryRefusal.{of-scan, not-60, reading-refusals, refused-leaves-list, route-refusals, trace-refusals, map-refusals}
-use Rattle.promises.proofs.Owners.{two-refusals, refused-filling}
 use Rattle.promises.proofs.ReadForC.{c-reading}
 use Rattle.promises.proofs.Told.{tell-none}
 use Rattle.promises.proofs.WhyRefused.{why-refused}
@@ -167,7 +167,7 @@ map-route-each-refuses κs a q x p r h =
 pub fill-refuses : FillRefuses
 fill-refuses κs a q x p r h =
     let e = sym (ap (λ (f : Filling). f .verdict) p) ∙ h in
-    (refused-filling _ r e .0, ap (λ (f : Filling). f .table) p ∙ refused-filling _ r e .1)
+    (map-refusals _ .3 r e, ap (λ (f : Filling). f .table) p ∙ refused-filling _ r e .1)
 
 pub look-up-refuses : LookUpRefuses
-look-up-refuses κs a q x p r h = ⊎-elim (λ w. inl (w .1)) (λ w. inr (w .1)) (two-refusals _ _ _ r (sym p ∙ h))
+look-up-refuses κs a q x p r h = map-refusals _ .4 _ _ r (sym p ∙ h)

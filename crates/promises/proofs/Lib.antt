@@ -12,7 +12,6 @@ pub mod Examples
 pub mod FirstRule
 pub mod OneAnswer
 pub mod ReadForC
-pub mod Owners
 pub mod EveryResult
 pub mod RulesInOrder
 pub mod MapOfMadt

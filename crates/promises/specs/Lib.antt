@@ -3,7 +3,6 @@ pub mod Readings
 pub mod Pairs
 pub mod Processors
 pub mod OneKind
-pub mod Owners
 pub mod Memory
 pub mod RefusalTable
 pub mod Calls

@@ -1,4 +1,4 @@
--- Document 01, "Refusals in order": the numbers of its table as W-201, W-202, W-209 and W-212 of document 02 changed it, and the mission's first demand:
+-- Document 01, "Refusals in order": the numbers of its table as W-201, W-202, W-209, W-211 and W-212 of document 02 changed it, and the mission's first demand:
 -- each public call "either answers or refuses with a number and a place from our table".
 use Prim.Native.Nat.{ℕ, _<_}
 use mathlib.Core.Bool.{Bool, true, false, _&&_, _||_}
@@ -17,6 +17,9 @@ use Rattle.lines.specs.AtOnce.{atOnce}
 use Rattle.lines.specs.declared.Map.{Map}
 use Rattle.lines.specs.declared.Route.the-variants as routes
 use Rattle.lines.specs.declared.Trace.the-variants as traces
+use Rattle.owners.specs.Lookups.{fillingOf, lookupOf}
+use Rattle.owners.specs.declared.OwnerTable.{OwnerTable}
+use Rattle.owners.specs.declared.Lookup.the-variants as lookups
 use Rattle.reading.specs.Scan.{scan}
 use Rattle.reading.specs.Reading.{readingOf, listAfter}
 use Rattle.reading.specs.Entries.{routeResult, traceResult}
@@ -86,9 +89,11 @@ TraceRefusals capture vector number =
     × ((r : Refusal) → traceOf (scan Strict capture .map) vector number ≡ traces.Refused r → ⊥))
 
 -- "any map may be asked about": a question about a map by itself is refused with 61 at place 0, a list of questions (W-209 of document 02)
--- with 62 at place 0 too, and with nothing else
+-- with 62 at place 0 too, a lookup with an owner table (W-211) with 63 at place 0 too, and with nothing else
 abbrev pub MapRefusals : Map → Type 0
 MapRefusals map =
     ((number : ℕ) (r : Refusal) → routeOf map number ≡ routes.Refused r → r ≡ refused 61 0)
     × ((vector number : ℕ) (r : Refusal) → traceOf map vector number ≡ traces.Refused r → r ≡ refused 61 0)
     × ((numbers answers : List ℕ) (r : Refusal) → atOnce map numbers answers ≡ verdicts.Refused r → (r ≡ refused 61 0) ⊎ (r ≡ refused 62 0))
+    × ((r : Refusal) → fillingOf map .verdict ≡ verdicts.Refused r → r ≡ refused 61 0)
+    × ((table : OwnerTable) (number : ℕ) (r : Refusal) → lookupOf map table number ≡ lookups.Refused r → (r ≡ refused 61 0) ⊎ (r ≡ refused 63 0))

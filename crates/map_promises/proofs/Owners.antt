@@ -31,11 +31,11 @@ use Rattle.owners.specs.declared.Lookup.{Lookup}
 use Rattle.owners.specs.declared.Lookup.the-variants.{Told, Refused}
 use Rattle.owners.proofs.Entries.{filled-each, own-table, only-its-own}
 use Rattle.owners.proofs.Calls.{filled, refused-61, refused-63, told-so}
 use Rattle.map_promises.specs.Clashing.{Exactly, OnePlace}
 use Rattle.map_promises.proofs.Routing.{routed}
 use Rattle.map_promises.proofs.SameAnswers.{same-answers}
 use Rattle.map_promises.proofs.TwoRules.{rephrased, one-exactly, first-exactly, second-exactly}
-use Rattle.promises.specs.Owners.{FillExactly, BrokenMapExactly, SixtyThreeExactly, OneEntryIsEnough, FilledIsTaken, BothWaysAgree, TakenIsTrue, SameTables}
+use Rattle.map_promises.specs.Owners.{FillExactly, BrokenMapExactly, SixtyThreeExactly, OneEntryIsEnough, FilledIsTaken, BothWaysAgree, TakenIsTrue, SameTables}
 
 -- ---- a lookup tells what the two rules say
 abbrev says-of : Lookup → Verdict
