@@ -19,13 +19,13 @@ use Rattle.lines.specs.Routes.{lioArrival, through, bioOwner, owner, arrivalOf,
 use Rattle.lines.specs.Rules.{eiosFit, biosFit, msisFit, rangesKept, noBridge, noInput, lost, rulesTo45, rulesFrom51, mapRules, firstBroken, keepsRules}
 use Rattle.lines.specs.Traces.{slotTold, isLpcPin, pinTold, landed, comesBy, hubTraced, ledByLio, traced}
 use Rattle.lines.specs.declared.Map.{Map}
-use Rattle.owners.specs.Table.{tableOf, emptyTable, ownerIn, inParts, sameOwner, isFilled}
+use Rattle.owners.specs.Table.{tableOf, emptyTable, ownerIn, inParts, sameOwner, sameTable}
 use Rattle.owners.specs.Lookups.{fillingOf, lookupRules, ownerBy, lookupOf}
 use Rattle.map_promises.specs.Examples.{Question, Told, told, brokenAlone, fewerPins, rightBridge, manyAtOnce, besideTheMap, onTheHt, unusedPlaces, firstNamed, MapExamples}
 
 -- what is told, with all that it is computed by
 unfoldable computed : Map → Question → Told
-unfolding if first every inEach numbersFrom numbersBelow written fold lioField htField eioField msiField bioField lpcField usedHalf saidLio saidHt saidLpc clash sooner nearer partner better firstClash lonelier firstLone hasBit coreVector isNamed namesUnwired hasPin inNumbers routeOf traceOf tripleOf triplesOf atOnceRules atOnce answersAfter placed claims hubsOf nodesOf lioArrival through bioOwner owner arrivalOf arrival atLater atBoth spotted eiosFit biosFit msisFit rangesKept noBridge noInput lost rulesTo45 rulesFrom51 mapRules firstBroken unless firstRefusal isSound keepsRules slotTold isLpcPin pinTold landed comesBy hubTraced ledByLio traced tableOf emptyTable ownerIn inParts sameOwner isFilled fillingOf lookupRules ownerBy lookupOf told
+unfolding if first every inEach numbersFrom numbersBelow written fold lioField htField eioField msiField bioField lpcField usedHalf saidLio saidHt saidLpc clash sooner nearer partner better firstClash lonelier firstLone hasBit coreVector isNamed namesUnwired hasPin inNumbers routeOf traceOf tripleOf triplesOf atOnceRules atOnce answersAfter placed claims hubsOf nodesOf lioArrival through bioOwner owner arrivalOf arrival atLater atBoth spotted eiosFit biosFit msisFit rangesKept noBridge noInput lost rulesTo45 rulesFrom51 mapRules firstBroken unless firstRefusal isSound keepsRules slotTold isLpcPin pinTold landed comesBy hubTraced ledByLio traced tableOf emptyTable ownerIn inParts sameOwner sameTable fillingOf lookupRules ownerBy lookupOf told
 computed map question = told map question
 
 -- THE PROMISES

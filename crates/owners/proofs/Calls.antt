@@ -15,7 +15,7 @@ use Rattle.lines.specs.Rules.{keepsRules}
 use Rattle.lines.specs.declared.Map.{Map}
 use Rattle.lines.specs.declared.Owner.{Owner}
 use Rattle.lines.specs.declared.Route.{Route}
-use Rattle.owners.specs.Table.{tableOf, emptyTable, isFilled}
+use Rattle.owners.specs.Table.{tableOf, emptyTable, sameTable}
 use Rattle.owners.specs.Lookups.{fillingOf, lookupRules, ownerBy, lookupOf}
 use Rattle.owners.specs.declared.OwnerTable.{OwnerTable}
 use Rattle.owners.specs.declared.Filling.{Filling}
@@ -39,16 +39,16 @@ module _ (map : Map) {table : OwnerTable} where
 module _ (map : Map) (table : OwnerTable) (number : ℕ) where
   pub refused-61 : keepsRules map ≡ false → {refusal : Refusal} → refusal ≡ refused 61 0 → Refused refusal ≡ lookupOf map table number
   unfolding lookupOf lookupRules
-  refused-61 broken r = rw r (sym (unless-refused Refused _ _ (first-due (not (keepsRules map)) (not (isFilled map table)) 61 63 (ap not broken))))
+  refused-61 broken r = rw r (sym (unless-refused Refused _ _ (first-due (not (keepsRules map)) (not (sameTable table (tableOf map))) 61 63 (ap not broken))))
 
-  pub refused-63 : keepsRules map ≡ true → isFilled map table ≡ false → {refusal : Refusal} → refusal ≡ refused 63 0
+  pub refused-63 : keepsRules map ≡ true → sameTable table (tableOf map) ≡ false → {refusal : Refusal} → refusal ≡ refused 63 0
       → Refused refusal ≡ lookupOf map table number
   unfolding lookupOf lookupRules
   refused-63 kept other r =
-      rw r (sym (unless-refused Refused _ _ (second-due (not (keepsRules map)) (not (isFilled map table)) 61 63 (ap not kept) (ap not other))))
+      rw r (sym (unless-refused Refused _ _ (second-due (not (keepsRules map)) (not (sameTable table (tableOf map))) 61 63 (ap not kept) (ap not other))))
 
-  pub told-so : keepsRules map ≡ true → isFilled map table ≡ true → {whose : Owner} {route : Route}
+  pub told-so : keepsRules map ≡ true → sameTable table (tableOf map) ≡ true → {whose : Owner} {route : Route}
       → whose ≡ ownerBy map table number → route ≡ arrivalOf (says map) whose → Told whose route ≡ lookupOf map table number
   unfolding lookupOf lookupRules
   told-so kept own o r =
-      rw (r, o) (sym (unless-sound Refused _ _ (none-due (not (keepsRules map)) (not (isFilled map table)) 61 63 (ap not kept) (ap not own))))
+      rw (r, o) (sym (unless-sound Refused _ _ (none-due (not (keepsRules map)) (not (sameTable table (tableOf map))) 61 63 (ap not kept) (ap not own))))

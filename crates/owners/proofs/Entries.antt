@@ -1,5 +1,5 @@
--- Laws of the table's entries: what is left to write at each turn of the loop that fills it, what it has for each number, and when a table is
--- the map's.
+-- Laws of the table's entries: what is left to write at each turn of the loop that fills it, what it has for each number, and when two tables
+-- have the same.
 use mathlib.Core.Path.{_≡_, refl, sym, ap, _∙_}
 use mathlib.Core.Bool.{true}
 use mathlib.Core.List.{List, [], _∷_, _++_, map as mapped, append-nil}
@@ -17,7 +17,7 @@ use Rattle.lines.specs.Says.{says}
 use Rattle.lines.specs.Routes.{owner}
 use Rattle.lines.specs.declared.Map.{Map}
 use Rattle.lines.specs.declared.Owner.the-variants.{Nobody}
-use Rattle.owners.specs.Table.{entryOf, tableOf, emptyTable, ownerIn, sameOwner, isFilled}
+use Rattle.owners.specs.Table.{entryOf, tableOf, emptyTable, ownerIn, sameOwner, sameTable}
 use Rattle.owners.specs.declared.Entry.{Entry}
 use Rattle.owners.specs.declared.OwnerTable.{OwnerTable}
 use Rattle.owners.proofs.Same.{same-owner, owner-same}
@@ -60,31 +60,31 @@ pub owner-at : (table : OwnerTable) (i : ℕ) (none : Entry) → i < length (tab
 unfolding ownerIn
 owner-at table i none l = ap (λ (e : Entry). e .owner) (same-entry (table .entries) i none (entryOf Nobody) l)
 
--- ---- each number has the owner that it has by the map
-module _ (map : Map) (table : OwnerTable) where
-  pub filled-each : isFilled map table ≡ true → (k : ℕ) → k < 320 → ownerIn table k ≡ owner (says map) k
-  unfolding isFilled numbersBelow
-  filled-each h k l =
-      same-owner (ownerIn table k) (owner (says map) k) (each-taken (λ n. sameOwner (ownerIn table n) (owner (says map) n)) 0 320 h k (omega arith) (omega arith))
-
-  pub each-filled : ((k : ℕ) → k < 320 → ownerIn table k ≡ owner (says map) k) → isFilled map table ≡ true
-  unfolding isFilled numbersBelow
-  each-filled each =
-      all-taken (λ n. sameOwner (ownerIn table n) (owner (says map) n)) 0 320
-      (λ k low high. owner-same (ownerIn table k) (owner (says map) k) (each k (omega arith)))
-
--- the map's own table
+-- ---- the map's own table
 pub its-own : (map : Map) (k : ℕ) → k < 320 → ownerIn (tableOf map) k ≡ owner (says map) k
 unfolding ownerIn tableOf numbersBelow
 its-own map k l = ap (λ (e : Entry). e .owner) (made-at (entryBy map) 0 320 k (entryOf Nobody) l) ∙ ap (owner (says map)) (zero-add k)
 
-pub own-table : (map : Map) → isFilled map (tableOf map) ≡ true
-own-table map = each-filled map (tableOf map) (its-own map)
+pub own-size : (map : Map) → length (tableOf map .entries) ≡ 320
+unfolding tableOf numbersBelow
+own-size map = length-made (entryBy map) 0 320
 
--- and no other table of 320 entries is filled so
-pub only-its-own : (map : Map) (table : OwnerTable) → length (table .entries) ≡ 320 → isFilled map table ≡ true → table ≡ tableOf map
-unfolding ownerIn tableOf numbersBelow
-only-its-own map table size h =
-    ap (λ (entries : List Entry). record { entries = entries })
-    (ext-getD (entryOf Nobody) (table .entries) (mapped (entryBy map) (numbersFrom 0 320)) (size ∙ sym (length-made (entryBy map) 0 320))
-    (λ k l. ap entryOf (filled-each map table h k (omega (arith, size)) ∙ sym (its-own map k (omega (arith, size))))))
+-- ---- tables with the same content
+module _ (one other : OwnerTable) where
+  pub same-each : sameTable one other ≡ true → (k : ℕ) → k < 320 → ownerIn one k ≡ ownerIn other k
+  unfolding sameTable numbersBelow
+  same-each h k l =
+      same-owner (ownerIn one k) (ownerIn other k) (each-taken (λ n. sameOwner (ownerIn one n) (ownerIn other n)) 0 320 h k (omega arith) (omega arith))
+
+  pub each-same : ((k : ℕ) → k < 320 → ownerIn one k ≡ ownerIn other k) → sameTable one other ≡ true
+  unfolding sameTable numbersBelow
+  each-same each =
+      all-taken (λ n. sameOwner (ownerIn one n) (ownerIn other n)) 0 320
+      (λ k low high. owner-same (ownerIn one k) (ownerIn other k) (each k (omega arith)))
+
+  -- of 320 entries each, they are one table
+  pub same-table : length (one .entries) ≡ 320 → length (other .entries) ≡ 320 → sameTable one other ≡ true → one ≡ other
+  unfolding ownerIn
+  same-table size size′ h =
+      ap (λ (entries : List Entry). record { entries = entries })
+      (ext-getD (entryOf Nobody) (one .entries) (other .entries) (size ∙ sym size′) (λ k l. ap entryOf (same-each h k (omega (arith, size)))))

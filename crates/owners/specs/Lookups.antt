@@ -11,7 +11,7 @@ use Rattle.lines.specs.Routes.{owner, arrivalOf}
 use Rattle.lines.specs.Rules.{keepsRules}
 use Rattle.lines.specs.declared.Map.{Map}
 use Rattle.lines.specs.declared.Owner.{Owner}
-use Rattle.owners.specs.Table.{tableOf, emptyTable, ownerIn, isFilled}
+use Rattle.owners.specs.Table.{tableOf, emptyTable, ownerIn, sameTable}
 use Rattle.owners.specs.declared.OwnerTable.{OwnerTable}
 use Rattle.owners.specs.declared.Filling.{Filling}
 use Rattle.owners.specs.declared.Lookup.{Lookup}
@@ -27,7 +27,7 @@ fillingOf map =
 unfoldable pub lookupRules : Map → OwnerTable → List Verdict
 lookupRules map table =
     rule (not (keepsRules map)) 61 0
-    ∷ rule (not (isFilled map table)) 63 0
+    ∷ rule (not (sameTable table (tableOf map))) 63 0
     ∷ []
 
 -- "answer from the table there and from the map above 319": whose a number is

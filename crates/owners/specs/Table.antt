@@ -43,6 +43,6 @@ sameOwner one other =
     let b = inParts other in
     eqb (a .kind) (b .kind) && eqb (a .node) (b .node) && eqb (a .input) (b .input)
 
--- its content is "what that map fills in": each number has the owner that it has by the map
-unfoldable pub isFilled : Map → OwnerTable → Bool
-isFilled map table = every (λ number. sameOwner (ownerIn table number) (owner (says map) number)) (numbersBelow 320)
+-- two tables have the same content: one owner for each number
+unfoldable pub sameTable : OwnerTable → OwnerTable → Bool
+sameTable one other = every (λ number. sameOwner (ownerIn one number) (ownerIn other number)) (numbersBelow 320)

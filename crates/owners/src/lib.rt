@@ -6,7 +6,7 @@ use lines::Route;
 use words::Refusal;
 use words::Verdict;
 ghost use mathlib.Core.Path.{_≡_};
-ghost use Rattle.owners.specs.Table.{inParts, sameOwner, tableOf, emptyTable, isFilled};
+ghost use Rattle.owners.specs.Table.{inParts, sameOwner, tableOf, emptyTable, sameTable};
 ghost use Rattle.owners.specs.Lookups.{fillingOf, ownerBy, lookupOf};
 
 // How many global numbers the table has, from 0 on.
@@ -103,17 +103,20 @@ fn table_of(map: Map) -> OwnerTable
     OwnerTable { entries }
 }
 
-// Whether each number has the owner in the table that it has by the map.
-fn is_filled(map: Map, table: OwnerTable) -> bool
-    ensures { λ r. ⌜ r ≡ isFilled map table ⌝ }
+// Whether each number has one owner in both tables.
+fn have_same(one: OwnerTable, other: OwnerTable) -> bool
+    ensures { λ r. ⌜ r ≡ sameTable one other ⌝ }
 {
-    let entries = table.entries;
+    let entries = one.entries;
+    let others = other.entries;
     let mut same = true;
     let mut i: usize = 0;
     while i < NUMBERS {
-        let entry = entries[i];
-        let owner = entry.owner;
-        same = same & is_same(owner, map.owner(i as u32));
+        let a = entries[i];
+        let b = others[i];
+        let owner = a.owner;
+        let another = b.owner;
+        same = same & is_same(owner, another);
         i += 1;
     }
     same
@@ -157,7 +160,7 @@ pub fn look_up(map: Map, table: OwnerTable, number: u32) -> Lookup
     ensures { λ r. ⌜ r ≡ lookupOf map table number ⌝ }
 {
     let kept = map.keeps_rules();
-    let filled = is_filled(map, table);
+    let filled = have_same(table, table_of(map));
     if !kept {
         return Lookup::Refused(words::refuse(61, 0));
     }
