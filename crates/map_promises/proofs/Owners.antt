@@ -3,11 +3,9 @@ use Prim.Native.Nat.{ℕ, _<_}
 use native.Mathlib.Omega.{arith}
 use mathlib.Core.Bool.{Bool, true, false, not, true≢false}
 use mathlib.Core.Logic.{_⊎_, inl, inr, ⊎-elim}
-use mathlib.Core.Path.{_≡_, refl, sym, ap, ap₂, _∙_}
+use mathlib.Core.Path.{_≡_, refl, sym, ap, _∙_}
 use borrow.Author.Tests.{ltb-true, not-true, not-false}
 use lib.Dec.{ltb}
-use lib.ListN.{length}
-use Rattle.words.specs.Choice.{if}
 use Rattle.words.specs.Refusals.{refused, rule, unless, firstRefusal}
 use Rattle.words.specs.declared.Refusal.{Refusal}
 use Rattle.words.specs.declared.Verdict.{Verdict}
@@ -16,8 +14,8 @@ use Rattle.words.proofs.Choices.{if-cases}
 use Rattle.words.proofs.Tests.{fails}
 use Rattle.words.proofs.TwoRules.{one-of-two}
 use Rattle.words.proofs.Verdicts.{not-sound, same-refusal, rule-told, unless-refused, unless-told}
-use Rattle.lines.specs.Says.{Said, says, Same}
-use Rattle.lines.specs.Routes.{owner, arrivalOf}
+use Rattle.lines.specs.Says.{says}
+use Rattle.lines.specs.Routes.{owner}
 use Rattle.lines.specs.Rules.{keepsRules}
 use Rattle.lines.specs.Answers.{routeOf}
 use Rattle.lines.specs.declared.Map.{Map}
@@ -31,7 +29,6 @@ use Rattle.owners.specs.declared.Lookup.{Lookup}
 use Rattle.owners.specs.declared.Lookup.the-variants.{Told, Refused}
 use Rattle.owners.proofs.Entries.{its-own, own-size, same-each, each-same, same-table}
 use Rattle.owners.proofs.Calls.{filled, refused-61, refused-63, told-so}
-use Rattle.map_promises.specs.Clashing.{Exactly, OnePlace}
 use Rattle.map_promises.proofs.Routing.{routed}
 use Rattle.map_promises.proofs.SameAnswers.{same-answers}
 use Rattle.map_promises.proofs.TwoRules.{rephrased, one-exactly, first-exactly, second-exactly}

@@ -6,7 +6,7 @@ use mathlib.Core.List.{List, [], _∷_, _++_, map as mapped, append-nil}
 use Prim.Native.Nat.{ℕ, zero, suc, _+_, _-_, _≤_, _<_}
 use native.Mathlib.Nat.{zero-add}
 use native.Mathlib.Omega.{arith}
-use lib.ListN.{length, drop, getD, length-replicate, drop-of-length-le}
+use lib.ListN.{length, getD, length-replicate, drop-of-length-le}
 use lib.Seq.{ext-getD}
 use Rattle.words.specs.Lists.{numbersFrom, numbersBelow}
 use Rattle.words.specs.Rooms.{written}

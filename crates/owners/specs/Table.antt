@@ -1,7 +1,7 @@
 -- W-211 of document 02, the owner table: "Keep, beside the map, a table of owners for the numbers 0 to 319, filled from it".
 use Prim.Native.Nat.{ℕ}
 use mathlib.Core.Bool.{Bool, _&&_}
-use mathlib.Core.List.{List, map as mapped}
+use mathlib.Core.List.{map as mapped}
 use lib.Dec.{eqb}
 use lib.ListN.{getD, replicate}
 use Rattle.words.specs.Lists.{every, numbersBelow}

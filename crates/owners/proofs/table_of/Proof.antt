@@ -6,7 +6,6 @@ use lib.ListN.{length}
 use borrow.Author.Needs.{needs}
 use Rattle.words.proofs.Rooms.{Writing, write-start, write-end, write-next}
 use Rattle.owners.specs.Table.{tableOf}
-use Rattle.owners.specs.declared.Entry.{Entry}
 use Rattle.owners.proofs.Entries.{entriesFrom, next-entry, no-entry, all-entries, whole-table, empty-size}
 use Rattle.owners.proofs.table_of.Statement.{statement}
 use Rattle.owners.proofs.table_of.Tie as tie
