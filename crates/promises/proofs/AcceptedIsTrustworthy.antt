@@ -21,7 +21,8 @@ use Rattle.lines.specs.declared.Map.{Map}
 use Rattle.map_promises.specs.Walks.{Normal}
 use Rattle.map_promises.proofs.NoTwoAlike.{no-two-alike}
 use Rattle.map_promises.proofs.RefusedExactly.{refused-exactly}
-use Rattle.map_promises.proofs.Routing.{route-is-sources, unwired-exactly, no-owner-exactly}
+use Rattle.map_promises.proofs.Owners.{both-ways-agree}
+use Rattle.map_promises.proofs.Routing.{route-is-sources, unwired-exactly, no-owner-exactly, owner-exactly}
 use Rattle.map_promises.proofs.Tracing.{tracing-names, nothing-exactly}
 use Rattle.map_promises.proofs.ThereAndBack.{lpc-lines-share, there-and-back}
 use Rattle.reading.specs.Scan.{scan}
@@ -60,6 +61,8 @@ trustworthy map k n =
       arriving = route-is-sources map k;
       unwired = unwired-exactly map k;
       unowned = no-owner-exactly map k;
+      owners = owner-exactly map k;
+      lookups = both-ways-agree map k;
       alike = no-two-alike map k;
       tracing = tracing-names map k;
       nothing = nothing-exactly map k;

@@ -13,18 +13,21 @@ use Rattle.tables.specs.declared.Survey.the-variants.{Found}
 use Rattle.tables.specs.declared.Strictness.{Strictness}
 use Rattle.lines.specs.Says.{Said, says}
 use Rattle.lines.specs.Claims.{claims}
+use Rattle.lines.specs.Routes.{owner}
 use Rattle.lines.specs.Rules.{rule40, rule41, rule42, rule43, rule44, rule45, keepsRules}
 use Rattle.lines.specs.Answers.{routeOf, traceOf}
 use Rattle.lines.specs.declared.Map.{Map}
 use Rattle.lines.specs.declared.Places.{Places}
 use Rattle.lines.specs.declared.Route.the-variants.{Arrives, Refused as NoRoute}
 use Rattle.lines.specs.declared.Trace.the-variants.{Refused as NoTrace}
+use Rattle.owners.specs.Lookups.{fillingOf, lookupOf}
+use Rattle.owners.specs.declared.Lookup.the-variants.{Told}
 use Rattle.madt.specs.Pieces.{pieces, structures}
 use Rattle.processors.specs.Listing.{count}
 use Rattle.processors.specs.Repeats.{firstRepeat}
 use Rattle.processors.specs.declared.Repeat.the-variants.{Nowhere}
 use Rattle.map_promises.specs.Clashing.{ShareNode, ShareNumber, ShareVector, ShareCore, TwoNode, LoneBio, NoBridge, NamesUnwired, NoInput, TwoNumber, TwoVector, TwoCore, Names, NamesLater, NamesLone, OnePlace, Exactly}
-use Rattle.map_promises.specs.Routing.{RouteIsSources, UnwiredExactly, NoOwnerExactly}
+use Rattle.map_promises.specs.Routing.{RouteIsSources, UnwiredExactly, NoOwnerExactly, OwnerExactly}
 use Rattle.map_promises.specs.Statements.{NoTwoAlike, TracingNames, NothingExactly, LpcLinesShare, ThereAndBack}
 use Rattle.map_promises.specs.Walks.{Normal, InTableOrder}
 use Rattle.reading.specs.Scan.{madtBytes, walkOf, rulesBefore51, scan}
@@ -51,6 +54,10 @@ pub record Trustworthy (map : Map) : Type 0 where
   pub arriving : RouteIsSources map
   pub unwired : UnwiredExactly map
   pub unowned : NoOwnerExactly map
+  -- each number has the owner that owns it; and a lookup with the table that the map fills in tells that owner, and that answer (W-211 of
+  -- document 02)
+  pub owners : OwnerExactly map
+  pub lookups : (number : ℕ) → lookupOf map (fillingOf map .table) number ≡ Told (owner (says map) number) (routeOf map number)
   -- "Two different sources never arrive at the same core vector with the same number"
   pub alike : NoTwoAlike (says map)
   -- "tracing any vector and number back names the one source that arrives there, and says that none does exactly when none does"
