@@ -67,7 +67,7 @@ its-own map k l = ap (λ (e : Entry). e .owner) (made-at (entryBy map) 0 320 k (
 
 pub own-size : (map : Map) → length (tableOf map .entries) ≡ 320
 unfolding tableOf numbersBelow
-own-size map = length-made (entryBy map) 0 320
+own-size map = all-entries map
 
 -- ---- tables with the same content
 module _ (one other : OwnerTable) where

@@ -34,6 +34,15 @@ pub enum Lookup {
     Refused(Refusal),
 }
 
+// What an owner is.
+const LPC: u8 = 0;
+
+const LIO: u8 = 1;
+
+const BIO: u8 = 2;
+
+const NOBODY: u8 = 3;
+
 // An owner in parts, so that two can be compared: what it is, and the node and the input that it names.
 struct Parts {
     kind: u8,
@@ -46,22 +55,22 @@ fn in_parts(owner: Owner) -> Parts
 {
     match owner {
         Owner::LpcInput => Parts {
-            kind: 0,
+            kind: LPC,
             node: 0,
             input: 0,
         },
         Owner::LioInput(i) => Parts {
-            kind: 1,
+            kind: LIO,
             node: 0,
             input: i,
         },
         Owner::BioInput(node, v) => Parts {
-            kind: 2,
+            kind: BIO,
             node,
             input: v as u32,
         },
         Owner::Nobody => Parts {
-            kind: 3,
+            kind: NOBODY,
             node: 0,
             input: 0,
         },
