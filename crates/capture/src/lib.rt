@@ -1,5 +1,7 @@
 // The capture: what the bench is handed. Whether it is sound (refusals 1 to 7), where a stretch of memory stands in it,
 // and whether the RSDP is there (refusal 10). Every public function answers for any bytes.
+#![tactic(auto)]
+
 ghost use Rattle.std.specs.Prelude.{◌≡◌, ◌&&◌, ◌||◌, ℕ, ◌+◌, ◌-◌, ◌^◌, ◌≤◌, ◌<◌, eqb, ltb, leb, length, ◌++◌};
 ghost use Rattle.words.specs.Bytes.{number_at, part_at};
 ghost use Rattle.capture.specs.Fields.{version, segment_count, rsdp_address, header_size, descriptor, descriptors_end, segment_end, lengths};
@@ -14,21 +16,21 @@ use words::{Refusal, Verdict};
 pub mod pairs; // how many inputs bridges have, and refusal 7
 
 // The place of an address, and how many bytes there are from there on, as far as segments touch.
-#[derive(Drop)]
+#[derive(Clone, Copy)]
 pub struct Reach {
     pub place: usize,
     pub room: u64,
 }
 
 // The place of the RSDP of a sound capture, which has at most 65,536 bytes: 16 bits hold it.
-#[derive(Drop)]
+#[derive(Clone, Copy)]
 pub enum Root {
     At(u16),
     Refused(Refusal),
 }
 
 // A segment, by its descriptor.
-#[derive(Drop)]
+#[derive(Clone, Copy)]
 struct Segment {
     address: u64,
     length: u32,

@@ -8,7 +8,7 @@ use crate::WITH_PAIRS;
 use words::Verdict;
 
 // Bridges with a hardware ID have so many inputs. With number 0 the pair is empty and its ID is free.
-#[derive(Drop)]
+#[derive(Clone, Copy)]
 pub struct Pair {
     pub id: u8,
     pub pins: u8,

@@ -2,6 +2,8 @@
 // A claim says nothing of its kind: what a structure does not claim is empty, and what is empty clashes with nothing.
 // Each rule is one test of two claims, and one search finds the structure to be named and its earliest partner; its steps are
 // here, and whoever has the claims goes through them. What is told of its answer is here too.
+#![tactic(auto)]
+
 ghost use Rattle.std.specs.Prelude.{◌≡◌};
 ghost use Rattle.clashes.specs.Rules.{meet, repeats_node, shares_number, shares_vector, shares_core, clash};
 ghost use Rattle.clashes.specs.Apart.{apart};
@@ -11,7 +13,7 @@ ghost use Rattle.clashes.specs.Told.{at_later, at_both, spotted};
 use words::Verdict;
 
 // Numbers one after the other: the first, and how many. None at all is 0, 0.
-#[derive(Drop)]
+#[derive(Clone, Copy)]
 pub struct Run {
     pub first: u32,
     pub count: u32,
@@ -20,7 +22,7 @@ pub struct Run {
 // What one structure claims: the node that it is the EIO of, global numbers, vectors of the hub of node `hub`, and up to two core
 // vectors to enter by. Without a node `node` and `hub` are 65,535, and a hub without a node is every hub; a core vector that is not
 // used is 0.
-#[derive(Drop)]
+#[derive(Clone, Copy)]
 pub struct Claim {
     pub place: u32,
     pub numbers: Run,
@@ -32,14 +34,14 @@ pub struct Claim {
 }
 
 // The place of a structure, if there is one.
-#[derive(Drop)]
+#[derive(Clone, Copy)]
 pub enum Spot {
     At(u32),
     Nowhere,
 }
 
 // The place of a structure, and that of the earliest one that it clashes with.
-#[derive(Drop)]
+#[derive(Clone, Copy)]
 pub enum Pair {
     Two(u32, u32),
     None,

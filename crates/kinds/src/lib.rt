@@ -1,5 +1,7 @@
 // The kinds of structures that a map is made of: the used fields of each, their ranges, and what of them is unused
 // (document 01, "MADT structures").
+#![tactic(auto)]
+
 ghost use Rattle.std.specs.Prelude.{◌≡◌};
 ghost use Rattle.kinds.specs.Used.{used_half, said_lio, said_ht, said_lpc};
 
@@ -8,14 +10,14 @@ pub mod makers; // type, length and maker of each of the seven kinds
 
 // One half of the LIO: a bit for each input that it leads to a core vector, and the vector. With mask 0 it is unused and its
 // cascade is free.
-#[derive(Drop)]
+#[derive(Clone, Copy)]
 pub struct Half {
     pub mask: u32,
     pub cascade: u8,
 }
 
 // The processor's own controller. Bytes 13 and 15 of its structure are the low half, 14 and 19 the high half.
-#[derive(Drop)]
+#[derive(Clone, Copy)]
 pub struct Lio {
     pub present: bool,
     pub low: Half,
@@ -23,14 +25,14 @@ pub struct Lio {
 }
 
 // The controller of older boards: a byte for each 32 of its vectors, which names the LIO input that they go to.
-#[derive(Drop)]
+#[derive(Clone, Copy)]
 pub struct Ht {
     pub present: bool,
     pub bytes: [u8; 8],
 }
 
 // An extended controller: the core vector that it enters by, its node, and its node map.
-#[derive(Drop)]
+#[derive(Clone, Copy)]
 pub struct Eio {
     pub cascade: u8,
     pub node: u8,
@@ -38,7 +40,7 @@ pub struct Eio {
 }
 
 // A bridge: its hardware ID, which is the node of its hub, its first global number, and how many inputs it has.
-#[derive(Drop)]
+#[derive(Clone, Copy)]
 pub struct Bio {
     pub node: u16,
     pub base: u16,
@@ -46,14 +48,14 @@ pub struct Bio {
 }
 
 // Message slots: the first, and how many.
-#[derive(Drop)]
+#[derive(Clone, Copy)]
 pub struct Msi {
     pub start: u32,
     pub count: u32,
 }
 
 // The sixteen lines of the LPC: the node of its bridge, and the input of the bridge that they share.
-#[derive(Drop)]
+#[derive(Clone, Copy)]
 pub struct Lpc {
     pub present: bool,
     pub node: u16,

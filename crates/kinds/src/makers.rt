@@ -6,7 +6,7 @@ ghost use Rattle.kinds.specs.Makers.{core_of, lio_of, ht_of, eio_of, msi_of, bio
 use crate::{Bio, Eio, Half, Ht, Lio, Lpc, Msi};
 
 // A processor: its UID, its physical ID, and its flags.
-#[derive(Drop)]
+#[derive(Clone, Copy)]
 pub struct Core {
     pub uid: u32,
     pub id: u32,

@@ -1,5 +1,7 @@
 // The interrupt map of a board: what it holds, the rules that it must keep, where each line arrives, and what arrives at a
 // core vector with a number (document 01, "Where a line arrives" and "What comes back").
+#![tactic(auto)]
+
 use kinds::{Bio, Eio, Ht, Lio, Lpc, Msi};
 use words::Refusal;
 
@@ -18,7 +20,7 @@ pub const MOST: u8 = 4;
 
 // A map: the used fields of each structure in table order, and the SCI number. Entries from the count on are unused, and so
 // is what an absent LIO, HT or LPC or an unused half holds: nothing looks at them.
-#[derive(Drop)]
+#[derive(Clone, Copy)]
 pub struct Map {
     pub lio: Lio,
     pub lpc: Lpc,
@@ -33,7 +35,7 @@ pub struct Map {
 }
 
 // The answer to a global number: it arrives at a core vector with a number, or it is unwired, or it has no owner.
-#[derive(Drop)]
+#[derive(Clone, Copy)]
 pub enum Route {
     Arrives(u8, u32),
     Unwired,
@@ -43,7 +45,7 @@ pub enum Route {
 
 // The answer to a core vector and a number: nothing; the global number of a LIO input, of a BIO input, or of the input that
 // the LPC lines share, which is never told as a BIO input; or the node and the slot of an MSI.
-#[derive(Drop)]
+#[derive(Clone, Copy)]
 pub enum Trace {
     Nothing,
     LioInput(u32),
@@ -54,7 +56,7 @@ pub enum Trace {
 }
 
 // Whose a global number is: the LPC's, an input of the LIO, an input of the BIO of a node, or nobody's.
-#[derive(Drop)]
+#[derive(Clone, Copy)]
 pub enum Owner {
     LpcInput,
     LioInput(u32),
@@ -63,7 +65,7 @@ pub enum Owner {
 }
 
 // Where each structure of a map stands in the capture, in the same arrangement as the map.
-#[derive(Drop)]
+#[derive(Clone, Copy)]
 pub struct Places {
     pub lio: u32,
     pub ht: u32,

@@ -1,5 +1,7 @@
 // The MADT's structures in turn, from offset 44 to its end: refusals 31 to 38 and 71 to 78, and the map, the places of its structures and
 // the number of processors that they make (document 01, "MADT structures"). All of it is defined on the MADT's own bytes.
+#![tactic(auto)]
+
 use lines::{Map, Places};
 use words::Verdict;
 
@@ -14,7 +16,7 @@ pub const ROOM: usize = 256;
 pub type Offsets = [u16; ROOM];
 
 // What was found: the map and the places of its structures, and how many processors are enabled.
-#[derive(Drop)]
+#[derive(Clone, Copy)]
 pub struct Found {
     pub map: Map,
     pub places: Places,
@@ -22,7 +24,7 @@ pub struct Found {
 }
 
 // All structures taken: what was found, or the refusal and nothing.
-#[derive(Drop)]
+#[derive(Clone, Copy)]
 pub struct Walked {
     pub verdict: Verdict,
     pub found: Found,

@@ -1,4 +1,6 @@
 // The map on paper: reads a capture from standard input, and prints its map or its refusal. `./map` builds and runs this.
+#![tactic(auto)]
+
 use libc::{STDIN_FILENO, STDOUT_FILENO};
 use text::{ROOM, Written};
 

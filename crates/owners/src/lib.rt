@@ -1,5 +1,7 @@
 // W-211 of document 02, for the line display: a table of the owners of the global numbers 0 to 319, filled from a map and kept
 // beside it, and the lookup of a number with both. A lookup holds the map to its rules and the whole table to the map, each time.
+#![tactic(auto)]
+
 ghost use Rattle.std.specs.Prelude.{◌≡◌};
 ghost use Rattle.owners.specs.Table.{in_parts, same_owner, table_of, empty_table, same_table};
 ghost use Rattle.owners.specs.Lookups.{filling_of, owner_by, lookup_of};
@@ -11,26 +13,26 @@ use words::{Refusal, Verdict};
 pub const NUMBERS: usize = 320;
 
 // What the table has for a number.
-#[derive(Drop)]
+#[derive(Clone, Copy)]
 pub struct Entry {
     pub owner: Owner,
 }
 
 // The owners of the numbers 0 to 319.
-#[derive(Drop)]
+#[derive(Clone, Copy)]
 pub struct OwnerTable {
     pub entries: [Entry; NUMBERS],
 }
 
 // What comes of filling a table: the map's table and nothing to refuse, or the refusal and a table in which nobody owns a number.
-#[derive(Drop)]
+#[derive(Clone, Copy)]
 pub struct Filling {
     pub verdict: Verdict,
     pub table: OwnerTable,
 }
 
 // The answer to a number that is looked up: whose it is, and where it arrives.
-#[derive(Drop)]
+#[derive(Clone, Copy)]
 pub enum Lookup {
     Told(Owner, Route),
     Refused(Refusal),
@@ -46,7 +48,7 @@ const BIO: u8 = 2;
 const NOBODY: u8 = 3;
 
 // An owner in parts, so that two can be compared: what it is, and the node and the input that it names.
-#[derive(Drop)]
+#[derive(Clone, Copy)]
 struct Parts {
     kind: u8,
     node: u16,

@@ -1,4 +1,6 @@
 // What each structure of a map has by itself: its inputs, pins or slots, the global numbers that it owns, and what it claims.
+#![tactic(auto)]
+
 ghost use Rattle.std.specs.Prelude.{◌≡◌, not, eqb};
 ghost use Rattle.words.specs.Lists.{every};
 ghost use Rattle.parts.specs.Inputs.{has_bit, wired, leads, core_vector, input_for, is_named, names_unwired, has_slot, owns, has_pin, is_bridge};

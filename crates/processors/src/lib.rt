@@ -1,6 +1,8 @@
 // The processors of a MADT, given by its own bytes and by where its enabled CORE stand, which the walk has noted: the list of their
 // numbers, and refusal 39 (document 01, "What comes back" and "Refusals in order"). Their IDs are read from the table again
 // whenever they are asked for; no copy of them is kept.
+#![tactic(auto)]
+
 ghost use Rattle.std.specs.Prelude.{◌≡◌, take};
 ghost use Rattle.processors.specs.Again.{processor_at};
 
@@ -11,21 +13,21 @@ pub mod list; // UID and physical ID of each enabled CORE
 pub mod repeats; // 39: an enabled CORE that repeats an ID of an earlier one
 
 // A processor by its UID and its physical ID.
-#[derive(Drop)]
+#[derive(Clone, Copy)]
 pub struct Processor {
     pub uid: u32,
     pub id: u32,
 }
 
 // What came of filling a list: the number of processors written, or that it had no room.
-#[derive(Drop)]
+#[derive(Clone, Copy)]
 pub enum Filled {
     Whole(usize),
     NoRoom,
 }
 
 // The offset of the first enabled CORE that repeats an ID of an earlier enabled one, if there is such a CORE.
-#[derive(Drop)]
+#[derive(Clone, Copy)]
 pub enum Repeat {
     At(u16),
     Nowhere,

@@ -7,7 +7,7 @@ ghost use Rattle.processors.specs.Again.{repeat_at};
 use crate::{Processor, Repeat};
 
 // Every UID and every physical ID so far is below these.
-#[derive(Drop)]
+#[derive(Clone, Copy)]
 struct Seen {
     uids: u64,
     ids: u64,

@@ -1,4 +1,6 @@
 // The reading: a capture in, the map, the processor list and their count out, or the first refusal of all the rules.
+#![tactic(auto)]
+
 ghost use Rattle.std.specs.Prelude.{◌≡◌, length, take, false, ◌∷◌, ◌++◌};
 ghost use Rattle.lines.specs.Says.{says};
 ghost use Rattle.lines.specs.Rules.{too_many, map_rules};
@@ -21,7 +23,7 @@ use words::{Refusal, Verdict};
 pub mod entries; // the C entries
 
 // What all rules up to 54 leave: sound with the MADT and the map, or the refusal with an empty map.
-#[derive(Drop)]
+#[derive(Clone, Copy)]
 pub struct Scan {
     pub verdict: Verdict,
     pub madt: Table,
@@ -29,21 +31,21 @@ pub struct Scan {
 }
 
 // A scan, and how many processors it has noted in the front of the room that it was lent.
-#[derive(Drop)]
+#[derive(Clone, Copy)]
 pub(crate) struct Noted {
     pub(crate) scan: Scan,
     pub(crate) processors: u16,
 }
 
 // Read, with the number of processors; or refused.
-#[derive(Drop)]
+#[derive(Clone, Copy)]
 pub enum Answer {
     Read(usize),
     Refused(Refusal),
 }
 
 // The answer, and the map beside it: the fixed empty one where the capture is refused.
-#[derive(Drop)]
+#[derive(Clone, Copy)]
 pub struct Reading {
     pub answer: Answer,
     pub map: Map,

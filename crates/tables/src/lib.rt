@@ -1,5 +1,7 @@
 // From the RSDP to the MADT, the FADT and the SCI number: refusals 10 to 30. The checker of a table, the finder by signature
 // and the stepper over structures are written for any table. Every public function answers for any bytes.
+#![tactic(auto)]
+
 ghost use Rattle.std.specs.Prelude.{◌≡◌, ◌++◌};
 ghost use Rattle.capture.specs.Rules.{verdict};
 ghost use Rattle.words.specs.declared.Verdict.TheVariants.{Sound};
@@ -19,28 +21,28 @@ mod rsdp; // 11 to 14
 mod xsdt; // 23 to 25, and what the entries name
 
 // A table inside a sound capture, which has at most 65,536 bytes: 16 bits hold its place and its length.
-#[derive(Drop)]
+#[derive(Clone, Copy)]
 pub struct Table {
     pub place: u16,
     pub length: u16,
 }
 
 // A table that went through refusals 20 to 22.
-#[derive(Drop)]
+#[derive(Clone, Copy)]
 pub enum Checked {
     Is(Table),
     Refused(Refusal),
 }
 
 // An entry of the XSDT, by its number.
-#[derive(Drop)]
+#[derive(Clone, Copy)]
 pub enum Entry {
     At(u16),
     Nowhere,
 }
 
 // What the XSDT's entries say of a signature: the first entry that names a table with it, that table, and the second entry.
-#[derive(Drop)]
+#[derive(Clone, Copy)]
 pub struct Named {
     pub first: Entry,
     pub table: Table,
@@ -48,14 +50,14 @@ pub struct Named {
 }
 
 // What they say of the MADT's and of the FADT's signature, if no entry is refused.
-#[derive(Drop)]
+#[derive(Clone, Copy)]
 pub enum Names {
     Are(Named, Named),
     Refused(Refusal),
 }
 
 // What the layers above read from.
-#[derive(Drop)]
+#[derive(Clone, Copy)]
 pub struct Tables {
     pub madt: Table,
     pub fadt: Table,
@@ -63,20 +65,20 @@ pub struct Tables {
 }
 
 // Which revisions of the MADT a reading takes (29): the ordinary one any of 1 or more, the strict one 1 alone.
-#[derive(Drop)]
+#[derive(Clone, Copy)]
 pub enum Strictness {
     Ordinary,
     Strict,
 }
 
-#[derive(Drop)]
+#[derive(Clone, Copy)]
 pub enum Survey {
     Found(Tables),
     Refused(Refusal),
 }
 
 // What stands at an offset of a table of structures.
-#[derive(Drop)]
+#[derive(Clone, Copy)]
 pub enum Step {
     End,
     Structure(u8),

@@ -1,5 +1,7 @@
 // The map on paper: the printed text of a capture's map, or of its refusal, in a lent room of bytes (document 01, "Board A and
 // its neighbours"). It is the strict reading's: W-207 of document 02 keeps the old rule for the map program.
+#![tactic(auto)]
+
 ghost use Rattle.std.specs.Prelude.{◌≡◌, ◌≤◌, length};
 ghost use Rattle.std.proofs.lemmas.List.Edits.{sets};
 ghost use Rattle.words.specs.Rooms.{filled};
@@ -17,7 +19,7 @@ mod put; // bytes, numbers and lines
 mod tell; // a line or some lines for each kind of structure
 
 // Whether the room had place for the text: the text's length, or nothing is written.
-#[derive(Drop)]
+#[derive(Clone, Copy)]
 pub enum Written {
     Whole(usize),
     NoRoom,

@@ -9,6 +9,8 @@
 // says how many they are. Its first one says how long the answers' list is (kind 8); or how many bytes of a first capture, whose map fills the owner
 // table, stand ahead of the one whose map is asked (10); or which number is looked up, with the entries of the listed numbers changed in its table, one at
 // a time (12). A map is the capture's, or the empty one, which breaks 40, where the capture is refused.
+#![tactic(auto)]
+
 use capture::Root;
 use libc::{STDIN_FILENO, STDOUT_FILENO};
 use lines::{Map, codes};

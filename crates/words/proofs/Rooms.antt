@@ -1,12 +1,13 @@
 -- Writing entries into a list, one behind the other from its front on.
-use Rattle.std.proofs.Common.{◌≡◌, ℕ, ◌+◌, ◌*◌, ◌<◌, ◌≤◌, List, [], ◌∷◌, ◌++◌, length, get_or, drop, sym, refl, ◌∙◌, add-zero, add-suc, suc-add, zero-add, add-one, arith, length-append, drop-cons}
+use Rattle.std.proofs.Common.{◌≡◌, ℕ, suc, ◌+◌, ◌*◌, ◌<◌, ◌≤◌, List, [], ◌∷◌, ◌++◌, length, get_or, drop, sym, refl, ◌∙◌, add-zero, add-suc, suc-add, zero-add, add-one, arith, length-append, drop-cons}
+use Rattle.std.proofs.Math.ListN.{set}
 use lib.Seq.{sets, sets-eq, length-sets}
 use Rattle.words.specs.Lists.{in_each}
 use Rattle.words.specs.Rooms.{written}
 
 pub sets_append : {A : Type 0} (l : List A) (i : ℕ) (vs us : List A) → sets l i (vs ++ us) ≡ sets (sets l i vs) (i + length vs) us
 sets_append l i [] us = rw add-zero
-sets_append l i (v ∷ vs) us = rw (sets_append _ _ vs us, add-suc, suc-add)
+sets_append l i (v ∷ vs) us = rw (add-suc, ← suc-add) (sets_append (set l i v) (suc i) vs us)
 
 -- ---- what a loop that writes `all` keeps: once what is left is written from place n on, the list is the one that is wanted
 pub record Writing {A : Type 0} (all old list : List A) (n : ℕ) (left : List A) : Type 0 where

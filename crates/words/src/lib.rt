@@ -1,5 +1,7 @@
 // The words that every other crate speaks: little-endian numbers in bytes, a part of a slice, a sum of bytes, and the
 // refusal. Every function answers for any bytes and any offset; a byte past the end counts as 0.
+#![tactic(auto)]
+
 ghost use Rattle.std.specs.Prelude.{◌≡◌, ◌+◌, ◌≤◌, length};
 ghost use Rattle.words.specs.Bytes.{byte_at, number_at, part_at, byte_sum};
 ghost use Rattle.words.specs.Refusals.{refused, refused_with};
@@ -7,7 +9,7 @@ ghost use Rattle.words.specs.Refusals.{refused, refused_with};
 // Why a capture or a map is turned away: the documents' number for the rule that is broken, where in the capture, and the second
 // place: of a clash, where the earliest structure stands that the one at `place` clashes with. A refusal that tells no second
 // place has 0 there.
-#[derive(Drop)]
+#[derive(Clone, Copy)]
 pub struct Refusal {
     pub number: u8,
     pub place: u32,
@@ -15,7 +17,7 @@ pub struct Refusal {
 }
 
 // What rules say of a capture: nothing is broken, or the refusal.
-#[derive(Drop)]
+#[derive(Clone, Copy)]
 pub enum Verdict {
     Sound,
     Refused(Refusal),

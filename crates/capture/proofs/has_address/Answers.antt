@@ -1,0 +1,6 @@
+-- `capture::has_address` compares with both ends.
+use borrow.Author.Rules.{rules}
+use Rattle.capture.proofs.has_address.Goals as goal
+
+pub returns : goal.returns
+returns c = cc

@@ -1,0 +1,14 @@
+-- `Map::trace`: 61 first, then the answer.
+use mathlib.Core.Path.{sym, ◌∙◌, refl}
+use borrow.Author.Rules.{rules}
+use Rattle.words.proofs.Choices.{yes_if, no_if}
+use Rattle.lines.specs.Answers.{trace_of}
+use Rattle.lines.proofs.Map.trace.Goals as goal
+
+pub returns-then-keeps_rules : goal.returns-then-keeps_rules
+unfolding trace_of
+returns-then-keeps_rules c = c.traced.ensures ∙ sym (yes_if _ _ _ (cc))
+
+pub returns : goal.returns
+unfolding trace_of
+returns c = (cc) ∙ sym (no_if _ _ _ (cc) refl)

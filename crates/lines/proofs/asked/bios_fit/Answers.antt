@@ -1,0 +1,27 @@
+-- `asked::bios_fit` tests every BIO.
+use mathlib.Core.Path.{refl}
+use mathlib.Core.Bool.{◌&&◌}
+use lib.Dec.{eqb}
+use lib.ListN.{take, drop}
+use Prim.Native.Nat.{◌-◌}
+use native.Mathlib.Omega.{arith}
+use borrow.Author.Rules.{rules}
+use Rattle.words.proofs.Searches.{Testing, test_next, test_over}
+use Rattle.kinds.specs.Ranges.{bio_field, pins_fit}
+use Rattle.words.proofs.Turns.{Turn, element, next_turn, no_turn}
+use Rattle.lines.specs.Rules.{bios_fit}
+use Rattle.lines.proofs.asked.bios_fit.Goals as goal
+
+pub loop-i-init : goal.loop-i-init
+unfolding bios_fit
+loop-i-init c = (record { within = search rules; fits = search rules }, record { gives = refl })
+
+pub loop-i-preserved : goal.loop-i-preserved
+loop-i-preserved c =
+    let l = c.loop-i.invariant in
+    (next_turn l.0 (omega arith), rw (c.bio_field.ensures, c.pins_fit.ensures) (test_next l.1 (element l.0 _ (omega arith))))
+
+pub returns : goal.returns
+returns c =
+    let l = c.loop-i.invariant in
+    test_over l.1 (no_turn l.0 (omega arith))

@@ -1,0 +1,32 @@
+-- `quiet::eios_quiet` tests each EIO with the LIO and with the later EIO.
+use mathlib.Core.Path.{refl}
+use lib.ListN.{take, drop}
+use Prim.Native.Nat.{◌-◌}
+use native.Mathlib.Omega.{arith}
+use borrow.Author.Rules.{rules}
+use Rattle.words.proofs.Turns.{Turn, element, next_turn, no_turn}
+use Rattle.clashes.specs.Apart.{apart}
+use Rattle.parts.specs.Claims.{eio_claim}
+use Rattle.lines.specs.Quiet.{eios_quiet}
+use Rattle.lines.proofs.Stilling.{Stilling, still_next, still_last, still_over}
+use Rattle.lines.proofs.quiet.eios_quiet.Goals as goal
+
+pub loop-i-init : goal.loop-i-init
+unfolding eios_quiet
+loop-i-init c = (record { within = search rules; fits = search rules }, record { gives = refl })
+
+pub loop-i-preserved-then-i-n : goal.loop-i-preserved-then-i-n
+loop-i-preserved-then-i-n c =
+    let l = c.loop-i.invariant in
+    (next_turn l.0 (omega arith), rw (c.far_from_eios-still.ensures, c.are_apart-still.ensures, c.eio_claim-x.ensures) (still_next l.1 (element l.0 _ (omega arith)) refl))
+
+pub loop-i-preserved : goal.loop-i-preserved
+loop-i-preserved c =
+    let l = c.loop-i.invariant in
+    let t = next_turn l.0 (omega arith) in
+    (t, rw (c.are_apart-still.ensures, c.eio_claim-x.ensures) (still_last l.1 (element l.0 _ (omega arith)) (no_turn t (omega arith)) refl))
+
+pub returns : goal.returns
+returns c =
+    let l = c.loop-i.invariant in
+    still_over l.1 (no_turn l.0 (omega arith))

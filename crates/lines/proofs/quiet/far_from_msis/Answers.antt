@@ -1,0 +1,26 @@
+-- `quiet::far_from_msis` tests every MSI from one on.
+use mathlib.Core.Path.{refl}
+use lib.ListN.{take, drop}
+use Prim.Native.Nat.{◌-◌}
+use native.Mathlib.Omega.{arith}
+use borrow.Author.Rules.{rules}
+use Rattle.words.proofs.Searches.{Testing, test_next, test_over}
+use Rattle.clashes.specs.Apart.{apart}
+use Rattle.words.proofs.Turns.{Turn, element, next_turn, no_turn}
+use Rattle.parts.specs.Claims.{msi_claim}
+use Rattle.lines.specs.Quiet.{far_from}
+use Rattle.lines.proofs.quiet.far_from_msis.Goals as goal
+
+pub loop-i-init : goal.loop-i-init
+unfolding far_from
+loop-i-init c = (record { within = search rules; fits = search rules }, record { gives = refl })
+
+pub loop-i-preserved : goal.loop-i-preserved
+loop-i-preserved c =
+    let l = c.loop-i.invariant in
+    (next_turn l.0 (omega arith), rw (c.are_apart-far.ensures, c.msi_claim.ensures) (test_next l.1 (element l.0 _ (omega arith))))
+
+pub returns : goal.returns
+returns c =
+    let l = c.loop-i.invariant in
+    test_over l.1 (no_turn l.0 (omega arith))

@@ -1,0 +1,12 @@
+-- `rules::or_else` is the first of two verdicts that refuses.
+use borrow.Author.Rules.{rules}
+use Rattle.words.specs.Refusals.{unless}
+use Rattle.lines.proofs.rules.or_else.Goals as goal
+
+pub returns-in-Sound : goal.returns-in-Sound
+unfolding unless
+returns-in-Sound c = rw c.enum_told-1.given.1
+
+pub returns-in-Refused : goal.returns-in-Refused
+unfolding unless
+returns-in-Refused c = rw c.first-1.given.1

@@ -1,0 +1,9 @@
+-- `Found::nothing` is nothing found.
+use Rattle.words.specs.Lists.{those}
+use Rattle.madt.specs.Contents.{enabled_cores, found_in}
+use borrow.Author.Rules.{rules}
+use Rattle.madt.proofs.Found.nothing.Goals as goal
+
+pub returns : goal.returns
+unfolding found_in enabled_cores those
+returns c = rw (c.no_places-places.ensures, c.no_map-map.ensures (λ id. 0))

@@ -1,0 +1,28 @@
+-- `reading::answer_list` fills the list where it has room, and refuses 60 otherwise.
+use mathlib.Core.Path.{ap, sym, ◌∙◌}
+use Prim.Native.Nat.{ℕ}
+use Rattle.processors.proofs.Filling.{no_room_told, whole_told}
+use Rattle.processors.proofs.ReadAgain.{same_entries, same_count}
+use Rattle.reading.specs.Reading.{without_map}
+use Rattle.reading.specs.declared.Answer.TheVariants.{Read}
+use Rattle.reading.proofs.Laws.{answered_read, answered_60}
+use borrow.Author.Rules.{rules}
+use Rattle.reading.proofs.answer_list.Goals as goal
+
+pub returns-in-NoRoom : goal.returns-in-NoRoom
+returns-in-NoRoom c =
+    let f = c in
+    let start = f in
+    let same = same_entries start.args.table.now start.args.offsets.now start.requires in
+    let room = no_room_told _ _ _ (sym f.fill.ensures.0 ∙ c.enum_told-1.given.1) in
+    (c.without_map.ensures ∙ ap without_map c.refuse.ensures ∙ sym (answered_60 _ _ _ (rw same at room)), rw same at f.fill.ensures.1)
+
+pub returns-in-Whole : goal.returns-in-Whole
+returns-in-Whole c =
+    let f = c in
+    let start = f in
+    let a = start.args in
+    let same = same_entries a.table.now a.offsets.now start.requires in
+    let many = same_count a.table.now a.offsets.now start.requires in
+    let room = whole_told _ _ _ (sym f.fill.ensures.0 ∙ c.processors-1.given.1) in
+    (ap (λ (n : ℕ). record { answer = Read n; map = a.map }) (room.1 ∙ many) ∙ sym (answered_read _ _ _ (rw same at room.0)), rw same at f.fill.ensures.1)

@@ -1,0 +1,30 @@
+-- `reading::rules_after_walk` gives 39, then 40 to 54.
+use mathlib.Core.Path.{ap, sym, ◌∙◌}
+use Rattle.words.specs.Refusals.{first_refusal}
+use Rattle.words.proofs.Verdicts.{unless-refused, unless_sound}
+use Rattle.reading.specs.Scan.{processor_rule}
+use Rattle.reading.proofs.Laws.{map_judged}
+use borrow.Author.Rules.{rules}
+use Rattle.reading.proofs.rules_after_walk.Goals as goal
+
+pub returns-in-Refused : goal.returns-in-Refused
+unfolding first_refusal
+returns-in-Refused c = sym (unless-refused _ _ _ (sym c.check_repeats.ensures ∙ c.refusal-1.given.1))
+
+pub returns-in-Refused-check_processors : goal.returns-in-Refused-check_processors
+unfolding first_refusal
+returns-in-Refused-check_processors c =
+    let start = c in
+    let told = c.check_processors.ensures ∙ ap (processor_rule start.args.t.madt-1.place) start.requires.1.0 in
+    sym (unless_sound _ _ _ (sym c.check_repeats.ensures ∙ c.enum_told-1.given.1)
+    ∙ unless-refused _ _ _ (sym told ∙ c.refusal-in-Refused-check_processors-1.given.1))
+
+pub returns-in-Sound-check_processors : goal.returns-in-Sound-check_processors
+unfolding first_refusal
+returns-in-Sound-check_processors c =
+    let start = c in
+    let told = c.check_processors.ensures ∙ ap (processor_rule start.args.t.madt-1.place) start.requires.1.0 in
+    c.first_broken.ensures
+    ∙ map_judged _ _ _ _ start.requires.1.1
+    ∙ sym (unless_sound _ _ _ (sym c.check_repeats.ensures ∙ c.enum_told-1.given.1)
+    ∙ unless_sound _ _ _ (sym told ∙ c.enum_told-in-Sound-check_processors-1.given.1))

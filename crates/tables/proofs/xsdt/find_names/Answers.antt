@@ -1,0 +1,57 @@
+-- `tables::find_names` gives the refusal of the first entry that has one; where none has, what it knows in the end is what the
+-- finder finds.
+use Prim.Native.Nat.{ℕ, ◌-◌, ◌<◌}
+use mathlib.Core.Path.{◌≡◌, ap, ap₂, sym, ◌∙◌}
+use native.Mathlib.Omega.{arith}
+use lib.Dec.{eqb}
+use Rattle.words.specs.Bytes.{spelled}
+use Rattle.words.specs.Lists.{numbers_from}
+use Rattle.words.specs.Refusals.{first_refusal}
+use Rattle.words.proofs.Searches.{next_number, no_number}
+use Rattle.words.proofs.Verdicts.{unless-refused, unless_sound, Asking, ask_refused, ask_kept, ask_over}
+use Rattle.tables.specs.Table.{table_rules, table_at}
+use Rattle.tables.specs.Xsdt.{entry_count, entry_field, entry_rules}
+use Rattle.tables.specs.Survey.{apic, facp}
+use Rattle.tables.specs.Naming.{one_more}
+use Rattle.tables.specs.declared.Names.TheVariants.{Are}
+use Rattle.tables.proofs.Laws.{table_told}
+use Rattle.tables.proofs.Naming.{Noting, note_start, note_checked, note_end, ask_start}
+use borrow.Author.Rules.{rules}
+use Rattle.tables.proofs.xsdt.find_names.Goals as goal
+
+-- the table of the entry that the loop looks at
+looked : (c : tie.After-check-table invariant-loop decreases-loop)
+    → table_at c.args.capture.now (entry_field c.args.xsdt c.loop-entry.entry)
+    ≡ c.check_table.result
+looked c = ap (table_at _) (sym c.entry_field.ensures) ∙ sym c.check_table.ensures
+
+pub loop-entry-init : goal.loop-entry-init
+loop-entry-init c = (ask_start _ _ c.entry_count-n.ensures, note_start _ _ _ c.not_named-none.ensures, note_start _ _ _ c.not_named-none.ensures)
+
+pub returns-in-Refused : goal.returns-in-Refused
+returns-in-Refused c =
+    let t = c in
+    let is = looked t ∙ c.refusal-1.given.1 in
+    let known = t.loop-entry.invariant in
+    sym (unless-refused _ _ _ (ask_refused known.0 (next_number _ _ t.loop-entry-test.true) (table_told _ _ is)))
+
+pub loop-entry-preserved : goal.loop-entry-preserved
+unfolding apic facp spelled
+loop-entry-preserved c =
+    let l = c in
+    let table = c.table-1.given.0.0 in
+    let known = l.loop-entry.invariant in
+    let signed = c.signature_of-letters.ensures in
+    let more = c.loop-entry-test.true in
+    let is = looked c ∙ c.table-1.given.1 in
+    let counted : l.loop-entry.entry < entry_count l.args.xsdt = omega (arith, more, l.entry_count-n.ensures) in (
+      ask_kept known.0 (next_number _ _ more) (table_told _ _ is),
+      note_checked _ _ apic table known.1 counted is (c.noted-madt.ensures ∙ ap (λ (n : ℕ). one_more l.loop-entry.madt (eqb n apic) table l.loop-entry.entry) signed),
+      note_checked _ _ facp table known.2 counted is (c.noted-fadt.ensures ∙ ap (λ (n : ℕ). one_more l.loop-entry.fadt (eqb n facp) table l.loop-entry.entry) signed),
+    )
+
+pub returns : goal.returns
+returns c =
+    let known = c.loop-entry.invariant in
+    ap₂ Are (note_end _ _ _ known.1 (omega arith)) (note_end _ _ _ known.2 (omega arith))
+    ∙ sym (unless_sound _ _ _ (ask_over known.0 (no_number _ _ c.loop-entry-test.false)))

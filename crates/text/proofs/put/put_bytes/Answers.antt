@@ -1,0 +1,21 @@
+-- `put_bytes` writes one byte behind the other.
+use Prim.Native.Nat.{◌-◌}
+use lib.ListN.{length, drop}
+use Rattle.text.proofs.Printing.{Printing, begin, ahead, next, over, next_byte, none_in}
+use borrow.Author.Rules.{rules}
+use Rattle.text.proofs.put.put_bytes.Goals as goal
+
+pub loop-i-init : goal.loop-i-init
+loop-i-init c = begin _ _ _ c.requires
+
+pub put_byte-end-requires : goal.put_byte-end-requires
+put_byte-end-requires c = ahead c.loop-i.invariant (next_byte _ _ c.loop-i-test.true)
+
+pub loop-i-preserved : goal.loop-i-preserved
+loop-i-preserved c = next c.loop-i.invariant (next_byte _ _ c.loop-i-test.true) c.put_byte-end.ensures
+
+pub shape_of-room : goal.shape_of-room
+shape_of-room c = c.loop-i.invariant.same
+
+pub returns : goal.returns
+returns c = over c.loop-i.invariant (none_in _ _ c.loop-i-test.false)
