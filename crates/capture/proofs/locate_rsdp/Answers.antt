@@ -5,7 +5,6 @@ use Rattle.capture.specs.Fields.{rsdp_address}
 use Rattle.capture.specs.Reach.{reached}
 use Rattle.capture.specs.declared.Root.TheVariants.{Refused}
 use Rattle.capture.proofs.Room.{rsdp_present, rsdp_absent, rsdp_small}
-use borrow.Author.Rules.{rules}
 use Rattle.capture.proofs.locate_rsdp.Goals as goal
 
 -- what was found at the RSDP's address

@@ -1,16 +1,16 @@
 -- `capture::room_of_run` goes along the run, as far as each segment starts at the end of the one before it.
 use mathlib.Core.List.{List}
 use mathlib.Core.Path.{◌≡◌, refl, sym, ◌∙◌}
-use Prim.Native.Nat.{ℕ, ◌+◌, ◌-◌, ◌*◌, ◌≤◌, ◌<◌}
+use Prim.Native.Nat.{ℕ, ◌+◌, ◌-◌}
 use native.Mathlib.Omega.{arith}
 use lib.Dec.{eqb}
 use lib.ListN.{length}
 use lib.Seq.{take_all}
 use Rattle.words.specs.Bytes.{part_at}
-use Rattle.capture.specs.Fields.{descriptor, descriptors_end, segment_count, segment_address, segment_length}
+use Rattle.capture.specs.Fields.{descriptor, descriptors_end, segment_address}
 use Rattle.capture.specs.Presence.{run_end}
 use Rattle.capture.proofs.Head.{same_descriptor, descriptor_small, head_reads, head_over}
-use Rattle.capture.proofs.Runs.{Along, along_on, along_gap, along_end}
+use Rattle.capture.proofs.Runs.{along_on, along_gap, along_end}
 use borrow.Author.Rules.{rules}
 use Rattle.capture.proofs.room_of_run.Goals as goal
 

@@ -1,7 +1,6 @@
 -- `tables::earlier_of` goes by the two entries' cases.
 use mathlib.Core.Path.{sym}
 use Rattle.tables.proofs.Laws.{earlier_none, earlier_only, earlier-first, earlier_other}
-use borrow.Author.Rules.{rules}
 use Rattle.tables.proofs.earlier_of.Goals as goal
 
 pub returns-in_default : goal.returns-in_default

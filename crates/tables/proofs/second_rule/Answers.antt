@@ -3,7 +3,6 @@ use mathlib.Core.Path.{ap, sym, ◌∙◌}
 use Rattle.words.specs.Refusals.{refused}
 use Rattle.words.specs.declared.Verdict.TheVariants.{Refused}
 use Rattle.tables.proofs.Laws.{second_sound, second_refused}
-use borrow.Author.Rules.{rules}
 use Rattle.tables.proofs.second_rule.Goals as goal
 
 pub returns-in-Nowhere : goal.returns-in-Nowhere

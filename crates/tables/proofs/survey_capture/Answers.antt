@@ -2,7 +2,6 @@
 use mathlib.Core.Path.{sym, ◌∙◌}
 use Rattle.capture.proofs.Within.{rsdp_of_sound}
 use Rattle.tables.proofs.Laws.{survey-refused, survey-at}
-use borrow.Author.Rules.{rules}
 use Rattle.tables.proofs.survey_capture.Goals as goal
 
 pub survey_rsdp-requires : goal.survey_rsdp-requires

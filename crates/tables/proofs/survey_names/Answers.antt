@@ -4,7 +4,6 @@ use Rattle.tables.specs.Survey.{name_rules}
 use Rattle.tables.specs.declared.Survey.TheVariants.{Refused}
 use Rattle.words.proofs.Verdicts.{joined-refused, joined_sound}
 use Rattle.tables.proofs.Naming.{names_26, names_27, names_tables}
-use borrow.Author.Rules.{rules}
 use Rattle.tables.proofs.survey_names.Goals as goal
 
 pub returns-then-is_nowhere : goal.returns-then-is_nowhere

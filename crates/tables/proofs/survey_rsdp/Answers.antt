@@ -4,7 +4,6 @@ use Rattle.words.proofs.Verdicts.{joined-refused, joined_sound}
 use Rattle.tables.specs.Rsdp.{rsdp_rules, xsdt_field}
 use Rattle.tables.specs.Table.{table_rules}
 use Rattle.tables.proofs.Laws.{table_told, table_is}
-use borrow.Author.Rules.{rules}
 use Rattle.tables.proofs.survey_rsdp.Goals as goal
 
 pub returns-in-Refused : goal.returns-in-Refused

@@ -3,7 +3,6 @@ use mathlib.Core.Path.{sym, ◌∙◌}
 use Rattle.tables.specs.Xsdt.{xsdt_rules, entry_rules}
 use Rattle.words.proofs.Verdicts.{joined-refused, joined_sound}
 use Rattle.tables.proofs.Naming.{names-told, are_told}
-use borrow.Author.Rules.{rules}
 use Rattle.tables.proofs.survey_xsdt.Goals as goal
 
 pub survey_names-requires : goal.survey_names-requires

@@ -1,7 +1,6 @@
 -- `tables::wrong_madt_revision` is refusal 29, by the reading's strictness.
 use mathlib.Core.Path.{sym}
 use Rattle.tables.proofs.Laws.{revision_ordinary, revision_strict}
-use borrow.Author.Rules.{rules}
 use Rattle.tables.proofs.wrong_madt_revision.Goals as goal
 
 pub returns-in-Ordinary : goal.returns-in-Ordinary

@@ -5,7 +5,6 @@ use Rattle.capture.specs.Reach.{reached}
 use Rattle.tables.specs.Table.{address_at}
 use Rattle.tables.specs.declared.Checked.TheVariants.{Refused}
 use Rattle.tables.proofs.Whole.{table_20, table_within_lem, place_small, room_small}
-use borrow.Author.Rules.{rules}
 use Rattle.tables.proofs.headers.check_table.Goals as goal
 
 -- what was found at the table's address

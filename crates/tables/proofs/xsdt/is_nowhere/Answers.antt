@@ -1,6 +1,5 @@
 -- `tables::is_nowhere` goes by the entry's two cases.
 use Rattle.tables.specs.Survey.{is_nowhere}
-use borrow.Author.Rules.{rules}
 use Rattle.tables.proofs.xsdt.is_nowhere.Goals as goal
 
 pub returns-in-Nowhere : goal.returns-in-Nowhere
