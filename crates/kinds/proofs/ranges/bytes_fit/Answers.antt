@@ -13,7 +13,7 @@ use Rattle.kinds.proofs.ranges.bytes_fit.Goals as goal
 
 pub loop-i-init : goal.loop-i-init
 loop-i-init c =
-    let bytes = c.args.t1 in
+    let bytes = c.args.bytes in
     let eight : length bytes ≡ 8 = search rules in
     (record { within = search rules; fits = omega arith }, record { gives = ap (every byte_fits) (take_all 8 bytes (omega arith)) })
 
