@@ -1,5 +1,4 @@
 -- `at_both` names two structures that clash.
-use borrow.Author.Rules.{rules}
 use Rattle.clashes.specs.Told.{at_both}
 use Rattle.clashes.proofs.at_both.Goals as goal
 

@@ -1,5 +1,4 @@
 -- `at_later` names the later of two structures that clash.
-use borrow.Author.Rules.{rules}
 use Rattle.clashes.specs.Told.{at_later}
 use Rattle.clashes.proofs.at_later.Goals as goal
 

@@ -1,5 +1,4 @@
 -- `at_spot` names the structure at a spot.
-use borrow.Author.Rules.{rules}
 use Rattle.clashes.specs.Told.{spotted}
 use Rattle.clashes.proofs.at_spot.Goals as goal
 

@@ -1,6 +1,5 @@
 -- `clashes::better_of` keeps the structure that stands first.
 use borrow.Author.Tests.{lt-ltb, le-ltb}
-use borrow.Author.Rules.{rules}
 use Rattle.words.specs.Choice.{if}
 use Rattle.clashes.specs.Search.{better}
 use Rattle.clashes.proofs.better_of.Goals as goal

@@ -2,7 +2,6 @@
 use mathlib.Core.Path.{sym, ◌∙◌, refl}
 use borrow.Author.Tests.{eq-eqb, ne_eqb}
 use native.Mathlib.Omega.{arith}
-use borrow.Author.Rules.{rules}
 use Rattle.words.proofs.Choices.{yes_if, no_if}
 use Rattle.clashes.specs.Rules.{clash}
 use Rattle.clashes.proofs.clashing.Goals as goal

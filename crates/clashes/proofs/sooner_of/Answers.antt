@@ -1,6 +1,5 @@
 -- `clashes::sooner_of` is the earlier of two places.
 use borrow.Author.Tests.{lt-ltb, le-ltb}
-use borrow.Author.Rules.{rules}
 use Rattle.words.specs.Choice.{if}
 use Rattle.clashes.specs.Search.{sooner}
 use Rattle.clashes.proofs.sooner_of.Goals as goal
