@@ -13,7 +13,7 @@ use Rattle.parts.proofs.all_wired.Goals as goal
 
 pub loop-n-init : goal.loop-n-init
 loop-n-init c =
-    let bytes = c.args.t2 in
+    let bytes = c.args.bytes in
     let eight : length bytes ≡ 8 = search rules in
     (record { within = search rules; fits = omega arith }, record { gives = ap (every (wired c.args.lio)) (take_all 8 bytes (omega arith)) })
 

@@ -14,7 +14,7 @@ use Rattle.parts.proofs.none_names.Goals as goal
 
 pub loop-n-init : goal.loop-n-init
 loop-n-init c =
-    let bytes = c.args.t1 in
+    let bytes = c.args.bytes in
     let eight : length bytes ≡ 8 = search rules in
     (record { within = search rules; fits = omega arith }, record { gives = ap (every (λ b. not (eqb b c.args.i))) (take_all 8 bytes (omega arith)) })
 
