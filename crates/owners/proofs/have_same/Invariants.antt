@@ -11,7 +11,7 @@ use Rattle.clashes.proofs.Arrays.{length_mapped}
 use Rattle.owners.specs.Table.{owner_in, same_owner, same_table}
 use Rattle.owners.specs.declared.Entry.{Entry}
 use Rattle.owners.specs.declared.OwnerTable.{OwnerTable}
-use Rattle.owners.proofs.Entries.{owner_at}
+use Rattle.owners.proofs.Entries.{of}
 use Rattle.owners.proofs.have_same.Given as goal
 
 abbrev pub invariant-loop-i : goal.invariant-loop-i

@@ -64,7 +64,7 @@ four-bios s = search (rules, length_mapped)
 four-msis : (s : tie.Start) → length s.args.map.msis-1 ≡ 4
 four-msis s = search (rules, length_mapped)
 
-nothing-told : (v : tie.After-put-version-arg) → Told v 0 (start v).args.room-1.now 0
+nothing-told : (v : tie.After-put-version-arg) → Told v 0 (start v).args.room.now 0
 unfolding map_text
 nothing-told v = let s = start v in begin _ _ _ (map-fits _ _ _ s.pre (eight-bytes s) (four-eios s) (four-bios s) (four-msis s))
 

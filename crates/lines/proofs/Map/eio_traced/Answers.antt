@@ -20,8 +20,8 @@ use Rattle.lines.proofs.Map.eio_traced.Goals as goal
 pub loop-i-init : goal.loop-i-init
 loop-i-init c =
     let map = c.args.self in
-    let held : length map.eios-1 ≡ 4 = search (rules, length_mapped) in
-    let used = take-used map.eios-1 map.eiocount _ held c.used-n.ensures.1 in
+    let held : length map.eios ≡ 4 = search (rules, length_mapped) in
+    let used = take-used map.eios map.eiocount _ held c.used-n.ensures.value in
     let none = ht_present map.ht ∙ c.requires in
     (record { within = search rules; fits = search rules }, record { gives = rw used (traced-eios (says map) _ _ none) })
 

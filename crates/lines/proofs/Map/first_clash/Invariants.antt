@@ -14,7 +14,7 @@ use Rattle.lines.proofs.Map.first_clash.Given as goal
 abbrev pub invariant-loop-i : goal.invariant-loop-i
 invariant-loop-i l =
     (l.i ≤ l.n)
-    × Folding (λ l.best x. better l.best x.place (partner l.rule x (claims (says l.self) l.places))) (first_clash l.rule (claims (says l.self) l.places))
+    × Folding (λ best x. better best x.place (partner l.rule x (claims (says l.self) l.places))) (first_clash l.rule (claims (says l.self) l.places))
     (drop l.i (claims (says l.self) l.places)) l.best
 
 abbrev pub decreases-loop-i : goal.decreases-loop-i

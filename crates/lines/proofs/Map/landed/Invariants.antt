@@ -17,7 +17,7 @@ use Rattle.lines.proofs.Map.landed.Given as goal
 abbrev pub invariant-loop-i : goal.invariant-loop-i
 invariant-loop-i l =
     Turn l.bios l.n l.i
-    × Searching (has_pin l.node l.vector) (pin_told (says l.self).lpc l.vector) (slot_told (says l.self).msis-1 l.node l.vector) (landed (says l.self) l.node l.vector) (drop l.i (take l.n l.bios))
+    × Searching (has_pin l.node l.vector) (pin_told (says l.self).lpc l.vector) (slot_told (says l.self).msis l.node l.vector) (landed (says l.self) l.node l.vector) (drop l.i (take l.n l.bios))
 
 abbrev pub decreases-loop-i : goal.decreases-loop-i
 decreases-loop-i l = l.n - l.i

@@ -12,8 +12,8 @@ use Rattle.parts.proofs.Inputs.{leads_small}
 use Rattle.lines.specs.Traces.{led_by_lio, traced}
 use Rattle.lines.proofs.Map.traced.Goals as goal
 
--- ??? overflow-add-t7
-add-t7 c =
+pub overflow_add-result : goal.overflow_add-result
+overflow_add-result c =
     let lio = c.said_lio.result in
     let ht = c.said_ht-ht.result in
     let a = c.args in

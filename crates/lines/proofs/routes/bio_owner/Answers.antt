@@ -21,7 +21,7 @@ input_of-requires c = sym c.owns_number.ensures ∙ c.if-owns_number.true
 pub returns-then-owns_number : goal.returns-then-owns_number
 returns-then-owns_number c =
     let l = c.loop-i.invariant in
-    rw c.Input-of.ensures
+    rw c.input_of.ensures
     (search_hit l.1 (element l.0 _ (omega arith)) (sym c.owns_number.ensures ∙ c.if-owns_number.true))
 
 pub loop-i-preserved : goal.loop-i-preserved

@@ -5,8 +5,8 @@ use Rattle.lines.proofs.rules.or_else.Goals as goal
 
 pub returns-in-Sound : goal.returns-in-Sound
 unfolding unless
-returns-in-Sound c = rw c.enum_told-1.given.1
+returns-in-Sound c = rw c.in-Sound.is
 
 pub returns-in-Refused : goal.returns-in-Refused
 unfolding unless
-returns-in-Refused c = rw c.first-1.given.1
+returns-in-Refused c = rw c.in-Refused.is

@@ -7,17 +7,17 @@ use Rattle.text.proofs.put.put_field.Goals as goal
 pub put_byte-end-requires : goal.put_byte-end-requires
 put_byte-end-requires c =
     let a = c in
-    let p = begin (field a.args.number) a.args.room-1.now a.args.n a.requires in
+    let p = begin (field a.args.number) a.args.room.now a.args.n a.requires in
     ahead p (field_split _)
 
 pub put_decimal-requires : goal.put_decimal-requires
 put_decimal-requires c =
     let a = c in
-    let p = begin (field a.args.number) a.args.room-1.now a.args.n a.requires in
+    let p = begin (field a.args.number) a.args.room.now a.args.n a.requires in
     (next p (field_split _) c.put_byte-end.ensures).fits
 
 pub returns : goal.returns
 returns c =
     let a = c in
-    let p = begin (field a.args.number) a.args.room-1.now a.args.n a.requires in
+    let p = begin (field a.args.number) a.args.room.now a.args.n a.requires in
     done (next p (field_split _) c.put_byte-end.ensures) c.put_decimal.ensures

@@ -22,19 +22,19 @@ pub put_phrase-end-requires : goal.put_phrase-end-requires
 unfolding letters
 put_phrase-end-requires c =
     let a = c in
-    let p = begin (places_line a.args.place a.args.second) a.args.room-1.now a.args.n a.requires in
+    let p = begin (places_line a.args.place a.args.second) a.args.room.now a.args.n a.requires in
     ahead p (places_split a.args.place a.args.second c.if-second-eq0.false)
 
 pub put_line-requires-2 : goal.put_line-requires-2
 unfolding letters
 put_line-requires-2 c =
     let a = c in
-    let p = begin (places_line a.args.place a.args.second) a.args.room-1.now a.args.n a.requires in
+    let p = begin (places_line a.args.place a.args.second) a.args.room.now a.args.n a.requires in
     (next p (places_split a.args.place a.args.second c.if-second-eq0.false) c.put_phrase-end.ensures).fits
 
 pub returns : goal.returns
 unfolding letters
 returns c =
     let a = c in
-    let p = begin (places_line a.args.place a.args.second) a.args.room-1.now a.args.n a.requires in
+    let p = begin (places_line a.args.place a.args.second) a.args.room.now a.args.n a.requires in
     done (next p (places_split a.args.place a.args.second c.if-second-eq0.false) c.put_phrase-end.ensures) c.put_line-2.ensures
