@@ -1,5 +1,4 @@
 -- `owners::in_parts` goes by the owner's kind.
-use borrow.Author.Rules.{rules}
 use Rattle.owners.specs.Table.{in_parts}
 use Rattle.owners.proofs.in_parts.Goals as goal
 

@@ -1,6 +1,5 @@
 -- `owners::look_up`: 61, then 63, then whose the number is.
 use mathlib.Core.Path.{sym, ap, ◌∙◌}
-use borrow.Author.Rules.{rules}
 use Rattle.owners.specs.Table.{same_table}
 use Rattle.owners.proofs.Calls.{refused_61, refused_63, told_so}
 use Rattle.owners.proofs.look_up.Goals as goal

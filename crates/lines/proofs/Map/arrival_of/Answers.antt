@@ -1,5 +1,4 @@
 -- `Map::arrival_of` goes by the owner's kind.
-use borrow.Author.Rules.{rules}
 use Rattle.lines.specs.Routes.{arrival_of}
 use Rattle.lines.proofs.Map.arrival_of.Goals as goal
 

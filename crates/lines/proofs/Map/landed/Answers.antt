@@ -1,16 +1,13 @@
 -- `Map::landed` searches the BIO of the node, then the MSI.
 use mathlib.Core.Path.{◌≡◌, sym, ◌∙◌, ap}
-use lib.ListN.{length, take, drop}
-use Prim.Native.Nat.{◌-◌}
+use lib.ListN.{length}
 use native.Mathlib.Omega.{arith}
 use borrow.Author.Rules.{rules}
-use Rattle.words.proofs.Searches.{Searching, search_hit, search_miss, search_over}
+use Rattle.words.proofs.Searches.{search_hit, search_miss, search_over}
 use Rattle.clashes.proofs.Arrays.{length_mapped}
-use Rattle.words.proofs.Turns.{Turn, element, next_turn, no_turn}
-use Rattle.parts.specs.Inputs.{has_pin}
+use Rattle.words.proofs.Turns.{element, next_turn, no_turn}
 use Rattle.parts.proofs.Inputs.{pin_small}
-use Rattle.lines.specs.Says.{says}
-use Rattle.lines.specs.Traces.{pin_told, slot_told, landed}
+use Rattle.lines.specs.Traces.{slot_told, landed}
 use Rattle.lines.proofs.Counts.{take-used}
 use Rattle.lines.proofs.Map.landed.Goals as goal
 

@@ -1,6 +1,5 @@
 -- `Map::route_each`: 61, then 62, then the answers.
 use mathlib.Core.Path.{sym, ◌∙◌}
-use borrow.Author.Rules.{rules}
 use Rattle.lines.proofs.AtOnce.{first_of_two, may_answer, left_alone, all_written}
 use Rattle.lines.proofs.Map.route_each.Goals as goal
 

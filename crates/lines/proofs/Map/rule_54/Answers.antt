@@ -2,7 +2,6 @@
 use Prim.Native.Nat.{ℕ}
 use mathlib.Core.Path.{◌≡◌, refl}
 use mathlib.Core.Bool.{true}
-use borrow.Author.Rules.{rules}
 use Rattle.words.specs.Choice.{if}
 use Rattle.lines.specs.Rules.{lost}
 use Rattle.lines.specs.declared.Route.{Route}

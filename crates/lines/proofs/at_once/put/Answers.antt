@@ -1,5 +1,4 @@
 -- `put` stores the three numbers of each kind of answer, and nothing of a refusal.
-use borrow.Author.Rules.{rules}
 use Rattle.lines.specs.Answers.{in_numbers}
 use Rattle.lines.specs.AtOnce.{triple_of}
 use Rattle.lines.proofs.at_once.put.Goals as goal

@@ -1,5 +1,4 @@
 -- `codes::route_code` codes each case.
-use borrow.Author.Rules.{rules}
 use Rattle.lines.specs.Answers.{in_numbers, route_code}
 use Rattle.lines.proofs.codes.route_code.Goals as goal
 

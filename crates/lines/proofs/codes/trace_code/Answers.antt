@@ -1,5 +1,4 @@
 -- `codes::trace_code` codes each case.
-use borrow.Author.Rules.{rules}
 use Rattle.lines.specs.Answers.{trace_code}
 use Rattle.lines.proofs.codes.trace_code.Goals as goal
 

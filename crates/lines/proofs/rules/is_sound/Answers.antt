@@ -1,5 +1,4 @@
 -- `rules::is_sound` tells the two verdicts apart.
-use borrow.Author.Rules.{rules}
 use Rattle.words.specs.Refusals.{is_sound}
 use Rattle.lines.proofs.rules.is_sound.Goals as goal
 

@@ -1,5 +1,4 @@
 -- `rules::or_else` is the first of two verdicts that refuses.
-use borrow.Author.Rules.{rules}
 use Rattle.words.specs.Refusals.{unless}
 use Rattle.lines.proofs.rules.or_else.Goals as goal
 
