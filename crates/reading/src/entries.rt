@@ -1,6 +1,6 @@
-// The C entries: plain numbers and byte slices in, one number of 64 bits out. include/yasmirand.h declares them. They give the
-// strict reading. The map of a capture that the scan accepts keeps all rules (proofs/AcceptedKeepsRules), so that its answers are had
-// without 61.
+// The C entries: plain numbers and byte slices in, one number of 64 bits out. The crate reading_c exports them under these names, and
+// include/yasmirand.h declares them. They give the strict reading. The map of a capture that the scan accepts keeps all rules
+// (proofs/AcceptedKeepsRules), so that its answers are had without 61.
 ghost use Rattle.std.specs.Prelude.{◌≡◌, length, take};
 ghost use Rattle.processors.specs.Image.{image};
 ghost use Rattle.words.specs.Rooms.{filled};
@@ -50,8 +50,7 @@ fn read_code(answer: Answer) -> u64
 
 // The reading: UID and physical ID of each enabled processor are written to the front of the list, in table order, each as
 // four little-endian bytes. The result is their count, or refusal number × 2^48 + place; a refusal leaves the list as it was.
-#[unsafe(no_mangle)]
-pub extern "C" fn yasmirand_read(capture: &[u8], list: &mut [u8]) -> u64
+pub fn yasmirand_read(capture: &[u8], list: &mut [u8]) -> u64
     ensures value { result ≡ read_result capture.now list.old }
     ensures list_after { list.new ≡ bytes_after capture.now list.old }
 {
@@ -70,8 +69,7 @@ pub extern "C" fn yasmirand_read(capture: &[u8], list: &mut [u8]) -> u64
 }
 
 // Where a global number arrives: kind × 2^40 + vector × 2^32 + number, or refusal number × 2^48 + place.
-#[unsafe(no_mangle)]
-pub extern "C" fn yasmirand_route(capture: &[u8], number: u32) -> u64
+pub fn yasmirand_route(capture: &[u8], number: u32) -> u64
     ensures { result ≡ route_result capture.now number }
 {
     let mut room = [0u16; madt::ROOM];
@@ -86,8 +84,7 @@ pub extern "C" fn yasmirand_route(capture: &[u8], number: u32) -> u64
 }
 
 // What arrives at a core vector with a number: kind × 2^40 + node × 2^32 + value, or refusal number × 2^48 + place.
-#[unsafe(no_mangle)]
-pub extern "C" fn yasmirand_trace(capture: &[u8], vector: u32, number: u32) -> u64
+pub fn yasmirand_trace(capture: &[u8], vector: u32, number: u32) -> u64
     ensures { result ≡ trace_result capture.now vector number }
 {
     let mut room = [0u16; madt::ROOM];

@@ -6,84 +6,93 @@ use crate::{
 };
 use lines::{Map, Owner, codes};
 use owners::{Entry, Lookup, NUMBERS, OwnerTable};
+use std::io;
 use tables::Strictness;
 use words::Verdict;
 
-fn say_input(node: u16, v: u16) {
-    say_number(b" bio ", node as u64);
-    say_number(b" ", v as u64);
+fn say_input(rt: &impl Print, node: u16, v: u16) -> io::Result<()> {
+    say_number(rt, b" bio ", node as u64)?;
+    say_number(rt, b" ", v as u64)
 }
 
 // Whose a number is.
-fn say_owner(owner: Owner) {
+fn say_owner(rt: &impl Print, owner: Owner) -> io::Result<()> {
     match owner {
-        Owner::LpcInput => say(b" lpc"),
-        Owner::LioInput(i) => say_number(b" lio ", i as u64),
-        Owner::BioInput(node, v) => say_input(node, v),
-        Owner::Nobody => say(b" nobody"),
+        Owner::LpcInput => say(rt, b" lpc"),
+        Owner::LioInput(i) => say_number(rt, b" lio ", i as u64),
+        Owner::BioInput(node, v) => say_input(rt, node, v),
+        Owner::Nobody => say(rt, b" nobody"),
     }
 }
 
 // Whose a number is, and where it arrives.
-fn say_lookup(lookup: Lookup) {
+fn say_lookup(rt: &impl Print, lookup: Lookup) -> io::Result<()> {
     match lookup {
         Lookup::Told(owner, route) => {
-            say_owner(owner);
-            say_parts(codes::route_code(route));
+            say_owner(rt, owner)?;
+            say_parts(rt, codes::route_code(route))
         }
         Lookup::Refused(refusal) => {
-            say(b" ");
-            say_refusal(refusal);
+            say(rt, b" ")?;
+            say_refusal(rt, refusal)
         }
     }
 }
 
-fn say_filling(verdict: Verdict) {
+fn say_filling(rt: &impl Print, verdict: Verdict) -> io::Result<()> {
     match verdict {
-        Verdict::Sound => say(b"filled"),
-        Verdict::Refused(refusal) => say_refusal(refusal),
+        Verdict::Sound => say(rt, b"filled"),
+        Verdict::Refused(refusal) => say_refusal(rt, refusal),
     }
 }
 
-fn say_lookups(map: Map, table: OwnerTable, numbers: &[u32]) {
+fn say_lookups(rt: &impl Print, map: Map, table: OwnerTable, numbers: &[u32]) -> io::Result<()> {
     let mut i = 0;
     while i < numbers.len() {
-        say_lookup(owners::look_up(map, table, numbers[i]));
+        say_lookup(rt, owners::look_up(map, table, numbers[i]))?;
         i += 1;
     }
+    Ok(())
 }
 
 // Some numbers looked up with the map of a capture, and with the table that the map of the capture ahead of it fills in.
-fn look_up_each(strictness: Strictness, both: &[u8], first: usize, numbers: &[u32]) {
+fn look_up_each(
+    rt: &impl Print,
+    strictness: Strictness,
+    both: &[u8],
+    first: usize,
+    numbers: &[u32],
+) -> io::Result<()> {
     let filling = owners::fill(map_of(strictness, words::part(both, 0, first)));
     let verdict = filling.verdict;
     let table = filling.table;
-    say_filling(verdict);
+    say_filling(rt, verdict)?;
     say_lookups(
+        rt,
         map_of(strictness, words::part(both, first, both.len())),
         table,
         numbers,
-    );
+    )
 }
 
 // Whose a number is by the map, and where it arrives.
-fn say_by_map(map: Map, number: u32) {
+fn say_by_map(rt: &impl Print, map: Map, number: u32) -> io::Result<()> {
     let result = codes::route_code(map.route(number));
     if REFUSALS <= result {
-        say(b" ");
-        say_result(result);
-        return;
+        say(rt, b" ")?;
+        return say_result(rt, result);
     }
-    say_owner(map.owner(number));
-    say_parts(result);
+    say_owner(rt, map.owner(number))?;
+    say_parts(rt, result)
 }
 
-fn ask_map(map: Map, numbers: &[u32]) {
+fn ask_map(rt: &impl Print, map: Map, numbers: &[u32]) -> io::Result<()> {
     let mut i = 0;
     while i < numbers.len() {
-        say_by_map(map, numbers[i]);
+        say_by_map(rt, map, numbers[i])?;
         i += 1;
     }
+    Ok(())
 }
 
 // Another owner: the input beside it, or nobody, or the LPC in nobody's place.
@@ -110,44 +119,60 @@ fn changed(table: OwnerTable, number: u32) -> OwnerTable {
 }
 
 // A number looked up with each of some entries of the map's own table changed, one at a time.
-fn say_changed(map: Map, table: OwnerTable, number: u32, changes: &[u32]) {
+fn say_changed(
+    rt: &impl Print,
+    map: Map,
+    table: OwnerTable,
+    number: u32,
+    changes: &[u32],
+) -> io::Result<()> {
     let mut i = 0;
     while i < changes.len() {
-        say_lookup(owners::look_up(map, changed(table, changes[i]), number));
+        say_lookup(rt, owners::look_up(map, changed(table, changes[i]), number))?;
         i += 1;
     }
+    Ok(())
 }
 
-fn change(map: Map, number: u32, changes: &[u32]) {
+fn change(rt: &impl Print, map: Map, number: u32, changes: &[u32]) -> io::Result<()> {
     let filling = owners::fill(map);
     let verdict = filling.verdict;
     let table = filling.table;
-    say_filling(verdict);
-    say_changed(map, table, number, changes);
+    say_filling(rt, verdict)?;
+    say_changed(rt, map, table, number, changes)
 }
 
-fn ask(kind: u32, strictness: Strictness, bytes: &[u8], first: u32, numbers: &mut [u32]) {
+fn ask(
+    rt: &impl Print,
+    kind: u32,
+    strictness: Strictness,
+    bytes: &[u8],
+    first: u32,
+    numbers: &mut [u32],
+) -> io::Result<()> {
     take_numbers(bytes, numbers);
     let behind = words::part(bytes, NUMBER * numbers.len(), bytes.len());
     match kind {
-        LOOKUP => look_up_each(strictness, behind, first as usize, numbers),
+        LOOKUP => look_up_each(rt, strictness, behind, first as usize, numbers),
         BY_MAP => {
-            say(b"asked");
-            ask_map(map_of(strictness, behind), numbers);
+            say(rt, b"asked")?;
+            ask_map(rt, map_of(strictness, behind), numbers)
         }
-        _ => change(map_of(strictness, behind), first, numbers),
+        _ => change(rt, map_of(strictness, behind), first, numbers),
     }
 }
 
 pub(crate) fn answer_lookups(
+    rt: &impl Print,
     kind: u32,
     strictness: Strictness,
     bytes: &[u8],
     first: u32,
     asked: usize,
-) {
+) -> io::Result<()> {
     let mut numbers = [0u32; MOST_ASKED];
     if asked <= MOST_ASKED {
-        ask(kind, strictness, bytes, first, &mut numbers[..asked]);
+        return ask(rt, kind, strictness, bytes, first, &mut numbers[..asked]);
     }
+    Ok(())
 }

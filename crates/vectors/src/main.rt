@@ -12,9 +12,10 @@
 #![tactic(auto)]
 
 use capture::Root;
-use libc::{STDIN_FILENO, STDOUT_FILENO};
 use lines::{Map, codes};
 use reading::{Answer, Reading};
+use std::io;
+use std::io::Read;
 use tables::{Strictness, Survey, Tables};
 use words::{Refusal, Verdict};
 
@@ -89,64 +90,67 @@ const UNTOUCHED: u32 = 0xA5A5A5A5;
 
 const UNTOUCHED_BYTE: u8 = 0xA5;
 
-fn say(text: &[u8]) {
-    io::write_all(STDOUT_FILENO, text);
+fn say(rt: &impl Print, text: &[u8]) -> io::Result<()> {
+    rt.write_all(text)
 }
 
-fn say_number(text: &[u8], number: u64) {
-    io::write_all(STDOUT_FILENO, text);
-    io::print_decimal(STDOUT_FILENO, number);
+fn say_number(rt: &impl Print, text: &[u8], number: u64) -> io::Result<()> {
+    rt.write_all(text)?;
+    rt.print(number)
 }
 
-fn say_refusal(refusal: Refusal) {
-    say_number(b"refused ", refusal.number as u64);
-    say_number(b" at ", refusal.place as u64);
+fn say_refusal(rt: &impl Print, refusal: Refusal) -> io::Result<()> {
+    say_number(rt, b"refused ", refusal.number as u64)?;
+    say_number(rt, b" at ", refusal.place as u64)?;
     if refusal.second != 0 {
-        say_number(b" with ", refusal.second as u64);
+        say_number(rt, b" with ", refusal.second as u64)?;
     }
+    Ok(())
 }
 
-fn say_label(head: &[u8]) {
-    say(words::part(head, 0, words::u32_at(head, LABEL_LENGTH) as usize));
-    say(b": ");
+fn say_label(rt: &impl Print, head: &[u8]) -> io::Result<()> {
+    say(
+        rt,
+        words::part(head, 0, words::u32_at(head, LABEL_LENGTH) as usize),
+    )?;
+    say(rt, b": ")
 }
 
-fn answer_check(bytes: &[u8]) {
+fn answer_check(rt: &impl Print, bytes: &[u8]) -> io::Result<()> {
     match capture::check(bytes) {
-        Verdict::Sound => say(b"sound"),
-        Verdict::Refused(refusal) => say_refusal(refusal),
+        Verdict::Sound => say(rt, b"sound"),
+        Verdict::Refused(refusal) => say_refusal(rt, refusal),
     }
 }
 
-fn answer_rsdp(bytes: &[u8]) {
+fn answer_rsdp(rt: &impl Print, bytes: &[u8]) -> io::Result<()> {
     match capture::find_rsdp(bytes) {
-        Root::At(place) => say_number(b"RSDP at ", place as u64),
-        Root::Refused(refusal) => say_refusal(refusal),
+        Root::At(place) => say_number(rt, b"RSDP at ", place as u64),
+        Root::Refused(refusal) => say_refusal(rt, refusal),
     }
 }
 
-fn answer_reach(bytes: &[u8], address: u64) {
+fn answer_reach(rt: &impl Print, bytes: &[u8], address: u64) -> io::Result<()> {
     let reach = capture::reach_of(bytes, address);
     if reach.room == 0 {
-        say(b"nowhere");
-        return;
+        return say(rt, b"nowhere");
     }
-    say_number(b"at ", reach.place as u64);
-    say_number(b", room ", reach.room);
+    say_number(rt, b"at ", reach.place as u64)?;
+    say_number(rt, b", room ", reach.room)
 }
 
-fn say_tables(t: Tables) {
-    say_number(b"MADT at ", t.madt.place as u64);
-    say_number(b" of ", t.madt.length as u64);
-    say_number(b", FADT at ", t.fadt.place as u64);
-    say_number(b" of ", t.fadt.length as u64);
-    say_number(b", SCI ", t.sci as u64);
+fn say_tables(rt: &impl Print, t: Tables) -> io::Result<()> {
+    say_number(rt, b"MADT at ", t.madt.place as u64)?;
+    say_number(rt, b" of ", t.madt.length as u64)?;
+    say_number(rt, b", FADT at ", t.fadt.place as u64)?;
+    say_number(rt, b" of ", t.fadt.length as u64)?;
+    say_number(rt, b", SCI ", t.sci as u64)
 }
 
-fn answer_survey(strictness: Strictness, bytes: &[u8]) {
+fn answer_survey(rt: &impl Print, strictness: Strictness, bytes: &[u8]) -> io::Result<()> {
     match tables::survey_capture(strictness, bytes) {
-        Survey::Found(t) => say_tables(t),
-        Survey::Refused(refusal) => say_refusal(refusal),
+        Survey::Found(t) => say_tables(rt, t),
+        Survey::Refused(refusal) => say_refusal(rt, refusal),
     }
 }
 
@@ -155,20 +159,21 @@ fn wide(number: u32) -> u64 {
 }
 
 // Every number of a list that is not as it was.
-fn say_list(list: &[u32]) {
+fn say_list(rt: &impl Print, list: &[u32]) -> io::Result<()> {
     let mut i = 0;
     while i < list.len() {
         if list[i] != UNTOUCHED {
-            say_number(b" ", wide(list[i]));
+            say_number(rt, b" ", wide(list[i]))?;
         }
         i += 1;
     }
+    Ok(())
 }
 
-fn say_answer(answer: Answer) {
+fn say_answer(rt: &impl Print, answer: Answer) -> io::Result<()> {
     match answer {
-        Answer::Read(count) => say_number(b"read ", count as u64),
-        Answer::Refused(refusal) => say_refusal(refusal),
+        Answer::Read(count) => say_number(rt, b"read ", count as u64),
+        Answer::Refused(refusal) => say_refusal(rt, refusal),
     }
 }
 
@@ -181,19 +186,30 @@ fn read(strictness: Strictness, bytes: &[u8], list: &mut [u32]) -> Reading {
 }
 
 // The reading with the first numbers of a list lent, and the whole list afterwards.
-fn read_into(strictness: Strictness, bytes: &[u8], list: &mut [u32], room: usize) {
+fn read_into(
+    rt: &impl Print,
+    strictness: Strictness,
+    bytes: &[u8],
+    list: &mut [u32],
+    room: usize,
+) -> io::Result<()> {
     if list.len() < room {
-        return;
+        return Ok(());
     }
     let reading = read(strictness, bytes, &mut list[..room]);
     let answer = reading.answer;
-    say_answer(answer);
-    say_list(list);
+    say_answer(rt, answer)?;
+    say_list(rt, list)
 }
 
-fn answer_read(strictness: Strictness, bytes: &[u8], room: usize) {
+fn answer_read(
+    rt: &impl Print,
+    strictness: Strictness,
+    bytes: &[u8],
+    room: usize,
+) -> io::Result<()> {
     let mut list = [UNTOUCHED; MOST_NUMBERS];
-    read_into(strictness, bytes, &mut list, room);
+    read_into(rt, strictness, bytes, &mut list, room)
 }
 
 fn wide_byte(byte: u8) -> u64 {
@@ -201,56 +217,55 @@ fn wide_byte(byte: u8) -> u64 {
 }
 
 // Every byte of a list that is not as it was.
-fn say_bytes(list: &[u8]) {
+fn say_bytes(rt: &impl Print, list: &[u8]) -> io::Result<()> {
     let mut i = 0;
     while i < list.len() {
         if list[i] != UNTOUCHED_BYTE {
-            say_number(b" ", wide_byte(list[i]));
+            say_number(rt, b" ", wide_byte(list[i]))?;
         }
         i += 1;
     }
+    Ok(())
 }
 
 // The result of the reading for C: a refusal, or the count.
-fn say_count(res: u64) {
+fn say_count(rt: &impl Print, res: u64) -> io::Result<()> {
     if REFUSALS <= res {
-        say_result(res);
-        return;
+        return say_result(rt, res);
     }
-    say_number(b"read ", res);
+    say_number(rt, b"read ", res)
 }
 
 // The reading for C with the first bytes of a list lent, and the whole list afterwards.
-fn read_bytes_into(bytes: &[u8], list: &mut [u8], room: usize) {
+fn read_bytes_into(rt: &impl Print, bytes: &[u8], list: &mut [u8], room: usize) -> io::Result<()> {
     if list.len() < room {
-        return;
+        return Ok(());
     }
     let result = reading::entries::yasmirand_read(bytes, &mut list[..room]);
-    say_count(result);
-    say_bytes(list);
+    say_count(rt, result)?;
+    say_bytes(rt, list)
 }
 
-fn answer_read_bytes(bytes: &[u8], room: usize) {
+fn answer_read_bytes(rt: &impl Print, bytes: &[u8], room: usize) -> io::Result<()> {
     let mut list = [UNTOUCHED_BYTE; MOST_LIST_BYTES];
-    read_bytes_into(bytes, &mut list, room);
+    read_bytes_into(rt, bytes, &mut list, room)
 }
 
 // Kind, high value and low value of a C result that is no refusal.
-fn say_parts(res: u64) {
-    say_number(b" ", res / KINDS);
-    say_number(b" ", res % KINDS / HIGH);
-    say_number(b" ", res % HIGH);
+fn say_parts(rt: &impl Print, res: u64) -> io::Result<()> {
+    say_number(rt, b" ", res / KINDS)?;
+    say_number(rt, b" ", res % KINDS / HIGH)?;
+    say_number(rt, b" ", res % HIGH)
 }
 
 // A C result: a refusal, or kind, high value and low value.
-fn say_result(res: u64) {
+fn say_result(rt: &impl Print, res: u64) -> io::Result<()> {
     if REFUSALS <= res {
-        say_number(b"refused ", res / REFUSALS);
-        say_number(b" at ", res % REFUSALS);
-        return;
+        say_number(rt, b"refused ", res / REFUSALS)?;
+        return say_number(rt, b" at ", res % REFUSALS);
     }
-    say(b"kind");
-    say_parts(res);
+    say(rt, b"kind")?;
+    say_parts(rt, res)
 }
 
 // Where a number arrives: the strict reading by the C entry, the ordinary one by the map that it finds.
@@ -308,63 +323,90 @@ fn map_behind(strictness: Strictness, bytes: &[u8], numbers: &[u32]) -> Map {
 }
 
 // Every number of an answers' list, or a dash where it is as it was.
-fn say_answers(answers: &[u32]) {
+fn say_answers(rt: &impl Print, answers: &[u32]) -> io::Result<()> {
     let mut i = 0;
     while i < answers.len() {
         if answers[i] == UNTOUCHED {
-            say(b" -");
+            say(rt, b" -")?;
         } else {
-            say_number(b" ", wide(answers[i]));
+            say_number(rt, b" ", wide(answers[i]))?;
         }
         i += 1;
     }
+    Ok(())
 }
 
 // Some numbers asked about at once.
-fn route_each(strictness: Strictness, bytes: &[u8], numbers: &mut [u32], answers: &mut [u32]) {
+fn route_each(
+    rt: &impl Print,
+    strictness: Strictness,
+    bytes: &[u8],
+    numbers: &mut [u32],
+    answers: &mut [u32],
+) -> io::Result<()> {
     take_numbers(bytes, numbers);
     let map = map_behind(strictness, bytes, numbers);
     match map.route_each(numbers, answers) {
-        Verdict::Sound => say(b"answered"),
-        Verdict::Refused(refusal) => say_refusal(refusal),
+        Verdict::Sound => say(rt, b"answered")?,
+        Verdict::Refused(refusal) => say_refusal(rt, refusal)?,
     }
-    say_answers(answers);
+    say_answers(rt, answers)
 }
 
 // The answers of a map that keeps the rules to some numbers, one by one.
-fn say_singly(map: Map, numbers: &[u32]) {
+fn say_singly(rt: &impl Print, map: Map, numbers: &[u32]) -> io::Result<()> {
     let mut i = 0;
     while i < numbers.len() {
-        say_parts(codes::route_code(map.route(numbers[i])));
+        say_parts(rt, codes::route_code(map.route(numbers[i])))?;
         i += 1;
     }
+    Ok(())
 }
 
 // The same numbers asked about one by one.
-fn route_singly(strictness: Strictness, bytes: &[u8], numbers: &mut [u32]) {
+fn route_singly(
+    rt: &impl Print,
+    strictness: Strictness,
+    bytes: &[u8],
+    numbers: &mut [u32],
+) -> io::Result<()> {
     take_numbers(bytes, numbers);
-    say(b"answered");
-    say_singly(map_behind(strictness, bytes, numbers), numbers);
+    say(rt, b"answered")?;
+    say_singly(rt, map_behind(strictness, bytes, numbers), numbers)
 }
 
-fn answer_route_each(strictness: Strictness, bytes: &[u8], room: usize, asked: usize) {
+fn answer_route_each(
+    rt: &impl Print,
+    strictness: Strictness,
+    bytes: &[u8],
+    room: usize,
+    asked: usize,
+) -> io::Result<()> {
     let mut numbers = [0u32; MOST_ASKED];
     let mut answers = [UNTOUCHED; MOST_ANSWERS];
     if asked <= MOST_ASKED && room <= MOST_ANSWERS {
-        route_each(
+        return route_each(
+            rt,
             strictness,
             bytes,
             &mut numbers[..asked],
             &mut answers[..room],
         );
     }
+    Ok(())
 }
 
-fn answer_route_singly(strictness: Strictness, bytes: &[u8], asked: usize) {
+fn answer_route_singly(
+    rt: &impl Print,
+    strictness: Strictness,
+    bytes: &[u8],
+    asked: usize,
+) -> io::Result<()> {
     let mut numbers = [0u32; MOST_ASKED];
     if asked <= MOST_ASKED {
-        route_singly(strictness, bytes, &mut numbers[..asked]);
+        return route_singly(rt, strictness, bytes, &mut numbers[..asked]);
     }
+    Ok(())
 }
 
 fn strictness_of(head: &[u8]) -> Strictness {
@@ -374,69 +416,84 @@ fn strictness_of(head: &[u8]) -> Strictness {
     Strictness::Strict
 }
 
-fn answer(head: &[u8], bytes: &[u8]) {
+fn answer(rt: &impl Print, head: &[u8], bytes: &[u8]) -> io::Result<()> {
     let kind = words::u32_at(head, KIND);
     let strictness = strictness_of(head);
     match kind {
-        CHECK => answer_check(bytes),
-        RSDP => answer_rsdp(bytes),
-        REACH => answer_reach(bytes, words::u64_at(head, FIRST)),
-        SURVEY => answer_survey(strictness, bytes),
-        READ => answer_read(strictness, bytes, words::u32_at(head, FIRST) as usize),
-        ROUTE => say_result(route(strictness, bytes, words::u32_at(head, FIRST))),
-        TRACE => say_result(trace(
-            strictness,
-            bytes,
-            words::u32_at(head, FIRST),
-            words::u32_at(head, SECOND),
-        )),
-        READ_BYTES => answer_read_bytes(bytes, words::u32_at(head, FIRST) as usize),
+        CHECK => answer_check(rt, bytes),
+        RSDP => answer_rsdp(rt, bytes),
+        REACH => answer_reach(rt, bytes, words::u64_at(head, FIRST)),
+        SURVEY => answer_survey(rt, strictness, bytes),
+        READ => answer_read(rt, strictness, bytes, words::u32_at(head, FIRST) as usize),
+        ROUTE => say_result(rt, route(strictness, bytes, words::u32_at(head, FIRST))),
+        TRACE => say_result(
+            rt,
+            trace(
+                strictness,
+                bytes,
+                words::u32_at(head, FIRST),
+                words::u32_at(head, SECOND),
+            ),
+        ),
+        READ_BYTES => answer_read_bytes(rt, bytes, words::u32_at(head, FIRST) as usize),
         ROUTE_EACH => answer_route_each(
+            rt,
             strictness,
             bytes,
             words::u32_at(head, FIRST) as usize,
             words::u32_at(head, SECOND) as usize,
         ),
         ROUTE_SINGLY => answer_route_singly(
+            rt,
             strictness,
             bytes,
             words::u32_at(head, SECOND) as usize,
         ),
         LOOKUP | BY_MAP | CHANGED => lookups::answer_lookups(
+            rt,
             kind,
             strictness,
             bytes,
             words::u32_at(head, FIRST),
             words::u32_at(head, SECOND) as usize,
         ),
-        _ => say(b"no such question"),
+        _ => say(rt, b"no such question"),
     }
+}
+
+// Reads until the list is full or the input ends, and tells how many bytes were read.
+fn read_full(rt: &impl Input, mut list: &mut [u8]) -> io::Result<usize> {
+    let most = list.len() as u64;
+    let count = io::copy(&mut rt.reader().take(most), &mut list)?;
+    Ok(count as usize)
 }
 
 // One question, read and answered; false where there is none.
-fn next_question(head: &mut [u8], room: &mut [u8]) -> bool {
-    if io::read_full(STDIN_FILENO, head) < HEAD {
-        return false;
+fn next_question(rt: &(impl Input + Print), head: &mut [u8], room: &mut [u8]) -> io::Result<bool> {
+    if read_full(rt, head)? < HEAD {
+        return Ok(false);
     }
     let n = words::u32_at(head, LENGTH) as usize;
     if room.len() < n {
-        return false;
+        return Ok(false);
     }
-    let got = io::read_full(STDIN_FILENO, &mut room[..n]);
-    say_label(head);
-    answer(head, words::part(room, 0, got));
-    say(b"\n");
-    true
+    let got = read_full(rt, &mut room[..n])?;
+    say_label(rt, head)?;
+    answer(rt, head, words::part(room, 0, got))?;
+    say(rt, b"\n")?;
+    Ok(true)
 }
 
-fn main() {
+// Where a read or a write fails, no more questions are answered, and the program ends with an error.
+fn main(rt: HostRuntime) -> io::Result<()> {
     let mut head = [0u8; HEAD];
     let mut room = [0u8; MOST_BYTES];
     let mut left = MOST_QUESTIONS;
     while 0 < left {
-        if !next_question(&mut head, &mut room) {
-            return;
+        if !next_question(&rt, &mut head, &mut room)? {
+            return Ok(());
         }
         left -= 1;
     }
+    Ok(())
 }

@@ -1,7 +1,6 @@
 -- `vectors::main` is safe and ends: both rooms keep their lengths, and the questions left fall.
-use mathlib.Core.Path.{refl, ◌≡◌}
+use mathlib.Core.Path.{◌≡◌}
 use lib.ListN.{length}
-use borrow.Author.Rules.{rules}
 use Rattle.vectors.proofs.main.Given as goal
 
 abbrev pub invariant-loop-left : goal.invariant-loop-left
