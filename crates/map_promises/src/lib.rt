@@ -2,4 +2,3 @@
 // contracts cite. The statements stand in specs/, the proofs in proofs/. The reading stands on them: the C entries ask a map
 // nothing that is proved of it.
 #![tactic(auto)]
-

@@ -2,4 +2,3 @@
 // call, as theorems over the contracts themselves. The statements stand in specs/, the proofs in proofs/. The promises of maps
 // stand in map_promises.
 #![tactic(auto)]
-

@@ -3,7 +3,6 @@ use mathlib.Core.Path.{sym}
 use native.Mathlib.Nat.{sub-zero}
 use native.Mathlib.Omega.{arith}
 use lib.Seq.{take_all}
-use borrow.Author.Rules.{rules}
 use Rattle.processors.proofs.front.Goals as goal
 
 pub returns-then-offsets-count : goal.returns-then-offsets-count

@@ -5,7 +5,6 @@ use native.Mathlib.Omega.{arith}
 use Rattle.words.specs.Bytes.{AllBytes, number_at}
 use Rattle.words.proofs.Numbers.{number_split, number_small}
 use Rattle.processors.specs.Again.{processor_at}
-use borrow.Author.Rules.{rules}
 use Rattle.processors.proofs.processor_at.Goals as goal
 
 pub returns : goal.returns

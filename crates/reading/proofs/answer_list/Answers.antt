@@ -6,7 +6,6 @@ use Rattle.processors.proofs.ReadAgain.{same_entries, same_count}
 use Rattle.reading.specs.Reading.{without_map}
 use Rattle.reading.specs.declared.Answer.TheVariants.{Read}
 use Rattle.reading.proofs.Laws.{answered_read, answered_60}
-use borrow.Author.Rules.{rules}
 use Rattle.reading.proofs.answer_list.Goals as goal
 
 pub returns-in-NoRoom : goal.returns-in-NoRoom

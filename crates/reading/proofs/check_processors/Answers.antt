@@ -4,7 +4,6 @@ use borrow.Author.Tests.{eq-eqb, ne_eqb}
 use Rattle.words.proofs.Choices.{yes_if, no_if}
 use Rattle.words.specs.declared.Verdict.TheVariants.{Refused}
 use Rattle.reading.specs.Scan.{processor_rule}
-use borrow.Author.Rules.{rules}
 use Rattle.reading.proofs.check_processors.Goals as goal
 
 pub returns-then-enabled-eq0 : goal.returns-then-enabled-eq0

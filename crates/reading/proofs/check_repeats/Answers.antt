@@ -3,7 +3,6 @@ use mathlib.Core.Path.{ap, sym, ◌∙◌}
 use Rattle.words.specs.declared.Verdict.TheVariants.{Refused}
 use Rattle.processors.proofs.ReadAgain.{same_repeat}
 use Rattle.reading.proofs.Laws.{repeat_none, repeat_at}
-use borrow.Author.Rules.{rules}
 use Rattle.reading.proofs.check_repeats.Goals as goal
 
 pub returns-in-Nowhere : goal.returns-in-Nowhere

@@ -3,7 +3,6 @@ use mathlib.Core.Path.{ap}
 use Rattle.madt.specs.Contents.{found_in}
 use Rattle.madt.specs.declared.Found.{Found}
 use Rattle.reading.specs.Scan.{empty_map}
-use borrow.Author.Rules.{rules}
 use Rattle.reading.proofs.empty_map.Goals as goal
 
 pub returns : goal.returns

@@ -2,7 +2,6 @@
 use mathlib.Core.Path.{sym, ◌∙◌}
 use Rattle.words.proofs.Verdicts.{unless-refused, unless_sound}
 use Rattle.reading.specs.Scan.{accepted}
-use borrow.Author.Rules.{rules}
 use Rattle.reading.proofs.judge.Goals as goal
 
 pub returns-in-Refused : goal.returns-in-Refused

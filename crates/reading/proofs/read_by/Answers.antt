@@ -9,7 +9,6 @@ use Rattle.reading.specs.declared.Scan.{Scan}
 use mathlib.Core.Path.{ap, sym, ◌∙◌}
 use Rattle.reading.proofs.Scanned.{scanned_bytes}
 use Rattle.words.proofs.Verdicts.{unless-refused, unless_sound}
-use borrow.Author.Rules.{rules}
 use Rattle.reading.proofs.read_by.Goals as goal
 
 pub answer_list-requires : goal.answer_list-requires

@@ -4,7 +4,6 @@ use Rattle.words.specs.Refusals.{first_refusal}
 use Rattle.words.proofs.Verdicts.{unless-refused, unless_sound}
 use Rattle.reading.specs.Scan.{processor_rule}
 use Rattle.reading.proofs.Laws.{map_judged}
-use borrow.Author.Rules.{rules}
 use Rattle.reading.proofs.rules_after_walk.Goals as goal
 
 pub returns-in-Refused : goal.returns-in-Refused

@@ -5,7 +5,6 @@ use Rattle.reading.specs.Scan.{turned_down}
 use Rattle.reading.specs.declared.Scan.{Scan}
 use Rattle.reading.proofs.Laws.{scan-refused, scan_found}
 use Rattle.reading.proofs.Scanned.{found_madt}
-use borrow.Author.Rules.{rules}
 use Rattle.reading.proofs.scan_noting.Goals as goal
 
 pub scan_tables-requires : goal.scan_tables-requires

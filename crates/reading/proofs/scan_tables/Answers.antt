@@ -17,7 +17,6 @@ use Rattle.map_promises.proofs.WalkKeepsBooks.{walk_few}
 use Rattle.reading.specs.Scan.{madt_bytes, walk_of, turned_down, accepted}
 use Rattle.reading.specs.declared.Scan.{Scan}
 use Rattle.reading.proofs.Laws.{later_of, walk_refused, walk_sound}
-use borrow.Author.Rules.{rules}
 use Rattle.reading.proofs.scan_tables.Goals as goal
 
 -- what the walk found, with the pairs of the capture

@@ -3,7 +3,6 @@ use mathlib.Core.Path.{ap}
 use Rattle.words.specs.declared.Verdict.TheVariants.{Refused}
 use Rattle.lines.specs.declared.Map.{Map}
 use Rattle.reading.specs.Scan.{turned_down}
-use borrow.Author.Rules.{rules}
 use Rattle.reading.proofs.turn_down.Goals as goal
 
 pub returns : goal.returns

@@ -3,7 +3,6 @@ use mathlib.Core.Path.{ap}
 use Rattle.lines.specs.declared.Map.{Map}
 use Rattle.reading.specs.Reading.{without_map}
 use Rattle.reading.specs.declared.Answer.TheVariants.{Refused}
-use borrow.Author.Rules.{rules}
 use Rattle.reading.proofs.without_map.Goals as goal
 
 pub returns : goal.returns

@@ -108,7 +108,7 @@ put_cores-n-requires c =
     } in
     ahead
     (version_told c.args.version c.args.list.now c.args.map c.args.room.now all
-        (c.put_version-n.ensures.value, c.put_version-n.ensures.room_after))
+    (c.put_version-n.ensures.value, c.put_version-n.ensures.room_after))
     (joined_split _ _)
 
 pub put_lio-n-requires : goal.put_lio-n-requires
@@ -123,8 +123,8 @@ put_lio-n-requires c =
     } in
     ahead
     (cores_told c.args.version c.args.list.now c.args.map c.args.room.now all
-        (c.put_version-n.ensures.value, c.put_version-n.ensures.room_after)
-        (c.put_cores-n.ensures.value, c.put_cores-n.ensures.room_after))
+    (c.put_version-n.ensures.value, c.put_version-n.ensures.room_after)
+    (c.put_cores-n.ensures.value, c.put_cores-n.ensures.room_after))
     (named (joined_split _ _) (ap lio_lines c.said_lio-lio.ensures))
 
 pub put_ht-n-requires : goal.put_ht-n-requires
@@ -139,9 +139,9 @@ put_ht-n-requires c =
     } in
     ahead
     (lio_told c.args.version c.args.list.now c.args.map c.args.room.now all
-        (c.put_version-n.ensures.value, c.put_version-n.ensures.room_after)
-        (c.put_cores-n.ensures.value, c.put_cores-n.ensures.room_after)
-        c.said_lio-lio.ensures (c.put_lio-n.ensures.value, c.put_lio-n.ensures.room_after))
+    (c.put_version-n.ensures.value, c.put_version-n.ensures.room_after)
+    (c.put_cores-n.ensures.value, c.put_cores-n.ensures.room_after)
+    c.said_lio-lio.ensures (c.put_lio-n.ensures.value, c.put_lio-n.ensures.room_after))
     (named (joined_split _ _) (ap ht_line c.said_ht-ht.ensures))
 
 pub put_eios-n-requires : goal.put_eios-n-requires
@@ -154,13 +154,16 @@ put_eios-n-requires c =
       bios = search (rules, length_mapped);
       msis = search (rules, length_mapped);
     } in
-    record { count_bound = search rules; fits = ahead
-    (ht_told c.args.version c.args.list.now c.args.map c.args.room.now all
-        (c.put_version-n.ensures.value, c.put_version-n.ensures.room_after)
-        (c.put_cores-n.ensures.value, c.put_cores-n.ensures.room_after)
-        c.said_lio-lio.ensures (c.put_lio-n.ensures.value, c.put_lio-n.ensures.room_after)
-        c.said_ht-ht.ensures (c.put_ht-n.ensures.value, c.put_ht-n.ensures.room_after))
-    (named (joined_split _ _) (ap (each eio_line) (take-used c.args.map.eios c.args.map.eiocount _ all.eios c.used.ensures.value))) }
+    record {
+      count_bound = search rules;
+      fits = ahead
+          (ht_told c.args.version c.args.list.now c.args.map c.args.room.now all
+          (c.put_version-n.ensures.value, c.put_version-n.ensures.room_after)
+          (c.put_cores-n.ensures.value, c.put_cores-n.ensures.room_after)
+          c.said_lio-lio.ensures (c.put_lio-n.ensures.value, c.put_lio-n.ensures.room_after)
+          c.said_ht-ht.ensures (c.put_ht-n.ensures.value, c.put_ht-n.ensures.room_after))
+          (named (joined_split _ _) (ap (each eio_line) (take-used c.args.map.eios c.args.map.eiocount _ all.eios c.used.ensures.value)));
+    }
 
 pub put_bios-n-requires : goal.put_bios-n-requires
 unfolding map_parts
@@ -172,14 +175,17 @@ put_bios-n-requires c =
       bios = search (rules, length_mapped);
       msis = search (rules, length_mapped);
     } in
-    record { count_bound = search rules; fits = ahead
-    (eios_told c.args.version c.args.list.now c.args.map c.args.room.now all
-        (c.put_version-n.ensures.value, c.put_version-n.ensures.room_after)
-        (c.put_cores-n.ensures.value, c.put_cores-n.ensures.room_after)
-        c.said_lio-lio.ensures (c.put_lio-n.ensures.value, c.put_lio-n.ensures.room_after)
-        c.said_ht-ht.ensures (c.put_ht-n.ensures.value, c.put_ht-n.ensures.room_after)
-        c.used.ensures.value (c.put_eios-n.ensures.value, c.put_eios-n.ensures.room_after))
-    (named (joined_split _ _) (ap (each bio_line) (take-used c.args.map.bios c.args.map.biocount _ all.bios c.used-2.ensures.value))) }
+    record {
+      count_bound = search rules;
+      fits = ahead
+          (eios_told c.args.version c.args.list.now c.args.map c.args.room.now all
+          (c.put_version-n.ensures.value, c.put_version-n.ensures.room_after)
+          (c.put_cores-n.ensures.value, c.put_cores-n.ensures.room_after)
+          c.said_lio-lio.ensures (c.put_lio-n.ensures.value, c.put_lio-n.ensures.room_after)
+          c.said_ht-ht.ensures (c.put_ht-n.ensures.value, c.put_ht-n.ensures.room_after)
+          c.used.ensures.value (c.put_eios-n.ensures.value, c.put_eios-n.ensures.room_after))
+          (named (joined_split _ _) (ap (each bio_line) (take-used c.args.map.bios c.args.map.biocount _ all.bios c.used-2.ensures.value)));
+    }
 
 pub put_msis-n-requires : goal.put_msis-n-requires
 unfolding map_parts
@@ -191,15 +197,18 @@ put_msis-n-requires c =
       bios = search (rules, length_mapped);
       msis = search (rules, length_mapped);
     } in
-    record { count_bound = search rules; fits = ahead
-    (bios_told c.args.version c.args.list.now c.args.map c.args.room.now all
-        (c.put_version-n.ensures.value, c.put_version-n.ensures.room_after)
-        (c.put_cores-n.ensures.value, c.put_cores-n.ensures.room_after)
-        c.said_lio-lio.ensures (c.put_lio-n.ensures.value, c.put_lio-n.ensures.room_after)
-        c.said_ht-ht.ensures (c.put_ht-n.ensures.value, c.put_ht-n.ensures.room_after)
-        c.used.ensures.value (c.put_eios-n.ensures.value, c.put_eios-n.ensures.room_after)
-        c.used-2.ensures.value (c.put_bios-n.ensures.value, c.put_bios-n.ensures.room_after))
-    (named (joined_split _ _) (ap (each msi_line) (take-used c.args.map.msis c.args.map.msicount _ all.msis c.used-3.ensures.value))) }
+    record {
+      count_bound = search rules;
+      fits = ahead
+          (bios_told c.args.version c.args.list.now c.args.map c.args.room.now all
+          (c.put_version-n.ensures.value, c.put_version-n.ensures.room_after)
+          (c.put_cores-n.ensures.value, c.put_cores-n.ensures.room_after)
+          c.said_lio-lio.ensures (c.put_lio-n.ensures.value, c.put_lio-n.ensures.room_after)
+          c.said_ht-ht.ensures (c.put_ht-n.ensures.value, c.put_ht-n.ensures.room_after)
+          c.used.ensures.value (c.put_eios-n.ensures.value, c.put_eios-n.ensures.room_after)
+          c.used-2.ensures.value (c.put_bios-n.ensures.value, c.put_bios-n.ensures.room_after))
+          (named (joined_split _ _) (ap (each msi_line) (take-used c.args.map.msis c.args.map.msicount _ all.msis c.used-3.ensures.value)));
+    }
 
 pub put_lpc-n-requires : goal.put_lpc-n-requires
 unfolding map_parts
@@ -213,13 +222,13 @@ put_lpc-n-requires c =
     } in
     ahead
     (msis_told c.args.version c.args.list.now c.args.map c.args.room.now all
-        (c.put_version-n.ensures.value, c.put_version-n.ensures.room_after)
-        (c.put_cores-n.ensures.value, c.put_cores-n.ensures.room_after)
-        c.said_lio-lio.ensures (c.put_lio-n.ensures.value, c.put_lio-n.ensures.room_after)
-        c.said_ht-ht.ensures (c.put_ht-n.ensures.value, c.put_ht-n.ensures.room_after)
-        c.used.ensures.value (c.put_eios-n.ensures.value, c.put_eios-n.ensures.room_after)
-        c.used-2.ensures.value (c.put_bios-n.ensures.value, c.put_bios-n.ensures.room_after)
-        c.used-3.ensures.value (c.put_msis-n.ensures.value, c.put_msis-n.ensures.room_after))
+    (c.put_version-n.ensures.value, c.put_version-n.ensures.room_after)
+    (c.put_cores-n.ensures.value, c.put_cores-n.ensures.room_after)
+    c.said_lio-lio.ensures (c.put_lio-n.ensures.value, c.put_lio-n.ensures.room_after)
+    c.said_ht-ht.ensures (c.put_ht-n.ensures.value, c.put_ht-n.ensures.room_after)
+    c.used.ensures.value (c.put_eios-n.ensures.value, c.put_eios-n.ensures.room_after)
+    c.used-2.ensures.value (c.put_bios-n.ensures.value, c.put_bios-n.ensures.room_after)
+    c.used-3.ensures.value (c.put_msis-n.ensures.value, c.put_msis-n.ensures.room_after))
     (named (joined_split _ _) (ap lpc_line c.said_lpc-lpc.ensures))
 
 pub put_sci-requires : goal.put_sci-requires
@@ -234,14 +243,14 @@ put_sci-requires c =
     } in
     ahead
     (lpc_told c.args.version c.args.list.now c.args.map c.args.room.now all
-        (c.put_version-n.ensures.value, c.put_version-n.ensures.room_after)
-        (c.put_cores-n.ensures.value, c.put_cores-n.ensures.room_after)
-        c.said_lio-lio.ensures (c.put_lio-n.ensures.value, c.put_lio-n.ensures.room_after)
-        c.said_ht-ht.ensures (c.put_ht-n.ensures.value, c.put_ht-n.ensures.room_after)
-        c.used.ensures.value (c.put_eios-n.ensures.value, c.put_eios-n.ensures.room_after)
-        c.used-2.ensures.value (c.put_bios-n.ensures.value, c.put_bios-n.ensures.room_after)
-        c.used-3.ensures.value (c.put_msis-n.ensures.value, c.put_msis-n.ensures.room_after)
-        c.said_lpc-lpc.ensures (c.put_lpc-n.ensures.value, c.put_lpc-n.ensures.room_after))
+    (c.put_version-n.ensures.value, c.put_version-n.ensures.room_after)
+    (c.put_cores-n.ensures.value, c.put_cores-n.ensures.room_after)
+    c.said_lio-lio.ensures (c.put_lio-n.ensures.value, c.put_lio-n.ensures.room_after)
+    c.said_ht-ht.ensures (c.put_ht-n.ensures.value, c.put_ht-n.ensures.room_after)
+    c.used.ensures.value (c.put_eios-n.ensures.value, c.put_eios-n.ensures.room_after)
+    c.used-2.ensures.value (c.put_bios-n.ensures.value, c.put_bios-n.ensures.room_after)
+    c.used-3.ensures.value (c.put_msis-n.ensures.value, c.put_msis-n.ensures.room_after)
+    c.said_lpc-lpc.ensures (c.put_lpc-n.ensures.value, c.put_lpc-n.ensures.room_after))
     (named (joined_split _ _) (ap (sci_line c.args.map.sci) c.route.ensures))
 
 pub shape_of-room : goal.shape_of-room
@@ -254,15 +263,15 @@ shape_of-room c =
       msis = search (rules, length_mapped);
     } in
     (sci_told c.args.version c.args.list.now c.args.map c.args.room.now all
-        (c.put_version-n.ensures.value, c.put_version-n.ensures.room_after)
-        (c.put_cores-n.ensures.value, c.put_cores-n.ensures.room_after)
-        c.said_lio-lio.ensures (c.put_lio-n.ensures.value, c.put_lio-n.ensures.room_after)
-        c.said_ht-ht.ensures (c.put_ht-n.ensures.value, c.put_ht-n.ensures.room_after)
-        c.used.ensures.value (c.put_eios-n.ensures.value, c.put_eios-n.ensures.room_after)
-        c.used-2.ensures.value (c.put_bios-n.ensures.value, c.put_bios-n.ensures.room_after)
-        c.used-3.ensures.value (c.put_msis-n.ensures.value, c.put_msis-n.ensures.room_after)
-        c.said_lpc-lpc.ensures (c.put_lpc-n.ensures.value, c.put_lpc-n.ensures.room_after)
-        c.route.ensures (c.put_sci.ensures.value, c.put_sci.ensures.room_after)).same
+    (c.put_version-n.ensures.value, c.put_version-n.ensures.room_after)
+    (c.put_cores-n.ensures.value, c.put_cores-n.ensures.room_after)
+    c.said_lio-lio.ensures (c.put_lio-n.ensures.value, c.put_lio-n.ensures.room_after)
+    c.said_ht-ht.ensures (c.put_ht-n.ensures.value, c.put_ht-n.ensures.room_after)
+    c.used.ensures.value (c.put_eios-n.ensures.value, c.put_eios-n.ensures.room_after)
+    c.used-2.ensures.value (c.put_bios-n.ensures.value, c.put_bios-n.ensures.room_after)
+    c.used-3.ensures.value (c.put_msis-n.ensures.value, c.put_msis-n.ensures.room_after)
+    c.said_lpc-lpc.ensures (c.put_lpc-n.ensures.value, c.put_lpc-n.ensures.room_after)
+    c.route.ensures (c.put_sci.ensures.value, c.put_sci.ensures.room_after)).same
 
 pub returns : goal.returns
 unfolding map_parts
@@ -275,14 +284,14 @@ returns c =
       msis = search (rules, length_mapped);
     } in
     let told = (sci_told c.args.version c.args.list.now c.args.map c.args.room.now all
-        (c.put_version-n.ensures.value, c.put_version-n.ensures.room_after)
-        (c.put_cores-n.ensures.value, c.put_cores-n.ensures.room_after)
-        c.said_lio-lio.ensures (c.put_lio-n.ensures.value, c.put_lio-n.ensures.room_after)
-        c.said_ht-ht.ensures (c.put_ht-n.ensures.value, c.put_ht-n.ensures.room_after)
-        c.used.ensures.value (c.put_eios-n.ensures.value, c.put_eios-n.ensures.room_after)
-        c.used-2.ensures.value (c.put_bios-n.ensures.value, c.put_bios-n.ensures.room_after)
-        c.used-3.ensures.value (c.put_msis-n.ensures.value, c.put_msis-n.ensures.room_after)
-        c.said_lpc-lpc.ensures (c.put_lpc-n.ensures.value, c.put_lpc-n.ensures.room_after)
-        c.route.ensures (c.put_sci.ensures.value, c.put_sci.ensures.room_after)) in
+    (c.put_version-n.ensures.value, c.put_version-n.ensures.room_after)
+    (c.put_cores-n.ensures.value, c.put_cores-n.ensures.room_after)
+    c.said_lio-lio.ensures (c.put_lio-n.ensures.value, c.put_lio-n.ensures.room_after)
+    c.said_ht-ht.ensures (c.put_ht-n.ensures.value, c.put_ht-n.ensures.room_after)
+    c.used.ensures.value (c.put_eios-n.ensures.value, c.put_eios-n.ensures.room_after)
+    c.used-2.ensures.value (c.put_bios-n.ensures.value, c.put_bios-n.ensures.room_after)
+    c.used-3.ensures.value (c.put_msis-n.ensures.value, c.put_msis-n.ensures.room_after)
+    c.said_lpc-lpc.ensures (c.put_lpc-n.ensures.value, c.put_lpc-n.ensures.room_after)
+    c.route.ensures (c.put_sci.ensures.value, c.put_sci.ensures.room_after)) in
     let e = over told nothing_left in
     record { value = e.0 ∙ zero-add _; room_after = e.1; upper_bound = short told }

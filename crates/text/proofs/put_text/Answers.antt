@@ -10,9 +10,8 @@ use Rattle.reading.specs.Reading.{list_after}
 use Rattle.reading.specs.declared.Reading.{Reading}
 use Rattle.text.specs.Rooms.{lent}
 use Rattle.text.specs.Lines.{refusal_line}
-use Rattle.text.proofs.Answers.{Listed, listed, text-refused, text-of-map}
+use Rattle.text.proofs.Answers.{listed, text-refused, text-of-map}
 use Rattle.text.proofs.Bounds.{refusal_fits}
-use borrow.Author.Rules.{rules}
 use Rattle.text.proofs.put_text.Goals as goal
 
 pub put_refusal-requires : goal.put_refusal-requires

@@ -1,6 +1,5 @@
 -- `write_text` measures the text, and writes it where the room has place for it.
 use Rattle.text.proofs.Answers.{no_room, has_room_lem}
-use borrow.Author.Rules.{rules}
 use Rattle.text.proofs.write_text.Goals as goal
 
 pub returns-then-room-length : goal.returns-then-room-length

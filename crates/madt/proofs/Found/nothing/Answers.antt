@@ -1,7 +1,6 @@
 -- `Found::nothing` is nothing found.
 use Rattle.words.specs.Lists.{those}
 use Rattle.madt.specs.Contents.{enabled_cores, found_in}
-use borrow.Author.Rules.{rules}
 use Rattle.madt.proofs.Found.nothing.Goals as goal
 
 pub returns : goal.returns

@@ -4,7 +4,6 @@ use Rattle.std.proofs.Common.{arith}
 use Rattle.words.specs.declared.Verdict.TheVariants.{Refused}
 use Rattle.madt.proofs.Contents.{full_core, full_lio, full_ht, full_eio, full_msi, full_bio, full_lpc}
 use Rattle.madt.proofs.Checks.{length-wrong, length_right, version-wrong, version_right, has_length, no_length, at_32, at_33, for_core, for_lio, for_ht, for_eio, for_msi, for_bio, for_lpc, passed_over, one_of_seven}
-use borrow.Author.Rules.{rules}
 use Rattle.madt.proofs.rules.check.Goals as goal
 
 pub returns-then-length-eq0 : goal.returns-then-length-eq0

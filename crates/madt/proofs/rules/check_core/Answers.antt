@@ -2,7 +2,6 @@
 use mathlib.Core.Path.{ap, sym, ◌∙◌}
 use Rattle.words.specs.declared.Verdict.TheVariants.{Refused}
 use Rattle.words.proofs.Verdicts.{first_none, first_broken_lem, first_kept}
-use borrow.Author.Rules.{rules}
 use Rattle.madt.proofs.rules.check_core.Goals as goal
 
 pub returns-then-reserved_flags : goal.returns-then-reserved_flags

@@ -4,7 +4,6 @@ use mathlib.Core.Path.{ap, sym, ◌∙◌}
 use borrow.Author.Tests.{eq-eqb, ne_eqb}
 use Rattle.words.specs.declared.Verdict.TheVariants.{Refused}
 use Rattle.words.proofs.Verdicts.{first_none, first_broken_lem, first_kept}
-use borrow.Author.Rules.{rules}
 use Rattle.madt.proofs.rules.check_field.Goals as goal
 
 pub returns-then-field-ne0 : goal.returns-then-field-ne0

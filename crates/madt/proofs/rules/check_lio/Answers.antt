@@ -6,7 +6,6 @@ use borrow.Author.Tests.{eq-eqb, ne_eqb}
 use Rattle.words.specs.Refusals.{refused}
 use Rattle.words.specs.declared.Verdict.TheVariants.{Refused}
 use Rattle.words.proofs.Verdicts.{first_none, first_broken_lem, first_kept}
-use borrow.Author.Rules.{rules}
 use Rattle.madt.proofs.rules.check_lio.Goals as goal
 
 pub returns-then-broken-ne0 : goal.returns-then-broken-ne0

@@ -1,9 +1,8 @@
 -- `length_of` is the length of the structure's own kind.
-use mathlib.Core.Path.{sym, ◌∙◌}
+use mathlib.Core.Path.{sym}
 use native.Mathlib.Omega.{arith}
 use Rattle.madt.proofs.Types.{of_core, of_lio, of_ht_lem, of_eio_lem, of_msi, of_bio_lem, of_lpc, of_other}
 use Rattle.madt.specs.Rules.{length_of}
-use borrow.Author.Rules.{rules}
 use Rattle.madt.proofs.rules.length_of.Goals as goal
 
 pub returns-in-17 : goal.returns-in-17

@@ -1,6 +1,5 @@
 -- `rules::or_both` keeps a refusal of 34, or asks it of one structure more.
 use mathlib.Core.Path.{ap}
-use borrow.Author.Rules.{rules}
 use Rattle.words.specs.Choice.{if}
 use Rattle.words.specs.Refusals.{unless}
 use Rattle.words.specs.declared.Verdict.TheVariants.{Refused}

@@ -1,7 +1,5 @@
 -- `size_at` is the length that the stepper tells.
-use native.Mathlib.Omega.{arith}
 use Rattle.madt.proofs.Pieces.{size_whole, size_cut, size_end}
-use borrow.Author.Rules.{rules}
 use Rattle.std.proofs.Common.{sym, ◌∙◌}
 use Rattle.madt.proofs.steps.size_at.Goals as goal
 

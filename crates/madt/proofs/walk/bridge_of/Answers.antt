@@ -1,5 +1,4 @@
 -- `bridge_of` is the bridge of a structure, with the inputs that pairs tell.
-use borrow.Author.Rules.{rules}
 use Rattle.madt.specs.Contents.{bridge_of}
 use Rattle.madt.proofs.walk.bridge_of.Goals as goal
 

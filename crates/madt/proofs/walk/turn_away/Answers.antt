@@ -1,6 +1,5 @@
 -- `turn_away` is a refusal with nothing found.
 use Rattle.madt.specs.Walk.{turned_away}
-use borrow.Author.Rules.{rules}
 use Rattle.madt.proofs.walk.turn_away.Goals as goal
 
 pub returns : goal.returns

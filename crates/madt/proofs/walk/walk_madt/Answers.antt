@@ -1,7 +1,6 @@
 -- `walk_madt` walks the MADT's own bytes.
 use native.Mathlib.Omega.{arith}
 use Rattle.madt.proofs.Walking.{part_small}
-use borrow.Author.Rules.{rules}
 use Rattle.madt.proofs.walk.walk_madt.Goals as goal
 
 pub walk_table-requires : goal.walk_table-requires

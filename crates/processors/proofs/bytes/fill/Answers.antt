@@ -6,7 +6,6 @@ use Rattle.processors.specs.Listing.{numbers_of}
 use Rattle.processors.specs.Again.{processor_at, processors_at}
 use Rattle.processors.proofs.Filling.{two_each, too_short, enough_room}
 use Rattle.processors.proofs.Image.{image-length}
-use borrow.Author.Rules.{rules}
 use Rattle.processors.proofs.bytes.fill.Goals as goal
 
 pub returns-then-list-offsets : goal.returns-then-list-offsets

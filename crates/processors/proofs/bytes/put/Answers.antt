@@ -5,7 +5,6 @@ use lib.ListN.{length}
 use lib.Seq.{length-sets}
 use Rattle.processors.specs.Image.{four_bytes}
 use Rattle.processors.proofs.Image.{two_numbers}
-use borrow.Author.Rules.{rules}
 use Rattle.processors.proofs.bytes.put.Goals as goal
 
 pub put_number-requires-2 : goal.put_number-requires-2

@@ -1,14 +1,10 @@
 -- `put_all` writes the bytes of each processor, one behind the other.
-use mathlib.Core.Path.{refl}
 use Prim.Native.Nat.{◌-◌}
 use lib.ListN.{length, drop}
-use Rattle.words.proofs.Rooms.{Writing, write_start, write_end, write_room, write_next}
+use Rattle.words.proofs.Rooms.{Writing}
 use Rattle.processors.specs.Listing.{numbers_of}
 use Rattle.processors.specs.Again.{processors_at}
 use Rattle.processors.specs.Image.{image}
-use Rattle.processors.proofs.Image.{in_bytes}
-use Rattle.processors.proofs.Filling.{none_left, one_left}
-use borrow.Author.Rules.{rules}
 use Rattle.processors.proofs.bytes.put_all.Given as goal
 
 abbrev pub invariant-loop-k : goal.invariant-loop-k

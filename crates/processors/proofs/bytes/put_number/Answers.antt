@@ -4,7 +4,6 @@ use native.Mathlib.Omega.{arith}
 use lib.ListN.{length-set}
 use Rattle.processors.specs.Image.{four_bytes}
 use Rattle.processors.proofs.Image.{four_stores}
-use borrow.Author.Rules.{rules}
 use Rattle.processors.proofs.bytes.put_number.Goals as goal
 
 pub bounds-list-n-2 : goal.bounds-list-n-2

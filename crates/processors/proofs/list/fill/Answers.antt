@@ -4,7 +4,6 @@ use native.Mathlib.Omega.{arith}
 use Rattle.words.proofs.Those.{length-map}
 use Rattle.processors.specs.Again.{processor_at, processors_at}
 use Rattle.processors.proofs.Filling.{two_each, too_short, enough_room}
-use borrow.Author.Rules.{rules}
 use Rattle.processors.proofs.list.fill.Goals as goal
 
 pub returns-then-list-offsets : goal.returns-then-list-offsets

@@ -2,7 +2,6 @@
 use native.Mathlib.Numerals.{add-one}
 use native.Mathlib.Omega.{arith}
 use lib.ListN.{length-set}
-use borrow.Author.Rules.{rules}
 use Rattle.processors.proofs.list.put.Goals as goal
 
 pub bounds-list-n-2 : goal.bounds-list-n-2

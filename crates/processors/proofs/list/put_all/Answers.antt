@@ -1,12 +1,7 @@
 -- `put_all` writes the numbers of each processor, one behind the other.
 use mathlib.Core.Path.{refl}
-use Prim.Native.Nat.{◌-◌}
-use lib.ListN.{length, drop}
-use Rattle.words.proofs.Rooms.{Writing, write_start, write_end, write_room, write_next}
-use Rattle.processors.specs.Listing.{numbers_of}
-use Rattle.processors.specs.Again.{processors_at}
-use Rattle.processors.proofs.Filling.{plain, plainly, none_left, one_left}
-use borrow.Author.Rules.{rules}
+use Rattle.words.proofs.Rooms.{write_start, write_end, write_room, write_next}
+use Rattle.processors.proofs.Filling.{plainly, none_left, one_left}
 use Rattle.processors.proofs.list.put_all.Goals as goal
 
 pub loop-k-init : goal.loop-k-init

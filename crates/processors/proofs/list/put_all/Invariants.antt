@@ -1,12 +1,10 @@
 -- `put_all` writes the numbers of each processor, one behind the other.
-use mathlib.Core.Path.{refl}
 use Prim.Native.Nat.{◌-◌}
 use lib.ListN.{length, drop}
-use Rattle.words.proofs.Rooms.{Writing, write_start, write_end, write_room, write_next}
+use Rattle.words.proofs.Rooms.{Writing}
 use Rattle.processors.specs.Listing.{numbers_of}
 use Rattle.processors.specs.Again.{processors_at}
-use Rattle.processors.proofs.Filling.{plain, plainly, none_left, one_left}
-use borrow.Author.Rules.{rules}
+use Rattle.processors.proofs.Filling.{plain}
 use Rattle.processors.proofs.list.put_all.Given as goal
 
 abbrev pub invariant-loop-k : goal.invariant-loop-k

@@ -1,13 +1,12 @@
 -- `first_repeat` searches the processors for one that shares an ID with an earlier one, and for each that may do so those before it.
 use mathlib.Core.Path.{refl, sym, ◌∙◌}
 use native.Mathlib.Omega.{arith}
-use Prim.Native.Nat.{◌-◌, ◌<◌}
+use Prim.Native.Nat.{◌<◌}
 use lib.ListN.{length}
 use Rattle.words.proofs.Those.{length-map}
-use Rattle.processors.specs.Again.{processor_at, processors_at}
+use Rattle.processors.specs.Again.{processor_at}
 use Rattle.processors.proofs.ReadAgain.{read_at}
-use Rattle.processors.proofs.Repeating.{Inner, Outer, start, pass, caught, over, enter, leave, named}
-use borrow.Author.Rules.{rules}
+use Rattle.processors.proofs.Repeating.{start, pass, caught, over, enter, leave, named}
 use Rattle.processors.proofs.repeats.first_repeat.Goals as goal
 
 pub cores-init : goal.cores-init

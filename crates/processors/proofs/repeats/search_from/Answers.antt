@@ -1,7 +1,6 @@
 -- `search_from` gives the CORE itself only where it is above all that were seen.
 use mathlib.Core.Logic.{inl, inr}
 use mathlib.Core.Path.{refl}
-use borrow.Author.Rules.{rules}
 use Rattle.processors.proofs.repeats.search_from.Goals as goal
 
 pub returns-then-seen-processor-2 : goal.returns-then-seen-processor-2

@@ -4,7 +4,6 @@ use Rattle.processors.proofs.Filling.{no_room_told, whole_told}
 use Rattle.processors.proofs.ReadAgain.{same_entries, same_count}
 use Rattle.reading.specs.declared.Answer.TheVariants.{Read, Refused}
 use Rattle.reading.proofs.Laws.{in_read, in_60}
-use borrow.Author.Rules.{rules}
 use Rattle.reading.proofs.entries.answer_bytes.Goals as goal
 
 pub returns-in-NoRoom : goal.returns-in-NoRoom

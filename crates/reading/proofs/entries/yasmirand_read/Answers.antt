@@ -11,7 +11,6 @@ use Rattle.reading.specs.Entries.{answer_in, read_code, read_result, bytes_after
 use Rattle.reading.specs.declared.Scan.{Scan}
 use Rattle.reading.proofs.Scanned.{scanned_bytes}
 use Rattle.words.proofs.Verdicts.{unless-refused, unless_sound}
-use borrow.Author.Rules.{rules}
 use Rattle.reading.proofs.entries.yasmirand_read.Goals as goal
 
 pub answer_bytes-requires : goal.answer_bytes-requires

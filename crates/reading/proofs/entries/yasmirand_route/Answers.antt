@@ -7,7 +7,6 @@ use Rattle.reading.specs.Entries.{route_result}
 use Rattle.reading.specs.declared.Scan.{Scan}
 use Rattle.words.proofs.Verdicts.{unless-refused, unless_sound}
 use Rattle.reading.proofs.AcceptedKeepsRules.{accepted_route}
-use borrow.Author.Rules.{rules}
 use Rattle.reading.proofs.entries.yasmirand_route.Goals as goal
 
 pub returns-in-Refused : goal.returns-in-Refused

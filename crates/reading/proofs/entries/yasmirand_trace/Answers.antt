@@ -7,7 +7,6 @@ use Rattle.reading.specs.Entries.{trace_result}
 use Rattle.reading.specs.declared.Scan.{Scan}
 use Rattle.words.proofs.Verdicts.{unless-refused, unless_sound}
 use Rattle.reading.proofs.AcceptedKeepsRules.{accepted_trace}
-use borrow.Author.Rules.{rules}
 use Rattle.reading.proofs.entries.yasmirand_trace.Goals as goal
 
 pub returns-in-Refused : goal.returns-in-Refused

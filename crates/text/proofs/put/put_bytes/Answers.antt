@@ -1,8 +1,5 @@
 -- `put_bytes` writes one byte behind the other.
-use Prim.Native.Nat.{◌-◌}
-use lib.ListN.{length, drop}
-use Rattle.text.proofs.Printing.{Printing, begin, ahead, next, over, next_byte, none_in}
-use borrow.Author.Rules.{rules}
+use Rattle.text.proofs.Printing.{begin, ahead, next, over, next_byte, none_in}
 use Rattle.text.proofs.put.put_bytes.Goals as goal
 
 pub loop-i-init : goal.loop-i-init

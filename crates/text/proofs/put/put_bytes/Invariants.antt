@@ -1,8 +1,7 @@
 -- `put_bytes` writes one byte behind the other.
 use Prim.Native.Nat.{◌-◌}
 use lib.ListN.{length, drop}
-use Rattle.text.proofs.Printing.{Printing, begin, ahead, next, over, next_byte, none_in}
-use borrow.Author.Rules.{rules}
+use Rattle.text.proofs.Printing.{Printing}
 use Rattle.text.proofs.put.put_bytes.Given as goal
 
 abbrev pub invariant-loop-i : goal.invariant-loop-i

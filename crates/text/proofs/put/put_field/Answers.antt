@@ -1,7 +1,6 @@
 -- `put_field` writes a blank and then the number.
 use Rattle.text.specs.Lines.{field}
 use Rattle.text.proofs.Printing.{begin, ahead, next, done, field_split}
-use borrow.Author.Rules.{rules}
 use Rattle.text.proofs.put.put_field.Goals as goal
 
 pub put_byte-end-requires : goal.put_byte-end-requires

@@ -1,9 +1,6 @@
 -- `put_fields` writes one number behind the other.
-use Prim.Native.Nat.{◌-◌}
-use lib.ListN.{length, drop}
-use Rattle.text.specs.Lines.{each, field}
-use Rattle.text.proofs.Printing.{Printing, begin, ahead, next, over, next_of, none_of, next_in, none_in}
-use borrow.Author.Rules.{rules}
+use Rattle.text.specs.Lines.{field}
+use Rattle.text.proofs.Printing.{begin, ahead, next, over, next_of, none_of, next_in, none_in}
 use Rattle.text.proofs.put.put_fields.Goals as goal
 
 pub loop-i-init : goal.loop-i-init

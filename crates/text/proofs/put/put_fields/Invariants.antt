@@ -2,8 +2,7 @@
 use Prim.Native.Nat.{◌-◌}
 use lib.ListN.{length, drop}
 use Rattle.text.specs.Lines.{each, field}
-use Rattle.text.proofs.Printing.{Printing, begin, ahead, next, over, next_of, none_of, next_in, none_in}
-use borrow.Author.Rules.{rules}
+use Rattle.text.proofs.Printing.{Printing}
 use Rattle.text.proofs.put.put_fields.Given as goal
 
 abbrev pub invariant-loop-i : goal.invariant-loop-i

@@ -1,7 +1,6 @@
 -- `put_line` writes the phrase and then the newline.
 use Rattle.text.specs.Lines.{line}
 use Rattle.text.proofs.Printing.{begin, ahead, next, done, line_split}
-use borrow.Author.Rules.{rules}
 use Rattle.text.proofs.put.put_line.Goals as goal
 
 pub put_phrase-end-requires : goal.put_phrase-end-requires

@@ -1,7 +1,6 @@
 -- `put_phrase` writes the word and then the numbers.
 use Rattle.text.specs.Lines.{phrase}
 use Rattle.text.proofs.Printing.{begin, ahead, next, done, phrase_split}
-use borrow.Author.Rules.{rules}
 use Rattle.text.proofs.put.put_phrase.Goals as goal
 
 pub put_bytes-end-requires : goal.put_bytes-end-requires

@@ -1,7 +1,6 @@
 -- `put_bio` writes the line of a BIO.
 use Rattle.text.specs.Numerals.{letters}
 use Rattle.text.specs.Lines.{bio_line}
-use borrow.Author.Rules.{rules}
 use Rattle.text.proofs.tell.put_bio.Goals as goal
 
 pub put_line-requires : goal.put_line-requires

@@ -1,10 +1,8 @@
 -- `put_bios` writes a line for each BIO.
-use Prim.Native.Nat.{◌-◌}
 use native.Mathlib.Omega.{arith}
-use lib.ListN.{drop, take}
-use Rattle.words.proofs.Turns.{Turn, element, next_turn, no_turn}
-use Rattle.text.specs.Lines.{each, bio_line}
-use Rattle.text.proofs.Printing.{Printing, begin, ahead, next, over, next_of, none_of}
+use Rattle.words.proofs.Turns.{element, next_turn, no_turn}
+use Rattle.text.specs.Lines.{bio_line}
+use Rattle.text.proofs.Printing.{begin, ahead, next, over, next_of, none_of}
 use borrow.Author.Rules.{rules}
 use Rattle.text.proofs.tell.put_bios.Goals as goal
 

@@ -1,11 +1,9 @@
 -- `put_bios` writes a line for each BIO.
 use Prim.Native.Nat.{◌-◌}
-use native.Mathlib.Omega.{arith}
 use lib.ListN.{drop, take}
-use Rattle.words.proofs.Turns.{Turn, element, next_turn, no_turn}
+use Rattle.words.proofs.Turns.{Turn}
 use Rattle.text.specs.Lines.{each, bio_line}
-use Rattle.text.proofs.Printing.{Printing, begin, ahead, next, over, next_of, none_of}
-use borrow.Author.Rules.{rules}
+use Rattle.text.proofs.Printing.{Printing}
 use Rattle.text.proofs.tell.put_bios.Given as goal
 
 abbrev pub invariant-loop-i : goal.invariant-loop-i

@@ -1,7 +1,6 @@
 -- `put_core` writes the line of a processor.
 use Rattle.text.specs.Numerals.{letters}
 use Rattle.text.specs.Lines.{core_line}
-use borrow.Author.Rules.{rules}
 use Rattle.text.proofs.tell.put_core.Goals as goal
 
 pub put_line-requires : goal.put_line-requires

@@ -1,9 +1,5 @@
 -- `put_cores` writes a line for each two numbers of the list.
-use Prim.Native.Nat.{◌-◌, ◌*◌, ◌/◌}
-use lib.ListN.{length, drop}
-use Rattle.text.specs.Lines.{core_lines}
-use Rattle.text.proofs.Printing.{Printing, begin, ahead, next, over, next_core, no_core}
-use borrow.Author.Rules.{rules}
+use Rattle.text.proofs.Printing.{begin, ahead, next, over, next_core, no_core}
 use Rattle.text.proofs.tell.put_cores.Goals as goal
 
 pub loop-i-init : goal.loop-i-init

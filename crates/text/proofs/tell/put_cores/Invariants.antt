@@ -2,8 +2,7 @@
 use Prim.Native.Nat.{◌-◌, ◌*◌, ◌/◌}
 use lib.ListN.{length, drop}
 use Rattle.text.specs.Lines.{core_lines}
-use Rattle.text.proofs.Printing.{Printing, begin, ahead, next, over, next_core, no_core}
-use borrow.Author.Rules.{rules}
+use Rattle.text.proofs.Printing.{Printing}
 use Rattle.text.proofs.tell.put_cores.Given as goal
 
 abbrev pub invariant-loop-i : goal.invariant-loop-i

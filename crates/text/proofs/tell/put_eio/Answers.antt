@@ -1,7 +1,6 @@
 -- `put_eio` writes the line of an EIO.
 use Rattle.text.specs.Numerals.{letters}
 use Rattle.text.specs.Lines.{eio_line}
-use borrow.Author.Rules.{rules}
 use Rattle.text.proofs.tell.put_eio.Goals as goal
 
 pub put_line-requires : goal.put_line-requires

@@ -2,7 +2,6 @@
 use native.Mathlib.Omega.{arith}
 use Rattle.text.specs.Numerals.{letters}
 use Rattle.text.proofs.ByCase.{half_unused, half_used}
-use borrow.Author.Rules.{rules}
 use Rattle.text.proofs.tell.put_half.Goals as goal
 
 pub returns-then-half-eq0 : goal.returns-then-half-eq0

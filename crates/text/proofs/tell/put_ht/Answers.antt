@@ -1,7 +1,5 @@
 -- `put_ht` writes a line for an HT that is there.
-use mathlib.Core.Path.{◌≡◌}
 use native.Mathlib.Omega.{arith}
-use lib.ListN.{length}
 use Rattle.text.specs.Numerals.{letters}
 use Rattle.text.proofs.ByCase.{ht_absent, ht_there}
 use borrow.Author.Tests.{not-true, not-false}

@@ -1,7 +1,6 @@
 -- `put_lio` writes the low half and then the high half.
 use Rattle.text.specs.Lines.{lio_lines}
 use Rattle.text.proofs.Printing.{begin, ahead, next, done, lio_split}
-use borrow.Author.Rules.{rules}
 use Rattle.text.proofs.tell.put_lio.Goals as goal
 
 pub put_half-end-requires : goal.put_half-end-requires

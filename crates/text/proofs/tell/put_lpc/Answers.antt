@@ -2,7 +2,6 @@
 use native.Mathlib.Omega.{arith}
 use Rattle.text.specs.Numerals.{letters}
 use Rattle.text.proofs.ByCase.{lpc_absent, lpc_present}
-use borrow.Author.Rules.{rules}
 use borrow.Author.Tests.{not-true, not-false}
 use Rattle.text.proofs.tell.put_lpc.Goals as goal
 

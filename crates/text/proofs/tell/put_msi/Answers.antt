@@ -1,7 +1,6 @@
 -- `put_msi` writes the line of an MSI.
 use Rattle.text.specs.Numerals.{letters}
 use Rattle.text.specs.Lines.{msi_line}
-use borrow.Author.Rules.{rules}
 use Rattle.text.proofs.tell.put_msi.Goals as goal
 
 pub put_line-requires : goal.put_line-requires

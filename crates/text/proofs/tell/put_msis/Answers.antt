@@ -1,10 +1,8 @@
 -- `put_msis` writes a line for each MSI.
-use Prim.Native.Nat.{◌-◌}
 use native.Mathlib.Omega.{arith}
-use lib.ListN.{drop, take}
-use Rattle.words.proofs.Turns.{Turn, element, next_turn, no_turn}
-use Rattle.text.specs.Lines.{each, msi_line}
-use Rattle.text.proofs.Printing.{Printing, begin, ahead, next, over, next_of, none_of}
+use Rattle.words.proofs.Turns.{element, next_turn, no_turn}
+use Rattle.text.specs.Lines.{msi_line}
+use Rattle.text.proofs.Printing.{begin, ahead, next, over, next_of, none_of}
 use borrow.Author.Rules.{rules}
 use Rattle.text.proofs.tell.put_msis.Goals as goal
 

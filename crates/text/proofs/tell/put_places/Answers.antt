@@ -3,7 +3,6 @@ use Rattle.text.specs.Numerals.{letters}
 use Rattle.text.specs.Lines.{places_line}
 use Rattle.text.proofs.ByCase.{one_place}
 use Rattle.text.proofs.Printing.{begin, ahead, next, done, places_split}
-use borrow.Author.Rules.{rules}
 use Rattle.text.proofs.tell.put_places.Goals as goal
 
 pub put_line-requires : goal.put_line-requires

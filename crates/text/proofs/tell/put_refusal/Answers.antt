@@ -2,7 +2,6 @@
 use Rattle.text.specs.Numerals.{letters}
 use Rattle.text.specs.Lines.{refusal_line}
 use Rattle.text.proofs.Printing.{begin, ahead, next, done, refusal_split}
-use borrow.Author.Rules.{rules}
 use Rattle.text.proofs.tell.put_refusal.Goals as goal
 
 pub put_phrase-end-requires : goal.put_phrase-end-requires

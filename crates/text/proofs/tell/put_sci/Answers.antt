@@ -3,7 +3,6 @@ use mathlib.Core.Path.{refl}
 use native.Mathlib.Omega.{arith}
 use Rattle.text.specs.Numerals.{letters}
 use Rattle.text.specs.Lines.{sci_line}
-use borrow.Author.Rules.{rules}
 use Rattle.text.proofs.tell.put_sci.Goals as goal
 
 pub put_line-requires : goal.put_line-requires

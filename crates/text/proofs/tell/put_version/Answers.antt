@@ -1,7 +1,6 @@
 -- `put_version` writes the line of the version.
 use Rattle.text.specs.Numerals.{letters}
 use Rattle.text.specs.Lines.{version_line}
-use borrow.Author.Rules.{rules}
 use Rattle.text.proofs.tell.put_version.Goals as goal
 
 pub put_line-requires : goal.put_line-requires
