@@ -1,5 +1,6 @@
 pub mod Counts
 pub mod Landing
+pub mod Bridges
 pub mod Stilling
 pub mod NoClash
 pub mod Entries

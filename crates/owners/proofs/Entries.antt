@@ -22,6 +22,10 @@ use Rattle.owners.specs.declared.Entry.{Entry}
 use Rattle.owners.specs.declared.OwnerTable.{OwnerTable}
 use Rattle.owners.proofs.Same.{same_owner_lem, owner_same}
 
+-- the table of some entries
+abbrev pub of : List Entry → OwnerTable
+of entries = record { entries = entries }
+
 -- the entry of a number, by a map, and the entries from a number on
 abbrev pub entry_by : Map → ℕ → Entry
 entry_by map number = entry_of (owner (says map) number)

@@ -44,7 +44,6 @@ use Rattle.map_promises.proofs.WalkKeepsBooks.{walk_stands}
 use Rattle.reading.specs.Scan.{madt_bytes, walk_of, turned_down, repeat_rule, processor_rule, scan}
 use Rattle.reading.specs.Reading.{list_after}
 use Rattle.reading.specs.Entries.{route_result, trace_result}
-use Rattle.reading.specs.declared.Answer.TheVariants.{Refused}
 use Rattle.reading.proofs.Laws.{bytes_small, later_rules, scan-refused}
 use Rattle.promises.specs.RefusalTable.{OfTheTable, ReadingRefusals, RefusedLeavesList, RouteRefusals, TraceRefusals, MapRefusals}
 use Rattle.promises.proofs.AcceptedIsTrustworthy.{accepted_is_trustworthy}

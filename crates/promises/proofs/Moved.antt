@@ -18,7 +18,6 @@ use Rattle.words.proofs.Numbers.{number_take, number_drop}
 use Rattle.words.proofs.Verdicts.{not_sound, unless-refused, unless_sound, first-joined, joined_kept}
 use Rattle.capture.specs.Fields.{version}
 use Rattle.capture.specs.Pairs.{pairs_of, pins_of}
-use Rattle.capture.specs.Rules.{verdict}
 use Rattle.tables.specs.Table.{revision}
 use Rattle.tables.specs.Survey.{wrong_madt_revision, wrong_flags, madt_field_rules, sci_number, with_sci, tables_from, tables_of, rules_before_29, survey_rules, survey}
 use Rattle.tables.specs.declared.Strictness.{Strictness}

@@ -7,7 +7,7 @@ use borrow.Author.Tests.{eqb-false}
 use lib.Dec.{eqb}
 use Rattle.words.specs.Refusals.{first_refusal}
 use Rattle.words.specs.declared.Verdict.{Verdict}
-use Rattle.words.specs.declared.Verdict.TheVariants.{Sound, Refused}
+use Rattle.words.specs.declared.Verdict.TheVariants.{Sound}
 use Rattle.words.proofs.Verdicts.{not_sound, rule_kept, unless_sound, first_alone, first-joined, joined_kept, each_sound}
 use Rattle.tables.specs.Survey.{tables_of, survey_rules, survey}
 use Rattle.tables.specs.declared.Tables.{Tables}

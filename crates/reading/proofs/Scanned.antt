@@ -6,7 +6,7 @@ use mathlib.Core.Path.{◌≡◌, refl, sym, ◌∙◌, ap}
 use mathlib.Core.List.{List, ◌++◌}
 use Rattle.words.specs.Refusals.{first_refusal}
 use Rattle.words.specs.declared.Verdict.{Verdict}
-use Rattle.words.specs.declared.Verdict.TheVariants.{Sound, Refused}
+use Rattle.words.specs.declared.Verdict.TheVariants.{Sound}
 use Rattle.words.proofs.Verdicts.{unless-told, unless_sound, both_sound, joined_kept}
 use Rattle.tables.specs.Survey.{tables_of, survey_rules, survey}
 use Rattle.tables.specs.declared.Strictness.{Strictness}

@@ -1,7 +1,7 @@
 -- `capture::before_end` compares with the end exactly, though the end may lie past 2^64.
 use Rattle.words.proofs.Tests.{is-ltb}
 use borrow.Author.Tests.{leb-true, leb-false, lt-ltb}
-use Prim.Native.Nat.{◌-◌, ◌+◌}
+use Prim.Native.Nat.{◌+◌}
 use mathlib.Core.Path.{sym}
 use native.Mathlib.Omega.{arith}
 use Rattle.capture.proofs.before_end.Goals as goal

@@ -4,7 +4,6 @@ use Rattle.words.specs.declared.Verdict.TheVariants.{Refused}
 use Rattle.words.proofs.Verdicts.{first_broken_lem, first_kept}
 use Rattle.capture.specs.Rules.{container_rules, verdict}
 use Rattle.capture.proofs.Laws.{total_whole}
-use borrow.Author.Rules.{rules}
 use Rattle.capture.proofs.check.Goals as goal
 
 pub returns-then-wrong_size : goal.returns-then-wrong_size

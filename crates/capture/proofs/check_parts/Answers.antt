@@ -1,6 +1,5 @@
 -- `capture::check_parts` gives the refusals of the segments first.
 use mathlib.Core.Path.{sym, ◌∙◌}
-use borrow.Author.Rules.{rules}
 use Rattle.words.specs.declared.Verdict.TheVariants.{Refused}
 use Rattle.words.proofs.Verdicts.{first-joined, unless-refused, unless_sound}
 use Rattle.capture.specs.Rules.{segment_rules}

@@ -2,7 +2,6 @@
 use native.Mathlib.Omega.{arith}
 use Rattle.capture.specs.Fields.{version, descriptor, descriptors_end}
 use Rattle.capture.proofs.Laws.{header_bounds}
-use borrow.Author.Rules.{rules}
 use Rattle.capture.proofs.descriptors_end.Goals as goal
 
 pub overflow_add-result : goal.overflow_add-result

@@ -2,7 +2,6 @@
 use mathlib.Core.Path.{ap, ◌∙◌}
 use native.Mathlib.Omega.{arith}
 use Rattle.capture.specs.Fields.{header_size, descriptor}
-use borrow.Author.Rules.{rules}
 use Rattle.capture.proofs.descriptors_start.Goals as goal
 
 pub returns : goal.returns

@@ -3,7 +3,6 @@ use mathlib.Core.Path.{sym, ◌∙◌}
 use Rattle.words.proofs.Verdicts.{joined-refused, joined_sound}
 use Rattle.capture.specs.Rules.{container_rules, verdict}
 use Rattle.capture.specs.Presence.{rsdp}
-use borrow.Author.Rules.{rules}
 use Rattle.capture.proofs.find_rsdp.Goals as goal
 
 pub locate_rsdp-requires : goal.locate_rsdp-requires

@@ -1,5 +1,4 @@
 -- `capture::has_address` compares with both ends.
-use borrow.Author.Rules.{rules}
 use Rattle.capture.proofs.has_address.Goals as goal
 
 pub returns : goal.returns

@@ -1,7 +1,6 @@
 -- `capture::head_of` is the capture up to the last descriptor's end.
 use mathlib.Core.Path.{ap, ◌∙◌}
 use Rattle.words.specs.Bytes.{part_at}
-use borrow.Author.Rules.{rules}
 use Rattle.capture.proofs.head_of.Goals as goal
 
 pub returns : goal.returns

@@ -1,23 +1,21 @@
 -- `capture::locate_rsdp` is refusal 10. A sound capture is small, so that 16 bits hold the place.
-use mathlib.Core.Path.{◌≡◌, ap, sym, ◌∙◌}
-use native.Mathlib.Omega.{arith}
+use Rattle.std.proofs.Common.{◌≡◌, ℕ, List, ap, sym, ◌∙◌, arith}
+use Rattle.capture.specs.declared.Reach.{Reach}
 use Rattle.capture.specs.Fields.{rsdp_address}
 use Rattle.capture.specs.Reach.{reached}
 use Rattle.capture.specs.declared.Root.TheVariants.{Refused}
 use Rattle.capture.proofs.Room.{rsdp_present, rsdp_absent, rsdp_small}
-use borrow.Author.Rules.{rules}
 use Rattle.capture.proofs.locate_rsdp.Goals as goal
 
 -- what was found at the RSDP's address
-there : (c : tie.After-reach-of)
-    → c.reach_of-reach.result ≡ reached c.args.capture.now (rsdp_address c.args.capture.now)
-there c = c.reach_of-reach.ensures ∙ ap (reached _) c.rsdp_address.ensures
+there : (capture : List ℕ) (address : ℕ) {reach : Reach} → address ≡ rsdp_address capture → reach ≡ reached capture address → reach ≡ reached capture (rsdp_address capture)
+there capture address a r = r ∙ ap (reached capture) a
 
 pub returns-then-reach-lt-RSDP_SIZE : goal.returns-then-reach-lt-RSDP_SIZE
-returns-then-reach-lt-RSDP_SIZE c = ap Refused c.refuse.ensures ∙ sym (rsdp_absent _ c.requires (there c) (omega arith))
+returns-then-reach-lt-RSDP_SIZE c = ap Refused c.refuse.ensures ∙ sym (rsdp_absent _ c.requires (there _ _ c.rsdp_address.ensures c.reach_of-reach.ensures) (omega arith))
 
 pub overflow_cast-result : goal.overflow_cast-result
-overflow_cast-result c = omega (arith, rsdp_small _ c.requires (there c) (omega arith))
+overflow_cast-result c = omega (arith, rsdp_small _ c.requires (there _ _ c.rsdp_address.ensures c.reach_of-reach.ensures) (omega arith))
 
 pub returns : goal.returns
-returns c = sym (rsdp_present _ c.requires (there c) (omega arith))
+returns c = sym (rsdp_present _ c.requires (there _ _ c.rsdp_address.ensures c.reach_of-reach.ensures) (omega arith))

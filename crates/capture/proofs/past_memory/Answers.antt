@@ -1,10 +1,9 @@
 -- `capture::past_memory` compares the end with 2^64 exactly.
 use Rattle.words.proofs.Tests.{is-ltb}
 use borrow.Author.Tests.{leb-true, leb-false, le-ltb}
-use Prim.Native.Nat.{◌-◌, ◌+◌, ◌^◌}
+use Prim.Native.Nat.{◌+◌, ◌^◌}
 use mathlib.Core.Path.{sym}
 use native.Mathlib.Omega.{arith}
-use borrow.Author.Rules.{rules}
 use Rattle.capture.proofs.past_memory.Goals as goal
 
 pub returns-then-length-eq0 : goal.returns-then-length-eq0

@@ -1,17 +1,12 @@
 -- `capture::reach_of` names the first segment that has the address. The place of each segment is the sum of what was passed.
-use mathlib.Core.Path.{◌≡◌, refl, ap, sym, ◌∙◌}
-use Prim.Native.Nat.{ℕ, ◌+◌, ◌-◌, ◌*◌, ◌≤◌, ◌<◌}
-use native.Mathlib.Omega.{arith}
+use mathlib.Core.Path.{◌≡◌}
+use Prim.Native.Nat.{ℕ, ◌+◌, ◌-◌, ◌*◌, ◌≤◌}
 use lib.ListN.{length}
-use Rattle.words.specs.Bytes.{part_at}
 use Rattle.words.specs.Lists.{first, numbers_from}
-use Rattle.words.proofs.Searches.{search_start, Searching, search_hit, search_miss, search_over, next_number, no_number}
-use Rattle.capture.specs.Fields.{segment_count, descriptors_end, segment_address, segment_length, has_address, lengths, segment_place, segments}
+use Rattle.words.proofs.Searches.{Searching}
+use Rattle.capture.specs.Fields.{segment_count, has_address, segment_place, segments}
 use Rattle.capture.specs.Reach.{reach_in, nowhere}
-use Rattle.capture.proofs.Laws.{count_small, between, reach_told, reached_short, reached_whole, place_next}
-use Rattle.capture.proofs.Head.{Standing, next_descriptor, descriptor_small, head_length, head_reads, head_over, same_count, same_place, same_end}
-use Rattle.capture.proofs.Runs.{same_segment_end, same_run}
-use borrow.Author.Rules.{rules}
+use Rattle.capture.proofs.Head.{Standing}
 use Rattle.capture.proofs.reach_of.Given as goal
 
 abbrev pub invariant-loop-at : goal.invariant-loop-at

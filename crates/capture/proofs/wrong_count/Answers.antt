@@ -1,6 +1,5 @@
 -- `capture::wrong_count` is refusal 4.
 use Rattle.capture.specs.Rules.{wrong_count}
-use borrow.Author.Rules.{rules}
 use Rattle.capture.proofs.wrong_count.Goals as goal
 
 pub returns : goal.returns

@@ -1,6 +1,5 @@
 -- `capture::wrong_mark` is refusal 2.
 use Rattle.capture.specs.Rules.{wrong_mark}
-use borrow.Author.Rules.{rules}
 use Rattle.capture.proofs.wrong_mark.Goals as goal
 
 pub returns : goal.returns

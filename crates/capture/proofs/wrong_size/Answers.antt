@@ -1,6 +1,5 @@
 -- `capture::wrong_size` is refusal 1.
 use Rattle.capture.specs.Rules.{wrong_size}
-use borrow.Author.Rules.{rules}
 use Rattle.capture.proofs.wrong_size.Goals as goal
 
 pub returns : goal.returns

@@ -5,7 +5,6 @@ use native.Mathlib.Omega.{arith}
 use Rattle.words.specs.Bytes.{AllBytes}
 use Rattle.capture.specs.Fields.{total_length, segment_count}
 use Rattle.capture.proofs.Laws.{count_small, lengths_small, short_total, whole_total}
-use borrow.Author.Rules.{rules}
 use Rattle.capture.proofs.wrong_total.Goals as goal
 
 pub returns-then-length-end : goal.returns-then-length-end

@@ -1,6 +1,5 @@
 -- `capture::wrong_version` is refusal 3.
 use Rattle.capture.specs.Rules.{wrong_version}
-use borrow.Author.Rules.{rules}
 use Rattle.capture.proofs.wrong_version.Goals as goal
 
 pub returns : goal.returns

@@ -1,5 +1,4 @@
 -- `clashes::are_apart` asks all four rules.
-use borrow.Author.Rules.{rules}
 use Rattle.clashes.specs.Apart.{apart}
 use Rattle.clashes.proofs.are_apart.Goals as goal
 

@@ -1,12 +1,11 @@
 -- `at_both` names two structures that clash.
-use borrow.Author.Rules.{rules}
 use Rattle.clashes.specs.Told.{at_both}
 use Rattle.clashes.proofs.at_both.Goals as goal
 
 pub returns-in_default : goal.returns-in_default
 unfolding at_both
-returns-in_default c = rw c.enum_told-1.given.1
+returns-in_default c = rw c.in_default.is
 
 pub returns : goal.returns
 unfolding at_both
-returns c = rw (c.pair-1.given.1, c.refuse_with.ensures)
+returns c = rw (c.in-Two.is, c.refuse_with.ensures)

@@ -1,12 +1,11 @@
 -- `at_spot` names the structure at a spot.
-use borrow.Author.Rules.{rules}
 use Rattle.clashes.specs.Told.{spotted}
 use Rattle.clashes.proofs.at_spot.Goals as goal
 
 pub returns-in_default : goal.returns-in_default
 unfolding spotted
-returns-in_default c = rw c.enum_told-1.given.1
+returns-in_default c = rw c.in_default.is
 
 pub returns : goal.returns
 unfolding spotted
-returns c = rw (c.spot-1.given.1, c.refuse.ensures)
+returns c = rw (c.in-At.is, c.refuse.ensures)

@@ -1,5 +1,4 @@
 -- `clashes::nearer_of` counts an earlier claim that clashes.
-use borrow.Author.Rules.{rules}
 use Rattle.words.specs.Choice.{if}
 use Rattle.clashes.specs.Search.{nearer}
 use Rattle.clashes.proofs.nearer_of.Goals as goal

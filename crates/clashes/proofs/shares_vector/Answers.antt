@@ -1,5 +1,4 @@
 -- `clashes::shares_vector` is rule 52.
-use borrow.Author.Rules.{rules}
 use Rattle.clashes.proofs.shares_vector.Goals as goal
 
 pub returns : goal.returns

@@ -1,6 +1,5 @@
 -- `said_lio` is the LIO without what is unused in it.
 use mathlib.Core.Path.{sym, refl, ◌∙◌}
-use borrow.Author.Rules.{rules}
 use Rattle.words.proofs.Choices.{yes_if, no_if}
 use Rattle.kinds.specs.Used.{said_lio}
 use Rattle.kinds.proofs.said_lio.Goals as goal

@@ -1,6 +1,5 @@
 -- `owners::fill`: 61, or the map's table.
 use mathlib.Core.Path.{sym, ◌∙◌}
-use borrow.Author.Rules.{rules}
 use Rattle.owners.proofs.Calls.{filled, not-filled}
 use Rattle.owners.proofs.fill.Goals as goal
 

@@ -1,5 +1,4 @@
 -- `owners::is_same` compares the parts.
-use borrow.Author.Rules.{rules}
 use Rattle.owners.specs.Table.{same_owner}
 use Rattle.owners.proofs.is_same.Goals as goal
 

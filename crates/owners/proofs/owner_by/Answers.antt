@@ -11,15 +11,13 @@ use Rattle.owners.specs.Lookups.{owner_by}
 use Rattle.owners.proofs.Entries.{owner_at}
 use Rattle.owners.proofs.owner_by.Goals as goal
 
-sized : (s : tie.Start) → length s.args.table.entries-1 ≡ 320
-sized s = search (rules, length_mapped)
-
 pub returns-then-i-lt-NUMBERS : goal.returns-then-i-lt-NUMBERS
 unfolding owner_by
 returns-then-i-lt-NUMBERS c =
-    let s = c in
+    let a = c.args in
     let more = c.if-i-lt-NUMBERS.true in
-    owner_at s.args.table s.args.number _ (omega (arith, sized s, more)) ∙ sym (yes_if _ _ _ (lt-ltb _ _ more))
+    let sized : length a.table.entries ≡ 320 = search (rules, length_mapped) in
+    owner_at a.table a.number _ (omega arith) ∙ sym (yes_if _ _ _ (lt-ltb _ _ more))
 
 pub returns : goal.returns
 unfolding owner_by if

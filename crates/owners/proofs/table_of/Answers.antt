@@ -1,12 +1,10 @@
 -- `owners::table_of` writes the entry of each number, one behind the other.
-use mathlib.Core.Path.{◌≡◌, refl, ap, ◌∙◌}
-use Prim.Native.Nat.{◌-◌}
+use mathlib.Core.Path.{refl, ap, ◌∙◌}
 use native.Mathlib.Omega.{arith}
-use lib.ListN.{length}
 use borrow.Author.Rules.{rules}
-use Rattle.words.proofs.Rooms.{Writing, write_start, write_end, write_next}
+use Rattle.words.proofs.Rooms.{write_start, write_end, write_next}
 use Rattle.owners.specs.Table.{table_of}
-use Rattle.owners.proofs.Entries.{entries_from, next_entry, no_entry, all_entries, whole_table, empty_size}
+use Rattle.owners.proofs.Entries.{next_entry, no_entry, all_entries, whole_table, empty_size}
 use Rattle.owners.proofs.table_of.Goals as goal
 
 pub loop-i-init : goal.loop-i-init

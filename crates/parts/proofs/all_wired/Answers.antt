@@ -1,19 +1,18 @@
 -- `parts::all_wired` asks of every byte of an HT whether it names a wired input.
 use mathlib.Core.Path.{◌≡◌, ap}
-use lib.ListN.{length, take, drop}
+use lib.ListN.{length}
 use lib.Seq.{take_all}
-use Prim.Native.Nat.{◌-◌}
 use native.Mathlib.Omega.{arith}
 use borrow.Author.Rules.{rules}
 use Rattle.words.specs.Lists.{every}
-use Rattle.words.proofs.Searches.{Testing, test_next, test_over}
-use Rattle.words.proofs.Turns.{Turn, element, next_turn, no_turn}
+use Rattle.words.proofs.Searches.{test_next, test_over}
+use Rattle.words.proofs.Turns.{element, next_turn, no_turn}
 use Rattle.parts.specs.Inputs.{wired}
 use Rattle.parts.proofs.all_wired.Goals as goal
 
 pub loop-n-init : goal.loop-n-init
 loop-n-init c =
-    let bytes = c.args.t2 in
+    let bytes = c.args.bytes in
     let eight : length bytes ≡ 8 = search rules in
     (record { within = search rules; fits = omega arith }, record { gives = ap (every (wired c.args.lio)) (take_all 8 bytes (omega arith)) })
 

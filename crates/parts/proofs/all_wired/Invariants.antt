@@ -1,13 +1,9 @@
 -- `parts::all_wired` asks of every byte of an HT whether it names a wired input.
-use mathlib.Core.Path.{◌≡◌, ap}
-use lib.ListN.{length, take, drop}
-use lib.Seq.{take_all}
+use lib.ListN.{take, drop}
 use Prim.Native.Nat.{◌-◌}
-use native.Mathlib.Omega.{arith}
-use borrow.Author.Rules.{rules}
 use Rattle.words.specs.Lists.{every}
-use Rattle.words.proofs.Searches.{Testing, test_next, test_over}
-use Rattle.words.proofs.Turns.{Turn, element, next_turn, no_turn}
+use Rattle.words.proofs.Searches.{Testing}
+use Rattle.words.proofs.Turns.{Turn}
 use Rattle.parts.specs.Inputs.{wired}
 use Rattle.parts.proofs.all_wired.Given as goal
 

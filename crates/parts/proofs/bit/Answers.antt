@@ -1,6 +1,5 @@
 -- `parts::bit` is a bit of a mask of 32 inputs.
 use borrow.Author.Tests.{lt-ltb, le-ltb}
-use borrow.Author.Rules.{rules}
 use Rattle.parts.specs.Inputs.{has_bit}
 use Rattle.parts.proofs.bit.Goals as goal
 

@@ -1,6 +1,5 @@
 -- `parts::core_vector` asks the low half first, then the high one.
 use mathlib.Core.Path.{sym, refl}
-use borrow.Author.Rules.{rules}
 use Rattle.words.proofs.Choices.{yes_if, no_if}
 use Rattle.parts.specs.Inputs.{core_vector}
 use Rattle.parts.proofs.core_vector.Goals as goal

@@ -1,5 +1,4 @@
 -- `parts::half_leads`: the half enters that vector, and its mask has the bit.
-use borrow.Author.Rules.{rules}
 use Rattle.parts.proofs.half_leads.Goals as goal
 
 pub returns : goal.returns

@@ -8,5 +8,5 @@ use Rattle.parts.proofs.input_for.Goals as goal
 pub returns : goal.returns
 returns c =
     let ht = c.args.ht in
-    let eight : length ht.bytes-1 ≡ 8 = search rules in
-    sym (get_or-eq_default ht.bytes-1 0 (omega arith))
+    let eight : length ht.bytes ≡ 8 = search rules in
+    sym (get_or-eq_default ht.bytes 0 (omega arith))

@@ -1,5 +1,4 @@
 -- `parts::is_named`: there is an HT, and a byte of it names the input.
-use borrow.Author.Rules.{rules}
 use Rattle.parts.specs.Inputs.{is_named}
 use Rattle.parts.proofs.is_named.Goals as goal
 

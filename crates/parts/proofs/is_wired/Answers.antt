@@ -1,5 +1,4 @@
 -- `parts::is_wired`: a half's mask has the bit.
-use borrow.Author.Rules.{rules}
 use Rattle.parts.proofs.is_wired.Goals as goal
 
 pub returns : goal.returns

@@ -1,5 +1,4 @@
 -- `parts::names_unwired`: there is an HT, and not every byte of it names a wired input.
-use borrow.Author.Rules.{rules}
 use Rattle.parts.specs.Inputs.{names_unwired}
 use Rattle.parts.proofs.names_unwired.Goals as goal
 

@@ -2,19 +2,18 @@
 use mathlib.Core.Path.{◌≡◌, ap}
 use mathlib.Core.Bool.{not}
 use lib.Dec.{eqb}
-use lib.ListN.{length, take, drop}
+use lib.ListN.{length}
 use lib.Seq.{take_all}
-use Prim.Native.Nat.{◌-◌}
 use native.Mathlib.Omega.{arith}
 use borrow.Author.Rules.{rules}
 use Rattle.words.specs.Lists.{every}
-use Rattle.words.proofs.Searches.{Testing, test_next, test_over}
-use Rattle.words.proofs.Turns.{Turn, element, next_turn, no_turn}
+use Rattle.words.proofs.Searches.{test_next, test_over}
+use Rattle.words.proofs.Turns.{element, next_turn, no_turn}
 use Rattle.parts.proofs.none_names.Goals as goal
 
 pub loop-n-init : goal.loop-n-init
 loop-n-init c =
-    let bytes = c.args.t1 in
+    let bytes = c.args.bytes in
     let eight : length bytes ≡ 8 = search rules in
     (record { within = search rules; fits = omega arith }, record { gives = ap (every (λ b. not (eqb b c.args.i))) (take_all 8 bytes (omega arith)) })
 

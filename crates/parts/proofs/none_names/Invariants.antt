@@ -1,15 +1,11 @@
 -- `parts::none_names` compares every byte of an HT with an input.
-use mathlib.Core.Path.{◌≡◌, ap}
 use mathlib.Core.Bool.{not}
 use lib.Dec.{eqb}
-use lib.ListN.{length, take, drop}
-use lib.Seq.{take_all}
+use lib.ListN.{take, drop}
 use Prim.Native.Nat.{◌-◌}
-use native.Mathlib.Omega.{arith}
-use borrow.Author.Rules.{rules}
 use Rattle.words.specs.Lists.{every}
-use Rattle.words.proofs.Searches.{Testing, test_next, test_over}
-use Rattle.words.proofs.Turns.{Turn, element, next_turn, no_turn}
+use Rattle.words.proofs.Searches.{Testing}
+use Rattle.words.proofs.Turns.{Turn}
 use Rattle.parts.proofs.none_names.Given as goal
 
 abbrev pub invariant-loop-n : goal.invariant-loop-n

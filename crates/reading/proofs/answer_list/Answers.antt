@@ -11,18 +11,14 @@ use Rattle.reading.proofs.answer_list.Goals as goal
 
 pub returns-in-NoRoom : goal.returns-in-NoRoom
 returns-in-NoRoom c =
-    let f = c in
-    let start = f in
-    let same = same_entries start.args.table.now start.args.offsets.now start.requires in
-    let room = no_room_told _ _ _ (sym f.fill.ensures.0 ∙ c.enum_told-1.given.1) in
-    (c.without_map.ensures ∙ ap without_map c.refuse.ensures ∙ sym (answered_60 _ _ _ (rw same at room)), rw same at f.fill.ensures.1)
+    let same = same_entries c.args.table.now c.args.offsets.now c.requires in
+    let room = no_room_told _ _ _ (sym c.fill.ensures.result_value ∙ c.in-NoRoom.is) in
+    record { value = c.without_map.ensures ∙ ap without_map c.refuse.ensures ∙ sym (answered_60 _ _ _ (rw same at room)); list_after = rw same at c.fill.ensures.list_after }
 
 pub returns-in-Whole : goal.returns-in-Whole
 returns-in-Whole c =
-    let f = c in
-    let start = f in
-    let a = start.args in
-    let same = same_entries a.table.now a.offsets.now start.requires in
-    let many = same_count a.table.now a.offsets.now start.requires in
-    let room = whole_told _ _ _ (sym f.fill.ensures.0 ∙ c.processors-1.given.1) in
-    (ap (λ (n : ℕ). record { answer = Read n; map = a.map }) (room.1 ∙ many) ∙ sym (answered_read _ _ _ (rw same at room.0)), rw same at f.fill.ensures.1)
+    let a = c.args in
+    let same = same_entries a.table.now a.offsets.now c.requires in
+    let many = same_count a.table.now a.offsets.now c.requires in
+    let room = whole_told _ _ _ (sym c.fill.ensures.result_value ∙ c.in-Whole.is) in
+    record { value = ap (λ (n : ℕ). record { answer = Read n; map = a.map }) (room.1 ∙ many) ∙ sym (answered_read _ _ _ (rw same at room.0)); list_after = rw same at c.fill.ensures.list_after }

@@ -8,13 +8,10 @@ use Rattle.reading.proofs.check_repeats.Goals as goal
 
 pub returns-in-Nowhere : goal.returns-in-Nowhere
 returns-in-Nowhere c =
-    let start = c in
-    let same = same_repeat start.args.table.now start.args.offsets.now start.requires in
-    sym (repeat_none _ _ (sym same ∙ sym c.first_repeat.ensures ∙ c.enum_told-1.given.1))
+    let same = same_repeat c.args.table.now c.args.offsets.now c.requires in
+    sym (repeat_none _ _ (sym same ∙ sym c.first_repeat.ensures ∙ c.in-Nowhere.is))
 
 pub returns-in-At : goal.returns-in-At
 returns-in-At c =
-    let f = c in
-    let start = f in
-    let same = same_repeat start.args.table.now start.args.offsets.now start.requires in
-    ap Refused c.refuse.ensures ∙ sym (repeat_at _ _ (sym same ∙ sym f.first_repeat.ensures ∙ c.offset-1.given.1))
+    let same = same_repeat c.args.table.now c.args.offsets.now c.requires in
+    ap Refused c.refuse.ensures ∙ sym (repeat_at _ _ (sym same ∙ sym c.first_repeat.ensures ∙ c.in-At.is))

@@ -14,36 +14,30 @@ use Rattle.reading.proofs.read_by.Goals as goal
 
 pub answer_list-requires : goal.answer_list-requires
 answer_list-requires c =
-    let told = c in
-    let s = told in
-    let sound = told.enum_told-1.given.1 in
-    rw (c.madt_bytes.ensures, c.noted-offsets.ensures, scanned_bytes _ _ s.scan_noting-noted.ensures.0) (s.scan_noting-noted.ensures.1 sound)
+    let sound = c.in-Sound.is in
+    rw (c.madt_bytes.ensures, c.noted-offsets.ensures, scanned_bytes _ _ c.scan_noting-noted.ensures.scan_value) (c.scan_noting-noted.ensures.standing sound)
 
 pub returns-in-Refused : goal.returns-in-Refused
 unfolding reading_of list_after
 returns-in-Refused c =
-    let s = c in
-    let refused = ap (λ (x : Scan). x.verdict-1) (sym s.scan_noting-noted.ensures.0) ∙ c.verdict-1.given.1 in
-    (c.without_map.ensures ∙ sym (unless-refused _ _ _ refused), sym (unless-refused _ _ _ refused))
+    let refused = ap (λ (x : Scan). x.verdict) (sym c.scan_noting-noted.ensures.scan_value) ∙ c.in-Refused.is in
+    record { value = c.without_map.ensures ∙ sym (unless-refused _ _ _ refused); list_after = sym (unless-refused _ _ _ refused) }
 
 pub returns-in-Sound : goal.returns-in-Sound
 unfolding reading_of list_after madt_found
 returns-in-Sound c =
-    let l = c in
-    let b = l in
-    let told = b in
-    let s = told in
-    let a = s.args in
-    let r = s.scan_noting-noted.result.scan in
+    let a = c.args in
+    let r = c.scan_noting-noted.result.scan in
     let capture = a.capture.now in
-    let list = a.list-1.now in
-    let sound = ap (λ (x : Scan). x.verdict-1) (sym s.scan_noting-noted.ensures.0) ∙ told.enum_told-1.given.1 in (
-      l.answer_list.ensures.0
-          ∙ ap (λ (x : List ℕ). answered x r.map-1 list) b.madt_bytes.ensures
-          ∙ ap (λ (x : Scan). answered (madt_bytes capture x.madt-1) x.map-1 list) s.scan_noting-noted.ensures.0
-          ∙ sym (unless_sound _ _ _ sound),
-      l.answer_list.ensures.1
-          ∙ ap (λ (x : List ℕ). filled (processors x) list) b.madt_bytes.ensures
-          ∙ ap (λ (x : Scan). filled (processors (madt_bytes capture x.madt-1)) list) s.scan_noting-noted.ensures.0
-          ∙ sym (unless_sound _ _ _ sound),
-    )
+    let list = a.list.now in
+    let sound = ap (λ (x : Scan). x.verdict) (sym c.scan_noting-noted.ensures.scan_value) ∙ c.in-Sound.is in
+    record {
+      value = c.answer_list.ensures.value
+          ∙ ap (λ (x : List ℕ). answered x r.map list) c.madt_bytes.ensures
+          ∙ ap (λ (x : Scan). answered (madt_bytes capture x.madt) x.map list) c.scan_noting-noted.ensures.scan_value
+          ∙ sym (unless_sound _ _ _ sound);
+      list_after = c.answer_list.ensures.list_after
+          ∙ ap (λ (x : List ℕ). filled (processors x) list) c.madt_bytes.ensures
+          ∙ ap (λ (x : Scan). filled (processors (madt_bytes capture x.madt)) list) c.scan_noting-noted.ensures.scan_value
+          ∙ sym (unless_sound _ _ _ sound);
+    }

@@ -9,22 +9,20 @@ use Rattle.reading.proofs.rules_after_walk.Goals as goal
 
 pub returns-in-Refused : goal.returns-in-Refused
 unfolding first_refusal
-returns-in-Refused c = sym (unless-refused _ _ _ (sym c.check_repeats.ensures ∙ c.refusal-1.given.1))
+returns-in-Refused c = sym (unless-refused _ _ _ (sym c.check_repeats.ensures ∙ c.in-Refused.is))
 
 pub returns-in-Refused-check_processors : goal.returns-in-Refused-check_processors
 unfolding first_refusal
 returns-in-Refused-check_processors c =
-    let start = c in
-    let told = c.check_processors.ensures ∙ ap (processor_rule start.args.t.madt-1.place) start.requires.1.0 in
-    sym (unless_sound _ _ _ (sym c.check_repeats.ensures ∙ c.enum_told-1.given.1)
-    ∙ unless-refused _ _ _ (sym told ∙ c.refusal-in-Refused-check_processors-1.given.1))
+    let told = c.check_processors.ensures ∙ ap (processor_rule c.args.t.madt.place) c.requires.enabled_value in
+    sym (unless_sound _ _ _ (sym c.check_repeats.ensures ∙ c.in-Sound.is)
+    ∙ unless-refused _ _ _ (sym told ∙ c.in-Refused-check_processors.is))
 
 pub returns-in-Sound-check_processors : goal.returns-in-Sound-check_processors
 unfolding first_refusal
 returns-in-Sound-check_processors c =
-    let start = c in
-    let told = c.check_processors.ensures ∙ ap (processor_rule start.args.t.madt-1.place) start.requires.1.0 in
+    let told = c.check_processors.ensures ∙ ap (processor_rule c.args.t.madt.place) c.requires.enabled_value in
     c.first_broken.ensures
-    ∙ map_judged _ _ _ _ start.requires.1.1
-    ∙ sym (unless_sound _ _ _ (sym c.check_repeats.ensures ∙ c.enum_told-1.given.1)
-    ∙ unless_sound _ _ _ (sym told ∙ c.enum_told-in-Sound-check_processors-1.given.1))
+    ∙ map_judged _ _ _ _ c.requires.map_value
+    ∙ sym (unless_sound _ _ _ (sym c.check_repeats.ensures ∙ c.in-Sound.is)
+    ∙ unless_sound _ _ _ (sym told ∙ c.in-Sound-check_processors.is))

@@ -3,4 +3,4 @@ use borrow.Author.Rules.{rules}
 use Rattle.reading.proofs.scan_capture.Goals as goal
 
 pub returns : goal.returns
-returns c = c.scan_noting-noted.ensures.0
+returns c = c.scan_noting-noted.ensures.scan_value

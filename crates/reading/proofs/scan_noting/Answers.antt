@@ -14,13 +14,13 @@ scan_tables-requires c = c.requires
 pub returns-in-Refused : goal.returns-in-Refused
 unfolding turned_down
 returns-in-Refused c =
-    (
-  c.turn_down.ensures ∙ sym (scan-refused _ _ (sym c.survey_capture.ensures ∙ c.refusal-1.given.1)),
-  λ h. not_sound (sym (ap (λ (s : Scan). s.verdict) c.turn_down.ensures) ∙ h),
-)
+    record {
+      scan_value = c.turn_down.ensures ∙ sym (scan-refused _ _ (sym c.survey_capture.ensures ∙ c.in-Refused.is));
+      standing = λ h. not_sound (sym (ap (λ (s : Scan). s.verdict) c.turn_down.ensures) ∙ h);
+    }
 
 pub returns-in-Found : goal.returns-in-Found
 returns-in-Found c =
-    let found = sym c.survey_capture.ensures ∙ c.t-1.given.1 in
-    let same = c.scan_tables.ensures.0 ∙ sym (scan_found _ _ found) in
-    (same, λ h. rw (found_madt _ _ found (sym (ap (λ (s : Scan). s.verdict) same) ∙ h)) (c.scan_tables.ensures.1 h))
+    let found = sym c.survey_capture.ensures ∙ c.in-Found.is in
+    let same = c.scan_tables.ensures.scan_value ∙ sym (scan_found _ _ found) in
+    record { scan_value = same; standing = λ h. rw (found_madt _ _ found (sym (ap (λ (s : Scan). s.verdict) same) ∙ h)) (c.scan_tables.ensures.standing h) }

@@ -5,7 +5,6 @@ use borrow.Author.Tests.{lt-ltb, le-ltb}
 use Rattle.words.proofs.Verdicts.{first_none, first_broken_lem, first_kept}
 use Rattle.words.specs.declared.Verdict.TheVariants.{Refused}
 use Rattle.tables.specs.Survey.{length_rules, wrong_madt_revision, madt_field_rules, body_rules}
-use borrow.Author.Rules.{rules}
 use Rattle.tables.proofs.body_rules.Goals as goal
 
 pub returns-then-madt-lt-MADT_LEAST : goal.returns-then-madt-lt-MADT_LEAST

@@ -3,13 +3,12 @@ use mathlib.Core.Path.{ap, sym, ◌∙◌}
 use Rattle.words.specs.Refusals.{refused}
 use Rattle.words.specs.declared.Verdict.TheVariants.{Refused}
 use Rattle.tables.proofs.Laws.{second_sound, second_refused}
-use borrow.Author.Rules.{rules}
 use Rattle.tables.proofs.second_rule.Goals as goal
 
 pub returns-in-Nowhere : goal.returns-in-Nowhere
-returns-in-Nowhere c = sym (second_sound _ _ c.enum_told-1.given.1)
+returns-in-Nowhere c = sym (second_sound _ _ c.in-Nowhere.is)
 
 pub returns-in-At : goal.returns-in-At
 returns-in-At c =
     ap Refused (c.refuse.ensures ∙ ap (refused 27) c.entry_field.ensures)
-    ∙ sym (second_refused _ _ (cc))
+    ∙ sym (second_refused _ _ c.in-At.is)

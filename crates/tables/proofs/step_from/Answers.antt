@@ -3,7 +3,6 @@ use mathlib.Core.Path.{ap, sym, ◌∙◌}
 use native.Mathlib.Omega.{arith}
 use Rattle.tables.specs.declared.Step.TheVariants.{Structure}
 use Rattle.tables.proofs.Steps.{step_end, step_one_byte, step_too_short, step_past_end, step_structure}
-use borrow.Author.Rules.{rules}
 use Rattle.tables.proofs.step_from.Goals as goal
 
 pub returns-then-table-at : goal.returns-then-table-at

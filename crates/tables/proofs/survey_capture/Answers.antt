@@ -2,16 +2,13 @@
 use mathlib.Core.Path.{sym, ◌∙◌}
 use Rattle.capture.proofs.Within.{rsdp_of_sound}
 use Rattle.tables.proofs.Laws.{survey-refused, survey-at}
-use borrow.Author.Rules.{rules}
 use Rattle.tables.proofs.survey_capture.Goals as goal
 
 pub survey_rsdp-requires : goal.survey_rsdp-requires
-survey_rsdp-requires c =
-    let f = c in
-    rsdp_of_sound f.args.capture.now c.place-1.given.0.0 (cc)
+survey_rsdp-requires c = rsdp_of_sound c.args.capture.now c.in-At.place (cc)
 
 pub returns-in-Refused : goal.returns-in-Refused
 returns-in-Refused c = sym (survey-refused _ _ (cc))
 
 pub returns-in-At : goal.returns-in-At
-returns-in-At c = (cc) ∙ sym (survey-at _ _ {place = c.place-1.given.0.0} (cc))
+returns-in-At c = (cc) ∙ sym (survey-at _ _ {place = c.in-At.place} (cc))

@@ -4,7 +4,6 @@ use mathlib.Core.Path.{ap, sym, ◌∙◌}
 use Rattle.tables.specs.Survey.{with_sci}
 use Rattle.tables.specs.declared.Survey.TheVariants.{Found}
 use Rattle.words.proofs.Verdicts.{unless-refused, unless_sound}
-use borrow.Author.Rules.{rules}
 use Rattle.tables.proofs.survey_tables.Goals as goal
 
 pub returns-in-Refused : goal.returns-in-Refused

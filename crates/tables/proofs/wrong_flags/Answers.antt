@@ -1,6 +1,5 @@
 -- `tables::wrong_flags` is refusal 30.
 use Rattle.tables.specs.Survey.{wrong_flags}
-use borrow.Author.Rules.{rules}
 use Rattle.tables.proofs.wrong_flags.Goals as goal
 
 pub returns : goal.returns

@@ -6,11 +6,11 @@ use Rattle.text.proofs.write_text.Goals as goal
 pub returns-then-room-length : goal.returns-then-room-length
 returns-then-room-length c =
     let put = c.put_text-length.ensures in
-    let w = no_room _ _ put.0 c.if-room-length.true in
-    (w.0, (w.1, rw (← put.0) put.1.1))
+    let w = no_room _ _ put.value c.if-room-length.true in
+    record { value = w.0; room_after = w.1; capture_len_bound = rw (← put.value) put.upper_bound }
 
 pub returns : goal.returns
 returns c =
     let put = c.put_text-length.ensures in
-    let w = has_room_lem _ _ put.0 c.if-room-length.false c.put_text.ensures.1.0 in
-    (w.0, (w.1, rw (← put.0) put.1.1))
+    let w = has_room_lem _ _ put.value c.if-room-length.false c.put_text.ensures.room_after in
+    record { value = w.0; room_after = w.1; capture_len_bound = rw (← put.value) put.upper_bound }

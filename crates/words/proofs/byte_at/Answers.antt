@@ -1,5 +1,5 @@
 -- `words::byte_at` is the byte of the list, 0 past its end.
-use Rattle.std.proofs.Common.{sym, rules}
+use Rattle.std.proofs.Common.{sym}
 use lib.ListN.{get_or-eq_default}
 use Rattle.words.proofs.byte_at.Goals as goal
 

@@ -1,5 +1,5 @@
 -- `words::part` is the part of the list, also where that runs past the end.
-use Rattle.std.proofs.Common.{le_of_lt, rules}
+use Rattle.std.proofs.Common.{le_of_lt}
 use native.Mathlib.Nat.{add-sub_cancel_left}
 use Rattle.words.proofs.Parts.{part_none, part_rest}
 use Rattle.words.proofs.part.Goals as goal

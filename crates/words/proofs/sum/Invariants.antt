@@ -1,7 +1,6 @@
 -- `words::sum` is the sum modulo 256: at each turn, what is added so far and what is left make the whole.
-use Rattle.std.proofs.Common.{◌≡◌, ◌+◌, ◌-◌, ◌%◌, ◌<◌, ◌≤◌, length, drop, arith, rules}
-use Rattle.words.specs.Bytes.{total, byte_sum}
-use Rattle.words.proofs.Sums.{total_next, total_end}
+use Rattle.std.proofs.Common.{◌≡◌, ◌+◌, ◌-◌, ◌%◌, ◌<◌, ◌≤◌, length, drop}
+use Rattle.words.specs.Bytes.{total}
 use Rattle.words.proofs.sum.Given as goal
 
 abbrev pub invariant-loop-i : goal.invariant-loop-i

@@ -1,5 +1,5 @@
 -- `words::u32_at` is the 32-bit number, its bytes past the end counted as 0.
-use Rattle.std.proofs.Common.{sym, arith, rules}
+use Rattle.std.proofs.Common.{sym, arith}
 use Rattle.words.proofs.Numbers.{number_past, number_split}
 use Rattle.words.proofs.u32_at.Goals as goal
 

@@ -1,5 +1,5 @@
 -- `words::u64_at` is the 64-bit number, its bytes past the end counted as 0.
-use Rattle.std.proofs.Common.{sym, arith, rules}
+use Rattle.std.proofs.Common.{sym, arith}
 use Rattle.words.proofs.Numbers.{number_past, number_split}
 use Rattle.words.proofs.u64_at.Goals as goal
 

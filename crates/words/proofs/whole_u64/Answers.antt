@@ -1,5 +1,5 @@
 -- `words::whole_u64` is the number of its two halves.
-use Rattle.std.proofs.Common.{arith, rules}
+use Rattle.std.proofs.Common.{arith}
 use Rattle.words.proofs.Numbers.{number_split}
 use Rattle.words.proofs.whole_u64.Goals as goal
 

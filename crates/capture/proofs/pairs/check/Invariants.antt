@@ -1,15 +1,11 @@
 -- `pairs::check` names the first broken pair.
-use mathlib.Core.Path.{◌≡◌, refl, ap, sym, ◌∙◌}
+use mathlib.Core.Path.{◌≡◌}
 use Prim.Native.Nat.{ℕ, ◌-◌, ◌≤◌}
-use native.Mathlib.Omega.{arith}
-use borrow.Author.Rules.{rules}
-use borrow.Author.Tests.{ne_eqb}
 use Rattle.words.specs.Lists.{first, numbers_from, numbers_below}
 use Rattle.words.specs.Refusals.{refused}
 use Rattle.words.specs.declared.Verdict.TheVariants.{Sound, Refused}
-use Rattle.words.proofs.Searches.{search_start, Searching, search_hit, search_miss, search_over, next_number, no_number}
+use Rattle.words.proofs.Searches.{Searching}
 use Rattle.capture.specs.Pairs.{pair_place, pairs_of, pair_broken}
-use Rattle.capture.proofs.Pins.{empty_kept, pairs_first}
 use Rattle.capture.proofs.pairs.check.Given as goal
 
 abbrev pub invariant-loop-k : goal.invariant-loop-k

@@ -1,5 +1,4 @@
 -- `pairs::is_broken` is refusal 7 of a pair.
-use borrow.Author.Rules.{rules}
 use Rattle.capture.specs.Pairs.{pair_broken}
 use Rattle.capture.proofs.pairs.is_broken.Goals as goal
 

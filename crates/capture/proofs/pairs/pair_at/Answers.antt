@@ -1,5 +1,4 @@
 -- `pairs::pair_at` reads the two bytes of a pair.
-use borrow.Author.Rules.{rules}
 use Rattle.capture.specs.Pairs.{pair_at}
 use Rattle.capture.proofs.pairs.pair_at.Goals as goal
 

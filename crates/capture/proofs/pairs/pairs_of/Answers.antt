@@ -1,6 +1,5 @@
 -- `pairs::pairs_of` reads four pairs of a capture of version 2.
 use mathlib.Core.Path.{sym}
-use borrow.Author.Rules.{rules}
 use borrow.Author.Tests.{eq-eqb, ne_eqb}
 use Rattle.capture.proofs.Pins.{four_pairs, empty_pairs}
 use Rattle.capture.proofs.pairs.pairs_of.Goals as goal

@@ -1,5 +1,4 @@
 -- `pairs::tells_of` asks for a number other than 0, and for the hardware ID.
-use borrow.Author.Rules.{rules}
 use Rattle.capture.specs.Pairs.{tells_of}
 use Rattle.capture.proofs.pairs.tells_of.Goals as goal
 

@@ -1,11 +1,8 @@
 -- `pairs::told_of` searches the first n pairs.
-use mathlib.Core.Path.{refl, sym, ◌∙◌}
 use lib.ListN.{take, drop}
 use Prim.Native.Nat.{◌-◌}
-use native.Mathlib.Omega.{arith}
-use borrow.Author.Rules.{rules}
-use Rattle.words.proofs.Searches.{Searching, search_hit, search_miss, search_over}
-use Rattle.words.proofs.Turns.{Turn, element, next_turn, no_turn}
+use Rattle.words.proofs.Searches.{Searching}
+use Rattle.words.proofs.Turns.{Turn}
 use Rattle.capture.specs.Pairs.{tells_of, told_of}
 use Rattle.capture.proofs.pairs.told_of.Given as goal
 

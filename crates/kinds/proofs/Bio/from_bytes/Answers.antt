@@ -1,6 +1,5 @@
 -- `Bio::from_bytes` reads the fields of a BIO.
 use Rattle.kinds.specs.Makers.{bio_of}
-use borrow.Author.Rules.{rules}
 use Rattle.kinds.proofs.Bio.from_bytes.Goals as goal
 
 pub returns : goal.returns

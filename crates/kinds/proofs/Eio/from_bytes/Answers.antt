@@ -1,6 +1,5 @@
 -- `Eio::from_bytes` reads the fields of an EIO.
 use Rattle.kinds.specs.Makers.{eio_of}
-use borrow.Author.Rules.{rules}
 use Rattle.kinds.proofs.Eio.from_bytes.Goals as goal
 
 pub returns : goal.returns

@@ -1,5 +1,4 @@
 -- `Ht::from_bytes` reads the bytes of an HT.
-use borrow.Author.Rules.{rules}
 use Rattle.kinds.specs.Makers.{ht_of}
 use Rattle.kinds.proofs.Ht.from_bytes.Goals as goal
 

@@ -1,6 +1,5 @@
 -- `Lpc::from_bytes` reads the fields of an LPC.
 use Rattle.kinds.specs.Makers.{lpc_of}
-use borrow.Author.Rules.{rules}
 use Rattle.kinds.proofs.Lpc.from_bytes.Goals as goal
 
 pub returns : goal.returns

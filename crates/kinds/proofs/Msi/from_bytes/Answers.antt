@@ -1,6 +1,5 @@
 -- `Msi::from_bytes` reads the fields of an MSI.
 use Rattle.kinds.specs.Makers.{msi_of}
-use borrow.Author.Rules.{rules}
 use Rattle.kinds.proofs.Msi.from_bytes.Goals as goal
 
 pub returns : goal.returns

@@ -1,6 +1,5 @@
 -- `ranges::bio_field` is the first broken field of a BIO.
 use mathlib.Core.Path.{sym, refl}
-use borrow.Author.Rules.{rules}
 use Rattle.words.proofs.Choices.{yes_if, no_if}
 use Rattle.kinds.specs.Ranges.{bio_field}
 use Rattle.kinds.proofs.ranges.bio_field.Goals as goal

@@ -1,19 +1,18 @@
 -- `ranges::bytes_fit` tests every byte of an HT.
 use mathlib.Core.Path.{◌≡◌, ap}
-use lib.ListN.{length, take, drop}
+use lib.ListN.{length}
 use lib.Seq.{take_all}
-use Prim.Native.Nat.{◌-◌}
 use native.Mathlib.Omega.{arith}
 use borrow.Author.Rules.{rules}
 use Rattle.words.specs.Lists.{every}
-use Rattle.words.proofs.Searches.{Testing, test_next, test_over}
-use Rattle.words.proofs.Turns.{Turn, element, next_turn, no_turn}
+use Rattle.words.proofs.Searches.{test_next, test_over}
+use Rattle.words.proofs.Turns.{element, next_turn, no_turn}
 use Rattle.kinds.specs.Ranges.{byte_fits}
 use Rattle.kinds.proofs.ranges.bytes_fit.Goals as goal
 
 pub loop-i-init : goal.loop-i-init
 loop-i-init c =
-    let bytes = c.args.t1 in
+    let bytes = c.args.bytes in
     let eight : length bytes ≡ 8 = search rules in
     (record { within = search rules; fits = omega arith }, record { gives = ap (every byte_fits) (take_all 8 bytes (omega arith)) })
 

@@ -1,6 +1,5 @@
 -- `ranges::eio_field` is the first broken field of an EIO.
 use mathlib.Core.Path.{sym, refl}
-use borrow.Author.Rules.{rules}
 use Rattle.words.proofs.Choices.{yes_if, no_if}
 use Rattle.kinds.specs.Ranges.{eio_field}
 use Rattle.kinds.proofs.ranges.eio_field.Goals as goal

@@ -1,5 +1,4 @@
 -- `ranges::half_fits` is the range of a half.
-use borrow.Author.Rules.{rules}
 use Rattle.kinds.proofs.ranges.half_fits.Goals as goal
 
 pub returns : goal.returns

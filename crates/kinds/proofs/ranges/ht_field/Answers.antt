@@ -1,6 +1,5 @@
 -- `ranges::ht_field` is the first broken field of an HT.
 use mathlib.Core.Path.{sym, refl}
-use borrow.Author.Rules.{rules}
 use Rattle.words.proofs.Choices.{yes_if, no_if}
 use Rattle.kinds.specs.Ranges.{ht_field}
 use Rattle.kinds.proofs.ranges.ht_field.Goals as goal

@@ -1,6 +1,5 @@
 -- `ranges::lio_field` is the first broken field of a LIO.
 use mathlib.Core.Path.{sym, refl}
-use borrow.Author.Rules.{rules}
 use Rattle.words.proofs.Choices.{yes_if, no_if}
 use Rattle.kinds.specs.Ranges.{lio_field}
 use Rattle.kinds.proofs.ranges.lio_field.Goals as goal

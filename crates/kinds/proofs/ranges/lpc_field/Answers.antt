@@ -1,6 +1,5 @@
 -- `ranges::lpc_field` is the first broken field of an LPC.
 use mathlib.Core.Path.{sym, refl}
-use borrow.Author.Rules.{rules}
 use Rattle.words.proofs.Choices.{yes_if, no_if}
 use Rattle.kinds.specs.Ranges.{lpc_field}
 use Rattle.kinds.proofs.ranges.lpc_field.Goals as goal

@@ -1,6 +1,5 @@
 -- `ranges::msi_field` is the first broken field of an MSI.
 use mathlib.Core.Path.{sym, refl}
-use borrow.Author.Rules.{rules}
 use Rattle.words.proofs.Choices.{yes_if, no_if}
 use Rattle.kinds.specs.Ranges.{msi_field}
 use Rattle.kinds.proofs.ranges.msi_field.Goals as goal

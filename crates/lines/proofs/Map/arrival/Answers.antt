@@ -1,5 +1,4 @@
 -- `Map::arrival` goes by the owner.
-use borrow.Author.Rules.{rules}
 use Rattle.lines.specs.Routes.{arrival}
 use Rattle.lines.proofs.Map.arrival.Goals as goal
 

@@ -12,18 +12,6 @@ use Rattle.lines.proofs.Entries.{length_kind}
 use Rattle.lines.proofs.Claimed.{es, bs, lio-at, eio-at, bio-at, msi-at}
 use Rattle.lines.proofs.Map.claim_at.Goals as goal
 
-eios-four : (c : tie.Start) → length c.args.self.eios-1 ≡ 4
-eios-four c = search (rules, length_mapped)
-
-eios-places : (c : tie.Start) → length c.args.places.eios-1 ≡ 4
-eios-places c = search (rules, length_mapped)
-
-bios-four : (c : tie.Start) → length c.args.self.bios-1 ≡ 4
-bios-four c = search (rules, length_mapped)
-
-bios-places : (c : tie.Start) → length c.args.places.bios-1 ≡ 4
-bios-places c = search (rules, length_mapped)
-
 pub returns-then-k-eq0 : goal.returns-then-k-eq0
 unfolding claims
 returns-then-k-eq0 c =
@@ -33,38 +21,35 @@ returns-then-k-eq0 c =
 
 pub returns-then-k-e : goal.returns-then-k-e
 returns-then-k-e c =
-    let s = c in
-    let a = s.args in
-    let eios-held : length a.self.eios-1 ≡ 4 = eios-four s in
-    let eios-room : length a.places.eios-1 ≡ 4 = eios-places s in
+    let a = c.args in
+    let eios-held : length a.self.eios ≡ 4 = search (rules, length_mapped) in
+    let eios-room : length a.places.eios ≡ 4 = search (rules, length_mapped) in
     let eios-length : length (es (says a.self) a.places) ≡ a.self.eiocount =
-    length_kind eio_claim a.self.eios-1 a.self.eiocount a.places.eios-1 (omega arith) (omega arith) in
+    length_kind eio_claim a.self.eios a.self.eiocount a.places.eios (omega arith) (omega arith) in
     eio-at (says a.self) a.places a.k _ (a.k - 1) (omega arith) (omega arith) c.eio_at.ensures
 
 pub returns-then-k-e-2 : goal.returns-then-k-e-2
 returns-then-k-e-2 c =
-    let s = c in
-    let a = s.args in
-    let eios-held : length a.self.eios-1 ≡ 4 = eios-four s in
-    let eios-room : length a.places.eios-1 ≡ 4 = eios-places s in
+    let a = c.args in
+    let eios-held : length a.self.eios ≡ 4 = search (rules, length_mapped) in
+    let eios-room : length a.places.eios ≡ 4 = search (rules, length_mapped) in
     let eios-length : length (es (says a.self) a.places) ≡ a.self.eiocount =
-    length_kind eio_claim a.self.eios-1 a.self.eiocount a.places.eios-1 (omega arith) (omega arith) in
-    let bios-held : length a.self.bios-1 ≡ 4 = bios-four s in
-    let bios-room : length a.places.bios-1 ≡ 4 = bios-places s in
+    length_kind eio_claim a.self.eios a.self.eiocount a.places.eios (omega arith) (omega arith) in
+    let bios-held : length a.self.bios ≡ 4 = search (rules, length_mapped) in
+    let bios-room : length a.places.bios ≡ 4 = search (rules, length_mapped) in
     let bios-length : length (bs (says a.self) a.places) ≡ a.self.biocount =
-    length_kind bio_claim a.self.bios-1 a.self.biocount a.places.bios-1 (omega arith) (omega arith) in
+    length_kind bio_claim a.self.bios a.self.biocount a.places.bios (omega arith) (omega arith) in
     bio-at (says a.self) a.places a.k _ (a.k - 1 - a.self.eiocount) (omega arith) (omega arith) c.bio_at.ensures
 
 pub returns : goal.returns
 returns c =
-    let s = c in
-    let a = s.args in
-    let eios-held : length a.self.eios-1 ≡ 4 = eios-four s in
-    let eios-room : length a.places.eios-1 ≡ 4 = eios-places s in
+    let a = c.args in
+    let eios-held : length a.self.eios ≡ 4 = search (rules, length_mapped) in
+    let eios-room : length a.places.eios ≡ 4 = search (rules, length_mapped) in
     let eios-length : length (es (says a.self) a.places) ≡ a.self.eiocount =
-    length_kind eio_claim a.self.eios-1 a.self.eiocount a.places.eios-1 (omega arith) (omega arith) in
-    let bios-held : length a.self.bios-1 ≡ 4 = bios-four s in
-    let bios-room : length a.places.bios-1 ≡ 4 = bios-places s in
+    length_kind eio_claim a.self.eios a.self.eiocount a.places.eios (omega arith) (omega arith) in
+    let bios-held : length a.self.bios ≡ 4 = search (rules, length_mapped) in
+    let bios-room : length a.places.bios ≡ 4 = search (rules, length_mapped) in
     let bios-length : length (bs (says a.self) a.places) ≡ a.self.biocount =
-    length_kind bio_claim a.self.bios-1 a.self.biocount a.places.bios-1 (omega arith) (omega arith) in
+    length_kind bio_claim a.self.bios a.self.biocount a.places.bios (omega arith) (omega arith) in
     msi-at (says a.self) a.places a.k _ (a.k - 1 - a.self.eiocount - a.self.biocount) (omega arith) c.msi_at.ensures

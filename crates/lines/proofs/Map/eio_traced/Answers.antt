@@ -1,18 +1,14 @@
 -- `Map::eio_traced` searches the EIO that enters a core vector.
 use mathlib.Core.Path.{◌≡◌, ◌∙◌}
-use lib.Dec.{eqb}
-use lib.ListN.{length, take, drop}
-use Prim.Native.Nat.{◌-◌}
+use lib.ListN.{length}
 use native.Mathlib.Omega.{arith}
 use borrow.Author.Tests.{eq-eqb, ne_eqb}
 use borrow.Author.Rules.{rules}
-use Rattle.words.proofs.Searches.{Searching, search_hit, search_miss, search_over}
+use Rattle.words.proofs.Searches.{search_hit, search_miss, search_over}
 use Rattle.kinds.proofs.Used.{ht_present}
 use Rattle.clashes.proofs.Arrays.{length_mapped}
-use Rattle.words.proofs.Turns.{Turn, element, next_turn, no_turn}
+use Rattle.words.proofs.Turns.{element, next_turn, no_turn}
 use Rattle.lines.specs.Says.{says}
-use Rattle.lines.specs.Traces.{landed, hub_traced}
-use Rattle.lines.specs.declared.Trace.TheVariants.{Nothing}
 use Rattle.lines.proofs.Counts.{take-used}
 use Rattle.lines.proofs.Landing.{traced-eios}
 use Rattle.lines.proofs.Map.eio_traced.Goals as goal
@@ -20,8 +16,8 @@ use Rattle.lines.proofs.Map.eio_traced.Goals as goal
 pub loop-i-init : goal.loop-i-init
 loop-i-init c =
     let map = c.args.self in
-    let held : length map.eios-1 ≡ 4 = search (rules, length_mapped) in
-    let used = take-used map.eios-1 map.eiocount _ held c.used-n.ensures.1 in
+    let held : length map.eios ≡ 4 = search (rules, length_mapped) in
+    let used = take-used map.eios map.eiocount _ held c.used-n.ensures.value in
     let none = ht_present map.ht ∙ c.requires in
     (record { within = search rules; fits = search rules }, record { gives = rw used (traced-eios (says map) _ _ none) })
 

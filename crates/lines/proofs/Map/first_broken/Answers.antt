@@ -1,6 +1,5 @@
 -- `Map::first_broken` asks 38 first, so that no list runs past its array.
 use mathlib.Core.Path.{refl, sym, ◌∙◌}
-use borrow.Author.Rules.{rules}
 use Rattle.words.proofs.Verdicts.{first_broken_lem, first_kept}
 use Rattle.lines.specs.Rules.{first_broken}
 use Rattle.lines.proofs.Counts.{counts}

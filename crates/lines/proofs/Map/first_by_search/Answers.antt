@@ -1,5 +1,4 @@
 -- `Map::first_by_search` is the first refusal of the rules from 40 on, each asked of all claims.
-use borrow.Author.Rules.{rules}
 use Rattle.words.specs.Refusals.{first_refusal}
 use Rattle.words.proofs.Verdicts.{unless_again, unless_last}
 use Rattle.lines.specs.Rules.{rules_to_45, rules_from_51, map_rules}

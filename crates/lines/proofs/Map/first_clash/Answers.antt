@@ -1,13 +1,9 @@
 -- `Map::first_clash` goes through all claims, and for each through all again.
-use Prim.Native.Nat.{◌-◌, ◌≤◌}
 use mathlib.Core.Path.{refl, ◌∙◌, ap}
 use native.Mathlib.Omega.{arith}
-use lib.ListN.{drop}
 use borrow.Author.Rules.{rules}
-use Rattle.clashes.specs.Search.{better, partner, first_clash}
-use Rattle.clashes.proofs.Folding.{Folding, fold_next, fold_over}
-use Rattle.lines.specs.Says.{says}
-use Rattle.lines.specs.Claims.{claims}
+use Rattle.clashes.specs.Search.{better, first_clash}
+use Rattle.clashes.proofs.Folding.{fold_next, fold_over}
 use Rattle.lines.proofs.Claimed.{no_claim}
 use Rattle.lines.proofs.Map.first_clash.Goals as goal
 

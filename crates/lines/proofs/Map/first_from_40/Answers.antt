@@ -1,7 +1,6 @@
 -- `Map::first_from_40` asks for a quiet map first, and searches where it is none.
 use mathlib.Core.Path.{◌≡◌, sym, ◌∙◌}
 use mathlib.Core.Bool.{true}
-use borrow.Author.Rules.{rules}
 use Rattle.lines.specs.Says.{says}
 use Rattle.lines.specs.Quiet.{quiet}
 use Rattle.lines.proofs.NoClash.{quiet-first}

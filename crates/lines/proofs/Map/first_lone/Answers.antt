@@ -1,14 +1,9 @@
 -- `Map::first_lone` goes through all claims.
-use Prim.Native.Nat.{◌-◌, ◌≤◌}
 use mathlib.Core.Path.{refl}
 use native.Mathlib.Omega.{arith}
-use lib.ListN.{drop}
 use borrow.Author.Rules.{rules}
-use Rattle.clashes.specs.Search.{lonelier, first_lone}
-use Rattle.clashes.proofs.Folding.{Folding, fold_next, fold_over}
-use Rattle.lines.specs.Says.{says}
-use Rattle.lines.specs.Hubs.{nodes}
-use Rattle.lines.specs.Claims.{claims}
+use Rattle.clashes.specs.Search.{first_lone}
+use Rattle.clashes.proofs.Folding.{fold_next, fold_over}
 use Rattle.lines.proofs.Claimed.{no_claim}
 use Rattle.lines.proofs.Map.first_lone.Goals as goal
 

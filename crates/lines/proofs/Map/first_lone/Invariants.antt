@@ -1,15 +1,11 @@
 -- `Map::first_lone` goes through all claims.
 use Prim.Native.Nat.{◌-◌, ◌≤◌}
-use mathlib.Core.Path.{refl}
-use native.Mathlib.Omega.{arith}
 use lib.ListN.{drop}
-use borrow.Author.Rules.{rules}
 use Rattle.clashes.specs.Search.{lonelier, first_lone}
-use Rattle.clashes.proofs.Folding.{Folding, fold_next, fold_over}
+use Rattle.clashes.proofs.Folding.{Folding}
 use Rattle.lines.specs.Says.{says}
 use Rattle.lines.specs.Hubs.{nodes}
 use Rattle.lines.specs.Claims.{claims}
-use Rattle.lines.proofs.Claimed.{no_claim}
 use Rattle.lines.proofs.Map.first_lone.Given as goal
 
 abbrev pub invariant-loop-i : goal.invariant-loop-i

@@ -1,5 +1,4 @@
 -- `Map::first_of_quiet` is the first broken rule of 40, 43 to 45 and 54.
-use borrow.Author.Rules.{rules}
 use Rattle.words.specs.Refusals.{first_refusal}
 use Rattle.words.proofs.Verdicts.{unless_again, unless_last}
 use Rattle.lines.proofs.Map.first_of_quiet.Goals as goal

@@ -1,6 +1,5 @@
 -- `Map::ht_traced` asks where the vector that the number is 256 above leads to.
 use mathlib.Core.Path.{sym, ◌∙◌}
-use borrow.Author.Rules.{rules}
 use Rattle.kinds.proofs.Used.{ht_present}
 use Rattle.lines.specs.Says.{says}
 use Rattle.lines.proofs.Landing.{ht_below, ht-leads, ht-not}

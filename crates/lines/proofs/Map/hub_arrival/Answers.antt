@@ -10,15 +10,12 @@ use Rattle.lines.proofs.Counts.{take-used}
 use Rattle.lines.proofs.Landing.{ht_alone, eios_only}
 use Rattle.lines.proofs.Map.hub_arrival.Goals as goal
 
-four-eios : (s : tie.Start) → length s.args.self.eios-1 ≡ 4
-four-eios s = search (rules, length_mapped)
-
 pub returns-then-ht : goal.returns-then-ht
 returns-then-ht c =
     let map = c.args.self in
     let said = c.said_ht-ht.ensures in
     let there : (said_ht map.ht).present ≡ true = ap (λ (h : Ht). h.present) (sym said) ∙ c.if-ht.true in
-    rw (ht_alone (said_lio map.lio) (said_ht map.ht) (take map.eiocount map.eios-1) there, ← c.said_lio.ensures, ← said)
+    rw (ht_alone (said_lio map.lio) (said_ht map.ht) (take map.eiocount map.eios) there, ← c.said_lio.ensures, ← said)
     c.ht_arrival.ensures
 
 pub returns : goal.returns
@@ -26,9 +23,9 @@ returns c =
     let map = c.args.self in
     let said = c.said_ht-ht.ensures in
     let none : (said_ht map.ht).present ≡ false = ap (λ (h : Ht). h.present) (sym said) ∙ c.if-ht.false in
-    let held = four-eios c in
+    let held : length map.eios ≡ 4 = search (rules, length_mapped) in
     rw (
-      eios_only (said_lio map.lio) (said_ht map.ht) (take map.eiocount map.eios-1) none,
-      ← take-used map.eios-1 map.eiocount _ held c.used.ensures.1,
+      eios_only (said_lio map.lio) (said_ht map.ht) (take map.eiocount map.eios) none,
+      ← take-used map.eios map.eiocount _ held c.used.ensures.value,
     )
     c.eio_arrival.ensures

@@ -1,5 +1,4 @@
 -- `Map::is_quiet` tests the structures kind by kind.
-use borrow.Author.Rules.{rules}
 use Rattle.kinds.proofs.Used.{ht_present}
 use Rattle.lines.specs.Quiet.{quiet}
 use Rattle.lines.proofs.Map.is_quiet.Goals as goal

@@ -1,7 +1,6 @@
 -- `Map::keeps_rules`: none of 71 to 78, 37, 38, 34 and 40 to 54 is broken.
 use mathlib.Core.Path.{sym, ◌∙◌}
 use mathlib.Core.Bool.{and-false}
-use borrow.Author.Rules.{rules}
 use Rattle.lines.specs.Rules.{keeps_rules, slot_places}
 use Rattle.lines.proofs.Counts.{counts, many_broken}
 use Rattle.lines.proofs.Map.keeps_rules.Goals as goal

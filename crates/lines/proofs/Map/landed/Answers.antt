@@ -1,28 +1,22 @@
 -- `Map::landed` searches the BIO of the node, then the MSI.
 use mathlib.Core.Path.{◌≡◌, sym, ◌∙◌, ap}
-use lib.ListN.{length, take, drop}
-use Prim.Native.Nat.{◌-◌}
+use lib.ListN.{length}
 use native.Mathlib.Omega.{arith}
 use borrow.Author.Rules.{rules}
-use Rattle.words.proofs.Searches.{Searching, search_hit, search_miss, search_over}
+use Rattle.words.proofs.Searches.{search_hit, search_miss, search_over}
 use Rattle.clashes.proofs.Arrays.{length_mapped}
-use Rattle.words.proofs.Turns.{Turn, element, next_turn, no_turn}
-use Rattle.parts.specs.Inputs.{has_pin}
+use Rattle.words.proofs.Turns.{element, next_turn, no_turn}
 use Rattle.parts.proofs.Inputs.{pin_small}
-use Rattle.lines.specs.Says.{says}
-use Rattle.lines.specs.Traces.{pin_told, slot_told, landed}
+use Rattle.lines.specs.Traces.{slot_told, landed}
 use Rattle.lines.proofs.Counts.{take-used}
 use Rattle.lines.proofs.Map.landed.Goals as goal
-
-four-msis : (s : tie.Start invariant-loop decreases-loop) → length s.args.self.msis-1 ≡ 4
-four-msis s = search (rules, length_mapped)
 
 pub loop-i-init : goal.loop-i-init
 unfolding landed
 loop-i-init c =
     let map = c.args.self in
-    let held : length map.bios-1 ≡ 4 = search (rules, length_mapped) in
-    let used = take-used map.bios-1 map.biocount _ held c.used-n.ensures.1 in
+    let held : length map.bios ≡ 4 = search (rules, length_mapped) in
+    let used = take-used map.bios map.biocount _ held c.used-n.ensures.value in
     (record { within = search rules; fits = search rules }, record { gives = rw used })
 
 pub pin_told-requires : goal.pin_told-requires
@@ -45,8 +39,8 @@ pub returns : goal.returns
 returns c =
     let l = c.loop-i.invariant in
     let a = c.args in
-    let held = four-msis c in
-    let used = take-used a.self.msis-1 a.self.msicount _ held c.used.ensures.1 in
+    let held : length a.self.msis ≡ 4 = search (rules, length_mapped) in
+    let used = take-used a.self.msis a.self.msicount _ held c.used.ensures.value in
     c.slot_told.ensures
     ∙ ap (λ msis. slot_told msis a.node a.vector) used
     ∙ search_over l.1 (no_turn l.0 (omega arith))

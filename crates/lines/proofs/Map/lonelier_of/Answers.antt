@@ -1,5 +1,4 @@
 -- `Map::lonelier_of` counts a claim whose hub is not there.
-use borrow.Author.Rules.{rules}
 use Rattle.words.specs.Choice.{if}
 use Rattle.kinds.proofs.Used.{ht_present}
 use Rattle.clashes.specs.Search.{lonelier}

@@ -10,20 +10,17 @@ use Rattle.lines.specs.Routes.{owner, bio_owner}
 use Rattle.lines.proofs.Counts.{take-used}
 use Rattle.lines.proofs.Map.owner.Goals as goal
 
-four-bios : (s : tie.Start) → length s.args.self.bios-1 ≡ 4
-four-bios s = search (rules, length_mapped)
-
 pub returns-then-lpc : goal.returns-then-lpc
 unfolding owner if
 returns-then-lpc c =
     let a = c.args in
-    rw (lt-ltb a.number 16 c.if-number-lt-LIO_FIRST.true, lpc_present a.self.lpc-1, c.if-lpc.true)
+    rw (lt-ltb a.number 16 c.if-number-lt-LIO_FIRST.true, lpc_present a.self.lpc, c.if-lpc.true)
 
 pub returns-then-number-lt-LIO_FIRST : goal.returns-then-number-lt-LIO_FIRST
 unfolding owner if
 returns-then-number-lt-LIO_FIRST c =
     let a = c.args in
-    rw (lt-ltb a.number 16 c.if-number-lt-LIO_FIRST.true, lpc_present a.self.lpc-1, c.if-lpc.false)
+    rw (lt-ltb a.number 16 c.if-number-lt-LIO_FIRST.true, lpc_present a.self.lpc, c.if-lpc.false)
 
 pub returns-then-is_named : goal.returns-then-is_named
 unfolding owner if
@@ -54,6 +51,6 @@ unfolding owner if
 returns c =
     let s = c in
     let a = s.args in
-    let held = four-bios s in
+    let held : length a.self.bios ≡ 4 = search (rules, length_mapped) in
     rw (le-ltb a.number 16 c.if-number-lt-LIO_FIRST.false, le-ltb a.number 48 c.if-number-lt-LIO_END.false)
-    (c.bio_owner.ensures ∙ ap (λ bios. bio_owner bios a.number) (take-used a.self.bios-1 a.self.biocount _ held c.used.ensures.1))
+    (c.bio_owner.ensures ∙ ap (λ bios. bio_owner bios a.number) (take-used a.self.bios a.self.biocount _ held c.used.ensures.value))

@@ -1,14 +1,10 @@
 -- `Map::partner_of` goes through all claims.
 use Prim.Native.Nat.{◌-◌, ◌≤◌}
-use mathlib.Core.Path.{refl}
-use native.Mathlib.Omega.{arith}
 use lib.ListN.{drop}
-use borrow.Author.Rules.{rules}
 use Rattle.clashes.specs.Search.{nearer, partner}
-use Rattle.clashes.proofs.Folding.{Folding, fold_next, fold_over}
+use Rattle.clashes.proofs.Folding.{Folding}
 use Rattle.lines.specs.Says.{says}
 use Rattle.lines.specs.Claims.{claims}
-use Rattle.lines.proofs.Claimed.{no_claim}
 use Rattle.lines.proofs.Map.partner_of.Given as goal
 
 abbrev pub invariant-loop-i : goal.invariant-loop-i

@@ -1,12 +1,8 @@
 -- `Map::put_all` writes the answer to each number, one behind the other.
-use mathlib.Core.Path.{refl}
 use Prim.Native.Nat.{◌-◌}
-use native.Mathlib.Omega.{arith}
 use lib.ListN.{length, drop}
-use Rattle.words.proofs.Rooms.{Writing, write_start, write_end, write_room, write_next}
-use borrow.Author.Rules.{rules}
+use Rattle.words.proofs.Rooms.{Writing}
 use Rattle.lines.specs.AtOnce.{triples_of}
-use Rattle.lines.proofs.AtOnce.{three_each, one_left, none_left}
 use Rattle.lines.proofs.Map.put_all.Given as goal
 
 abbrev pub invariant-loop-k : goal.invariant-loop-k

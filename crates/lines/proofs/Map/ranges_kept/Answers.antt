@@ -1,5 +1,4 @@
 -- `Map::ranges_kept` asks for the ranges of every structure.
-use borrow.Author.Rules.{rules}
 use Rattle.lines.specs.Rules.{ranges_kept}
 use Rattle.lines.proofs.Map.ranges_kept.Goals as goal
 

@@ -1,6 +1,5 @@
 -- `Map::route`: 61 first, then the answer.
 use mathlib.Core.Path.{sym, ◌∙◌, refl}
-use borrow.Author.Rules.{rules}
 use Rattle.words.proofs.Choices.{yes_if, no_if}
 use Rattle.lines.specs.Answers.{route_of}
 use Rattle.lines.proofs.Map.route.Goals as goal

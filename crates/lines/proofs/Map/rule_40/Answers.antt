@@ -15,14 +15,11 @@ use Rattle.lines.specs.Hubs.{hubs}
 use Rattle.lines.proofs.Landing.{hubs_counted}
 use Rattle.lines.proofs.Map.rule_40.Goals as goal
 
-four-eios : (s : tie.Start) → length s.args.self.eios ≡ 4
-four-eios s = search (rules, length_mapped)
-
 pub returns : goal.returns
 returns c =
-    let start : tie.Start = c in
-    let m = start.args.self in
-    let few : m.eiocount ≤ length m.eios = omega (arith, four-eios start) in
-    let none : eqb (length (hubs (says m))) 0 ≡ (not m.ht-1.present && eqb m.eiocount 0) =
-    hubs_counted (said_lio m.lio-1) (said_ht m.ht-1) (take m.eiocount m.eios) ∙ rw (ht_present m.ht-1, length-take-le m.eiocount m.eios few) in
-    rw (c.rule_of.ensures, none, lio_present m.lio-1)
+    let m = c.args.self in
+    let four : length m.eios ≡ 4 = search (rules, length_mapped) in
+    let few : m.eiocount ≤ length m.eios = omega arith in
+    let none : eqb (length (hubs (says m))) 0 ≡ (not m.ht.present && eqb m.eiocount 0) =
+    hubs_counted (said_lio m.lio) (said_ht m.ht) (take m.eiocount m.eios) ∙ rw (ht_present m.ht, length-take-le m.eiocount m.eios few) in
+    rw (c.rule_of.ensures, none, lio_present m.lio)

@@ -1,5 +1,4 @@
 -- `Map::rule_44` is rule 44.
-use borrow.Author.Rules.{rules}
 use Rattle.lines.proofs.Map.rule_44.Goals as goal
 
 pub returns : goal.returns

@@ -1,6 +1,5 @@
 -- `Map::trace`: 61 first, then the answer.
 use mathlib.Core.Path.{sym, ◌∙◌, refl}
-use borrow.Author.Rules.{rules}
 use Rattle.words.proofs.Choices.{yes_if, no_if}
 use Rattle.lines.specs.Answers.{trace_of}
 use Rattle.lines.proofs.Map.trace.Goals as goal

@@ -2,7 +2,6 @@
 use mathlib.Core.Path.{◌≡◌, sym, ◌∙◌, ap}
 use mathlib.Core.Bool.{true, not, ◌||◌}
 use native.Mathlib.Omega.{arith}
-use borrow.Author.Rules.{rules}
 use Rattle.words.proofs.Choices.{yes_if, no_if}
 use Rattle.kinds.specs.declared.Ht.{Ht}
 use Rattle.kinds.proofs.Used.{ht_present}
@@ -12,8 +11,8 @@ use Rattle.parts.proofs.Inputs.{leads_small}
 use Rattle.lines.specs.Traces.{led_by_lio, traced}
 use Rattle.lines.proofs.Map.traced.Goals as goal
 
--- ??? overflow-add-t7
-add-t7 c =
+pub overflow_add-result : goal.overflow_add-result
+overflow_add-result c =
     let lio = c.said_lio.result in
     let ht = c.said_ht-ht.result in
     let a = c.args in

@@ -1,14 +1,9 @@
 -- `asked::bios_fit` tests every BIO.
 use mathlib.Core.Path.{refl}
-use mathlib.Core.Bool.{◌&&◌}
-use lib.Dec.{eqb}
-use lib.ListN.{take, drop}
-use Prim.Native.Nat.{◌-◌}
 use native.Mathlib.Omega.{arith}
 use borrow.Author.Rules.{rules}
-use Rattle.words.proofs.Searches.{Testing, test_next, test_over}
-use Rattle.kinds.specs.Ranges.{bio_field, pins_fit}
-use Rattle.words.proofs.Turns.{Turn, element, next_turn, no_turn}
+use Rattle.words.proofs.Searches.{test_next, test_over}
+use Rattle.words.proofs.Turns.{element, next_turn, no_turn}
 use Rattle.lines.specs.Rules.{bios_fit}
 use Rattle.lines.proofs.asked.bios_fit.Goals as goal
 

@@ -1,13 +1,10 @@
 -- `asked::eios_fit` tests every EIO.
-use mathlib.Core.Path.{refl}
 use lib.Dec.{eqb}
 use lib.ListN.{take, drop}
 use Prim.Native.Nat.{◌-◌}
-use native.Mathlib.Omega.{arith}
-use borrow.Author.Rules.{rules}
-use Rattle.words.proofs.Searches.{Testing, test_next, test_over}
+use Rattle.words.proofs.Searches.{Testing}
 use Rattle.kinds.specs.Ranges.{eio_field}
-use Rattle.words.proofs.Turns.{Turn, element, next_turn, no_turn}
+use Rattle.words.proofs.Turns.{Turn}
 use Rattle.lines.specs.Rules.{eios_fit}
 use Rattle.lines.proofs.asked.eios_fit.Given as goal
 

@@ -1,13 +1,10 @@
 -- `asked::msis_fit` tests every MSI.
-use mathlib.Core.Path.{refl}
 use lib.Dec.{eqb}
 use lib.ListN.{take, drop}
 use Prim.Native.Nat.{◌-◌}
-use native.Mathlib.Omega.{arith}
-use borrow.Author.Rules.{rules}
-use Rattle.words.proofs.Searches.{Testing, test_next, test_over}
+use Rattle.words.proofs.Searches.{Testing}
 use Rattle.kinds.specs.Ranges.{msi_field}
-use Rattle.words.proofs.Turns.{Turn, element, next_turn, no_turn}
+use Rattle.words.proofs.Turns.{Turn}
 use Rattle.lines.specs.Rules.{msis_fit}
 use Rattle.lines.proofs.asked.msis_fit.Given as goal
 

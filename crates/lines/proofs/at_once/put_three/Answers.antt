@@ -1,7 +1,6 @@
 -- `put_three` stores three numbers.
 use native.Mathlib.Omega.{arith}
 use lib.ListN.{length-set}
-use borrow.Author.Rules.{rules}
 use Rattle.lines.proofs.AtOnce.{three_stores}
 use Rattle.lines.proofs.at_once.put_three.Goals as goal
 

@@ -1,18 +1,13 @@
 -- `hubs::eio_arrival` searches the EIO of a node.
-use mathlib.Core.Path.{sym}
 use mathlib.Core.List.{map}
 use lib.Dec.{eqb}
 use lib.ListN.{take, drop}
 use Prim.Native.Nat.{◌-◌}
-use native.Mathlib.Omega.{arith}
-use borrow.Author.Tests.{eq-eqb, ne_eqb}
-use borrow.Author.Rules.{rules}
-use Rattle.words.proofs.Searches.{Searching, search_hit, search_miss, search_over}
-use Rattle.words.proofs.Turns.{Turn, element, next_turn, no_turn}
+use Rattle.words.proofs.Searches.{Searching}
+use Rattle.words.proofs.Turns.{Turn}
 use Rattle.lines.specs.Hubs.{eio_hub}
 use Rattle.lines.specs.Routes.{through}
 use Rattle.lines.specs.declared.Route.TheVariants.{Arrives, NoOwner}
-use Rattle.lines.proofs.Landing.{through-eios}
 use Rattle.lines.proofs.hubs.eio_arrival.Given as goal
 
 abbrev pub invariant-loop-i : goal.invariant-loop-i

@@ -1,5 +1,4 @@
 -- `hubs::ht_arrival`: the HT has node 0, and leads a vector to the core vector of the input that its byte names.
-use borrow.Author.Rules.{rules}
 use borrow.Author.Tests.{eq-eqb, ne_eqb}
 use Rattle.words.specs.Choice.{if}
 use Rattle.words.specs.Lists.{first}

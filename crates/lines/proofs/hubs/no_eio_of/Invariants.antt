@@ -1,17 +1,13 @@
 -- `hubs::no_eio_of` tests every EIO.
 use mathlib.Core.Bool.{not}
 use mathlib.Core.List.{map}
-use mathlib.Core.Path.{sym}
 use lib.Dec.{eqb}
 use lib.ListN.{take, drop}
 use Prim.Native.Nat.{◌-◌}
-use native.Mathlib.Omega.{arith}
-use borrow.Author.Rules.{rules}
-use Rattle.words.proofs.Searches.{Testing, test_next, test_over}
+use Rattle.words.proofs.Searches.{Testing}
 use Rattle.kinds.specs.declared.Eio.{Eio}
 use Rattle.clashes.specs.Rules.{is_missing}
-use Rattle.lines.proofs.Landing.{every_made}
-use Rattle.words.proofs.Turns.{Turn, element, next_turn, no_turn}
+use Rattle.words.proofs.Turns.{Turn}
 use Rattle.lines.proofs.hubs.no_eio_of.Given as goal
 
 abbrev pub invariant-loop-i : goal.invariant-loop-i

@@ -1,6 +1,5 @@
 -- `hubs::no_hub_of` compares with the HT's node, or with those of the EIO.
 use mathlib.Core.Bool.{and-true}
-use borrow.Author.Rules.{rules}
 use Rattle.words.specs.Choice.{if}
 use Rattle.words.specs.Lists.{every}
 use Rattle.lines.specs.Hubs.{nodes_of}

@@ -1,16 +1,10 @@
 -- `quiet::bios_quiet` tests each BIO with the hubs, the MSI and the later BIO.
 use mathlib.Core.Path.{refl}
-use lib.ListN.{take, drop}
-use Prim.Native.Nat.{◌-◌}
 use native.Mathlib.Omega.{arith}
 use borrow.Author.Rules.{rules}
-use Rattle.words.proofs.Turns.{Turn, element, next_turn, no_turn}
-use mathlib.Core.Bool.{not, ◌&&◌}
-use Rattle.parts.specs.Claims.{bio_claim, msi_claim}
-use Rattle.lines.specs.Quiet.{bios_quiet, far_from}
-use Rattle.clashes.specs.Rules.{is_missing}
-use Rattle.lines.specs.Hubs.{nodes_of}
-use Rattle.lines.proofs.Stilling.{Stilling, still_next, still_last, still_over}
+use Rattle.words.proofs.Turns.{element, next_turn, no_turn}
+use Rattle.lines.specs.Quiet.{bios_quiet}
+use Rattle.lines.proofs.Stilling.{still_next, still_last, still_over}
 use Rattle.lines.proofs.quiet.bios_quiet.Goals as goal
 
 pub loop-i-init : goal.loop-i-init

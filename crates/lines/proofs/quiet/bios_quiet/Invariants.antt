@@ -1,16 +1,13 @@
 -- `quiet::bios_quiet` tests each BIO with the hubs, the MSI and the later BIO.
-use mathlib.Core.Path.{refl}
 use lib.ListN.{take, drop}
 use Prim.Native.Nat.{◌-◌}
-use native.Mathlib.Omega.{arith}
-use borrow.Author.Rules.{rules}
-use Rattle.words.proofs.Turns.{Turn, element, next_turn, no_turn}
+use Rattle.words.proofs.Turns.{Turn}
 use mathlib.Core.Bool.{not, ◌&&◌}
 use Rattle.parts.specs.Claims.{bio_claim, msi_claim}
 use Rattle.lines.specs.Quiet.{bios_quiet, far_from}
 use Rattle.clashes.specs.Rules.{is_missing}
 use Rattle.lines.specs.Hubs.{nodes_of}
-use Rattle.lines.proofs.Stilling.{Stilling, still_next, still_last, still_over}
+use Rattle.lines.proofs.Stilling.{Stilling}
 use Rattle.lines.proofs.quiet.bios_quiet.Given as goal
 
 abbrev pub invariant-loop-i : goal.invariant-loop-i

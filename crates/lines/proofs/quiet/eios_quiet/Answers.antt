@@ -1,14 +1,10 @@
 -- `quiet::eios_quiet` tests each EIO with the LIO and with the later EIO.
 use mathlib.Core.Path.{refl}
-use lib.ListN.{take, drop}
-use Prim.Native.Nat.{◌-◌}
 use native.Mathlib.Omega.{arith}
 use borrow.Author.Rules.{rules}
-use Rattle.words.proofs.Turns.{Turn, element, next_turn, no_turn}
-use Rattle.clashes.specs.Apart.{apart}
-use Rattle.parts.specs.Claims.{eio_claim}
+use Rattle.words.proofs.Turns.{element, next_turn, no_turn}
 use Rattle.lines.specs.Quiet.{eios_quiet}
-use Rattle.lines.proofs.Stilling.{Stilling, still_next, still_last, still_over}
+use Rattle.lines.proofs.Stilling.{still_next, still_last, still_over}
 use Rattle.lines.proofs.quiet.eios_quiet.Goals as goal
 
 pub loop-i-init : goal.loop-i-init

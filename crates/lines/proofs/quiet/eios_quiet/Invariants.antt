@@ -1,14 +1,11 @@
 -- `quiet::eios_quiet` tests each EIO with the LIO and with the later EIO.
-use mathlib.Core.Path.{refl}
 use lib.ListN.{take, drop}
 use Prim.Native.Nat.{◌-◌}
-use native.Mathlib.Omega.{arith}
-use borrow.Author.Rules.{rules}
-use Rattle.words.proofs.Turns.{Turn, element, next_turn, no_turn}
+use Rattle.words.proofs.Turns.{Turn}
 use Rattle.clashes.specs.Apart.{apart}
 use Rattle.parts.specs.Claims.{eio_claim}
 use Rattle.lines.specs.Quiet.{eios_quiet}
-use Rattle.lines.proofs.Stilling.{Stilling, still_next, still_last, still_over}
+use Rattle.lines.proofs.Stilling.{Stilling}
 use Rattle.lines.proofs.quiet.eios_quiet.Given as goal
 
 abbrev pub invariant-loop-i : goal.invariant-loop-i

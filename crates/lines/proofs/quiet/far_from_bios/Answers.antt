@@ -1,13 +1,9 @@
 -- `quiet::far_from_bios` tests every BIO from one on.
 use mathlib.Core.Path.{refl}
-use lib.ListN.{take, drop}
-use Prim.Native.Nat.{◌-◌}
 use native.Mathlib.Omega.{arith}
 use borrow.Author.Rules.{rules}
-use Rattle.words.proofs.Searches.{Testing, test_next, test_over}
-use Rattle.clashes.specs.Apart.{apart}
-use Rattle.words.proofs.Turns.{Turn, element, next_turn, no_turn}
-use Rattle.parts.specs.Claims.{bio_claim}
+use Rattle.words.proofs.Searches.{test_next, test_over}
+use Rattle.words.proofs.Turns.{element, next_turn, no_turn}
 use Rattle.lines.specs.Quiet.{far_from}
 use Rattle.lines.proofs.quiet.far_from_bios.Goals as goal
 

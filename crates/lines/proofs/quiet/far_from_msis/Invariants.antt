@@ -1,12 +1,9 @@
 -- `quiet::far_from_msis` tests every MSI from one on.
-use mathlib.Core.Path.{refl}
 use lib.ListN.{take, drop}
 use Prim.Native.Nat.{◌-◌}
-use native.Mathlib.Omega.{arith}
-use borrow.Author.Rules.{rules}
-use Rattle.words.proofs.Searches.{Testing, test_next, test_over}
+use Rattle.words.proofs.Searches.{Testing}
 use Rattle.clashes.specs.Apart.{apart}
-use Rattle.words.proofs.Turns.{Turn, element, next_turn, no_turn}
+use Rattle.words.proofs.Turns.{Turn}
 use Rattle.parts.specs.Claims.{msi_claim}
 use Rattle.lines.specs.Quiet.{far_from}
 use Rattle.lines.proofs.quiet.far_from_msis.Given as goal

@@ -1,14 +1,10 @@
 -- `routes::bio_owner` searches the BIO that owns a number.
 use mathlib.Core.Path.{refl, sym, ◌∙◌}
-use lib.ListN.{take, drop}
-use Prim.Native.Nat.{◌-◌}
 use native.Mathlib.Omega.{arith}
 use borrow.Author.Rules.{rules}
-use Rattle.words.proofs.Searches.{Searching, search_hit, search_miss, search_over}
-use Rattle.words.proofs.Turns.{Turn, element, next_turn, no_turn}
-use Rattle.parts.specs.Inputs.{owns}
+use Rattle.words.proofs.Searches.{search_hit, search_miss, search_over}
+use Rattle.words.proofs.Turns.{element, next_turn, no_turn}
 use Rattle.lines.specs.Routes.{bio_owner}
-use Rattle.lines.specs.declared.Owner.TheVariants.{BioInput, Nobody}
 use Rattle.lines.proofs.routes.bio_owner.Goals as goal
 
 pub loop-i-init : goal.loop-i-init
@@ -21,7 +17,7 @@ input_of-requires c = sym c.owns_number.ensures ∙ c.if-owns_number.true
 pub returns-then-owns_number : goal.returns-then-owns_number
 returns-then-owns_number c =
     let l = c.loop-i.invariant in
-    rw c.Input-of.ensures
+    rw c.input_of.ensures
     (search_hit l.1 (element l.0 _ (omega arith)) (sym c.owns_number.ensures ∙ c.if-owns_number.true))
 
 pub loop-i-preserved : goal.loop-i-preserved

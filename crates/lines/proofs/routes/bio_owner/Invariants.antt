@@ -1,11 +1,8 @@
 -- `routes::bio_owner` searches the BIO that owns a number.
-use mathlib.Core.Path.{refl, sym, ◌∙◌}
 use lib.ListN.{take, drop}
 use Prim.Native.Nat.{◌-◌}
-use native.Mathlib.Omega.{arith}
-use borrow.Author.Rules.{rules}
-use Rattle.words.proofs.Searches.{Searching, search_hit, search_miss, search_over}
-use Rattle.words.proofs.Turns.{Turn, element, next_turn, no_turn}
+use Rattle.words.proofs.Searches.{Searching}
+use Rattle.words.proofs.Turns.{Turn}
 use Rattle.parts.specs.Inputs.{owns}
 use Rattle.lines.specs.Routes.{bio_owner}
 use Rattle.lines.specs.declared.Owner.TheVariants.{BioInput, Nobody}

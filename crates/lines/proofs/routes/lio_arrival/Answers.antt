@@ -1,6 +1,5 @@
 -- `routes::lio_arrival`: at its core vector, if it is wired.
 use mathlib.Core.Path.{sym, refl}
-use borrow.Author.Rules.{rules}
 use Rattle.words.proofs.Choices.{yes_if, no_if}
 use Rattle.lines.specs.Routes.{lio_arrival}
 use Rattle.lines.proofs.routes.lio_arrival.Goals as goal

@@ -1,12 +1,11 @@
 -- `rules::is_sound` tells the two verdicts apart.
-use borrow.Author.Rules.{rules}
 use Rattle.words.specs.Refusals.{is_sound}
 use Rattle.lines.proofs.rules.is_sound.Goals as goal
 
 pub returns-in-Sound : goal.returns-in-Sound
 unfolding is_sound
-returns-in-Sound c = rw c.enum_told-1.given.1
+returns-in-Sound c = rw c.in-Sound.is
 
 pub returns-in-Refused : goal.returns-in-Refused
 unfolding is_sound
-returns-in-Refused c = rw c.enum_told-in-Refused-1.given.1
+returns-in-Refused c = rw c.in-Refused.is

@@ -1,12 +1,11 @@
 -- `rules::or_else` is the first of two verdicts that refuses.
-use borrow.Author.Rules.{rules}
 use Rattle.words.specs.Refusals.{unless}
 use Rattle.lines.proofs.rules.or_else.Goals as goal
 
 pub returns-in-Sound : goal.returns-in-Sound
 unfolding unless
-returns-in-Sound c = rw c.enum_told-1.given.1
+returns-in-Sound c = rw c.in-Sound.is
 
 pub returns-in-Refused : goal.returns-in-Refused
 unfolding unless
-returns-in-Refused c = rw c.first-1.given.1
+returns-in-Refused c = rw c.in-Refused.is

@@ -1,6 +1,5 @@
 -- `rules::rule_of` is a rule with a known place.
 use mathlib.Core.Path.{sym, refl}
-use borrow.Author.Rules.{rules}
 use Rattle.words.proofs.Choices.{yes_if, no_if}
 use Rattle.lines.proofs.rules.rule_of.Goals as goal
 

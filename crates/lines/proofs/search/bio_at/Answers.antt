@@ -7,4 +7,4 @@ use Rattle.lines.proofs.search.bio_at.Goals as goal
 pub returns : goal.returns
 returns c =
     let a = c.args in
-    rw c.bio_claim.ensures (placed_at bio_claim a.t1 a.n a.t3 a.i _ (search rules) (search rules) (search rules))
+    rw c.bio_claim.ensures (placed_at bio_claim a.bios a.n a.places a.i _ (search rules) (search rules) (search rules))

@@ -7,4 +7,4 @@ use Rattle.lines.proofs.search.msi_at.Goals as goal
 pub returns : goal.returns
 returns c =
     let a = c.args in
-    rw c.msi_claim.ensures (placed_at msi_claim a.t1 a.n a.t3 a.i _ (search rules) (search rules) (search rules))
+    rw c.msi_claim.ensures (placed_at msi_claim a.msis a.n a.places a.i _ (search rules) (search rules) (search rules))

@@ -1,5 +1,4 @@
 -- `traces::is_lpc_pin`: there is an LPC, its cascade is this input, and its bridge is this BIO.
-use borrow.Author.Rules.{rules}
 use Rattle.lines.specs.Traces.{is_lpc_pin}
 use Rattle.lines.proofs.traces.is_lpc_pin.Goals as goal
 

@@ -1,5 +1,4 @@
 -- `traces::led_by_lio`: a half leads it, and it is not named.
-use borrow.Author.Rules.{rules}
 use Rattle.lines.proofs.traces.led_by_lio.Goals as goal
 
 pub returns-then-half_leads : goal.returns-then-half_leads

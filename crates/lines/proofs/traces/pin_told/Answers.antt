@@ -1,6 +1,5 @@
 -- `traces::pin_told` never tells the LPC's input as a BIO's.
 use mathlib.Core.Path.{sym, refl}
-use borrow.Author.Rules.{rules}
 use Rattle.words.proofs.Choices.{yes_if, no_if}
 use Rattle.lines.specs.Traces.{pin_told}
 use Rattle.lines.proofs.traces.pin_told.Goals as goal

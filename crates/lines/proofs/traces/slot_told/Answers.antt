@@ -1,14 +1,10 @@
 -- `traces::slot_told` searches the MSI that has a slot.
 use mathlib.Core.Path.{refl, sym, ◌∙◌}
-use lib.ListN.{take, drop}
-use Prim.Native.Nat.{◌-◌}
 use native.Mathlib.Omega.{arith}
 use borrow.Author.Rules.{rules}
-use Rattle.words.proofs.Searches.{Searching, search_hit, search_miss, search_over}
-use Rattle.words.proofs.Turns.{Turn, element, next_turn, no_turn}
-use Rattle.parts.specs.Inputs.{has_slot}
+use Rattle.words.proofs.Searches.{search_hit, search_miss, search_over}
+use Rattle.words.proofs.Turns.{element, next_turn, no_turn}
 use Rattle.lines.specs.Traces.{slot_told}
-use Rattle.lines.specs.declared.Trace.TheVariants.{MsiSlot, Nothing}
 use Rattle.lines.proofs.traces.slot_told.Goals as goal
 
 pub loop-i-init : goal.loop-i-init

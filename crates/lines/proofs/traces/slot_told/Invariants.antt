@@ -1,11 +1,8 @@
 -- `traces::slot_told` searches the MSI that has a slot.
-use mathlib.Core.Path.{refl, sym, ◌∙◌}
 use lib.ListN.{take, drop}
 use Prim.Native.Nat.{◌-◌}
-use native.Mathlib.Omega.{arith}
-use borrow.Author.Rules.{rules}
-use Rattle.words.proofs.Searches.{Searching, search_hit, search_miss, search_over}
-use Rattle.words.proofs.Turns.{Turn, element, next_turn, no_turn}
+use Rattle.words.proofs.Searches.{Searching}
+use Rattle.words.proofs.Turns.{Turn}
 use Rattle.parts.specs.Inputs.{has_slot}
 use Rattle.lines.specs.Traces.{slot_told}
 use Rattle.lines.specs.declared.Trace.TheVariants.{MsiSlot, Nothing}

@@ -1,5 +1,6 @@
 -- `check` asks a structure's rules in their order, by the structure's own kind.
 use mathlib.Core.Path.{ap, sym, ◌∙◌}
+use Rattle.std.proofs.Common.{arith}
 use Rattle.words.specs.declared.Verdict.TheVariants.{Refused}
 use Rattle.madt.proofs.Contents.{full_core, full_lio, full_ht, full_eio, full_msi, full_bio, full_lpc}
 use Rattle.madt.proofs.Checks.{length-wrong, length_right, version-wrong, version_right, has_length, no_length, at_32, at_33, for_core, for_lio, for_ht, for_eio, for_msi, for_bio, for_lpc, passed_over, one_of_seven}
@@ -24,7 +25,7 @@ returns-then-byte_at-ne-KNOWN_VERSION c =
 pub returns-in-17 : goal.returns-in-17
 returns-in-17 c =
     let s = c.args.structure.now in
-    let t = sym c.byte_at-3.ensures ∙ c.in-0-to-16.keys1 in
+    let t = sym c.byte_at-3.ensures ∙ c.in-17.is in
     λ pins all by. rw (c.check_core.ensures, c.from_bytes.ensures)
     (sym (for_core _ _ s
     (length_right c.args.structure.now (has_length c.args.structure.now (λ h. c.if-length-eq0.false (c.length_of-length.ensures ∙ h))) (sym c.byte_at.ensures ∙ c.if-byte_at-length.false ∙ c.length_of-length.ensures))
@@ -34,7 +35,7 @@ returns-in-17 c =
 pub returns-in-18 : goal.returns-in-18
 returns-in-18 c =
     let s = c.args.structure.now in
-    let t = sym c.byte_at-3.ensures ∙ c.in-0-to-16.keys2 in
+    let t = sym c.byte_at-3.ensures ∙ c.in-18.is in
     λ pins all by. rw (c.check_lio.ensures, c.from_bytes-in-18.ensures)
     (sym (for_lio _ _ s
     (length_right c.args.structure.now (has_length c.args.structure.now (λ h. c.if-length-eq0.false (c.length_of-length.ensures ∙ h))) (sym c.byte_at.ensures ∙ c.if-byte_at-length.false ∙ c.length_of-length.ensures))
@@ -44,7 +45,7 @@ returns-in-18 c =
 pub returns-in-19 : goal.returns-in-19
 returns-in-19 c =
     let s = c.args.structure.now in
-    let t = sym c.byte_at-3.ensures ∙ c.in-0-to-16.keys3 in
+    let t = sym c.byte_at-3.ensures ∙ c.in-19.is in
     λ pins all by. rw (c.check_field.ensures, c.ht_field.ensures, c.from_bytes-in-19.ensures)
     (sym (for_ht _ _ s
     (length_right c.args.structure.now (has_length c.args.structure.now (λ h. c.if-length-eq0.false (c.length_of-length.ensures ∙ h))) (sym c.byte_at.ensures ∙ c.if-byte_at-length.false ∙ c.length_of-length.ensures))
@@ -54,7 +55,7 @@ returns-in-19 c =
 pub returns-in-20 : goal.returns-in-20
 returns-in-20 c =
     let s = c.args.structure.now in
-    let t = sym c.byte_at-3.ensures ∙ c.in-0-to-16.keys4 in
+    let t = sym c.byte_at-3.ensures ∙ c.in-20.is in
     λ pins all by. rw (c.check_field-in-20.ensures, c.eio_field.ensures, c.from_bytes-in-20.ensures)
     (sym (for_eio _ _ s
     (length_right c.args.structure.now (has_length c.args.structure.now (λ h. c.if-length-eq0.false (c.length_of-length.ensures ∙ h))) (sym c.byte_at.ensures ∙ c.if-byte_at-length.false ∙ c.length_of-length.ensures))
@@ -64,7 +65,7 @@ returns-in-20 c =
 pub returns-in-21 : goal.returns-in-21
 returns-in-21 c =
     let s = c.args.structure.now in
-    let t = sym c.byte_at-3.ensures ∙ c.in-0-to-16.keys5 in
+    let t = sym c.byte_at-3.ensures ∙ c.in-21.is in
     λ pins all by. rw (c.check_field-in-21.ensures, c.msi_field.ensures, c.from_bytes-in-21.ensures)
     (sym (for_msi _ _ s
     (length_right c.args.structure.now (has_length c.args.structure.now (λ h. c.if-length-eq0.false (c.length_of-length.ensures ∙ h))) (sym c.byte_at.ensures ∙ c.if-byte_at-length.false ∙ c.length_of-length.ensures))
@@ -74,7 +75,7 @@ returns-in-21 c =
 pub returns-in-22 : goal.returns-in-22
 returns-in-22 c =
     let s = c.args.structure.now in
-    let t = sym c.byte_at-3.ensures ∙ c.in-0-to-16.keys6 in
+    let t = sym c.byte_at-3.ensures ∙ c.in-22.is in
     λ pins all by. rw (c.check_field-in-22.ensures, c.bio_field.ensures, c.from_bytes-in-22.ensures)
     (sym (for_bio _ _ s
     (length_right c.args.structure.now (has_length c.args.structure.now (λ h. c.if-length-eq0.false (c.length_of-length.ensures ∙ h))) (sym c.byte_at.ensures ∙ c.if-byte_at-length.false ∙ c.length_of-length.ensures))
@@ -84,7 +85,7 @@ returns-in-22 c =
 pub returns-in-23 : goal.returns-in-23
 returns-in-23 c =
     let s = c.args.structure.now in
-    let t = sym c.byte_at-3.ensures ∙ c.in-0-to-16.keys7 in
+    let t = sym c.byte_at-3.ensures ∙ c.in-23.is in
     λ pins all by. rw (c.check_field-in-23.ensures, c.lpc_field.ensures, c.from_bytes-in-23.ensures)
     (sym (for_lpc _ _ s
     (length_right c.args.structure.now (has_length c.args.structure.now (λ h. c.if-length-eq0.false (c.length_of-length.ensures ∙ h))) (sym c.byte_at.ensures ∙ c.if-byte_at-length.false ∙ c.length_of-length.ensures))
@@ -94,10 +95,10 @@ returns-in-23 c =
 pub returns-in-0-to-16 : goal.returns-in-0-to-16
 returns-in-0-to-16 c =
     λ pins all by. absurd (one_of_seven c.args.structure.now (has_length c.args.structure.now (λ h. c.if-length-eq0.false (c.length_of-length.ensures ∙ h)))
-    (λ h. c.in-0-to-16.rest.0.0.0.0.0.0.1 (c.byte_at-3.ensures ∙ h))
-    (λ h. c.in-0-to-16.rest.0.0.0.0.0.1 (c.byte_at-3.ensures ∙ h))
-    (λ h. c.in-0-to-16.rest.0.0.0.0.1 (c.byte_at-3.ensures ∙ h))
-    (λ h. c.in-0-to-16.rest.0.0.0.1 (c.byte_at-3.ensures ∙ h))
-    (λ h. c.in-0-to-16.rest.0.0.1 (c.byte_at-3.ensures ∙ h))
-    (λ h. c.in-0-to-16.rest.0.1 (c.byte_at-3.ensures ∙ h))
-    (λ h. c.in-0-to-16.rest.1 (c.byte_at-3.ensures ∙ h)))
+    (λ h. omega arith)
+    (λ h. omega arith)
+    (λ h. omega arith)
+    (λ h. omega arith)
+    (λ h. omega arith)
+    (λ h. omega arith)
+    (λ h. omega arith))

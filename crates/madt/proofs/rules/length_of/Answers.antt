@@ -36,4 +36,4 @@ returns-in-23 c = sym (of_lpc _ _ _ _ _ _ _ _ _ (omega arith))
 
 pub returns-in-0-to-16 : goal.returns-in-0-to-16
 unfolding length_of
-returns-in-0-to-16 c = sym (of_other _ _ _ _ _ _ _ _ _ (λ h. c.in-0-to-16.rest.0.0.0.0.0.0.1 (c.byte_at.ensures ∙ h)) (λ h. c.in-0-to-16.rest.0.0.0.0.0.1 (c.byte_at.ensures ∙ h)) (λ h. c.in-0-to-16.rest.0.0.0.0.1 (c.byte_at.ensures ∙ h)) (λ h. c.in-0-to-16.rest.0.0.0.1 (c.byte_at.ensures ∙ h)) (λ h. c.in-0-to-16.rest.0.0.1 (c.byte_at.ensures ∙ h)) (λ h. c.in-0-to-16.rest.0.1 (c.byte_at.ensures ∙ h)) (λ h. c.in-0-to-16.rest.1 (c.byte_at.ensures ∙ h)))
+returns-in-0-to-16 c = sym (of_other _ _ _ _ _ _ _ _ _ (λ h. omega arith) (λ h. omega arith) (λ h. omega arith) (λ h. omega arith) (λ h. omega arith) (λ h. omega arith) (λ h. omega arith))

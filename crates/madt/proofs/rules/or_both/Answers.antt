@@ -8,12 +8,12 @@ use Rattle.madt.proofs.rules.or_both.Goals as goal
 
 pub returns-then-both : goal.returns-then-both
 unfolding unless if
-returns-then-both c = rw (c.enum_told-1.given.1, c.if-both.true) (ap Refused c.refuse.ensures)
+returns-then-both c = rw (c.in-Sound.is, c.if-both.true) (ap Refused c.refuse.ensures)
 
 pub returns-in-Refused : goal.returns-in-Refused
 unfolding unless
-returns-in-Refused c = rw c.sofar-1.given.1
+returns-in-Refused c = rw c.in-Refused.is
 
 pub returns-else-both : goal.returns-else-both
 unfolding unless if
-returns-else-both c = rw (c.enum_told-1.given.1, c.if-both.false)
+returns-else-both c = rw (c.in-Sound.is, c.if-both.false)

@@ -12,10 +12,10 @@ pub put_number-requires-2 : goal.put_number-requires-2
 put_number-requires-2 c =
     let given = c in
     let room = given.requires in
-    let same = ap length c.put_number.ensures ∙ length-sets given.args.list-1.now given.args.n (four_bytes given.args.processor.uid) in
+    let same = ap length c.put_number.ensures ∙ length-sets given.args.list.now given.args.n (four_bytes given.args.processor.uid) in
     omega arith
 
 pub returns : goal.returns
 returns c =
     let given = c.args in
-    two_numbers given.list-1.now given.n given.processor.uid given.processor.id c.put_number.ensures c.put_number-2.ensures
+    two_numbers given.list.now given.n given.processor.uid given.processor.id c.put_number.ensures c.put_number-2.ensures

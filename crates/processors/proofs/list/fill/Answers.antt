@@ -12,7 +12,8 @@ returns-then-list-offsets c =
     let given = c in
     let size = two_each (processors_at given.args.table.now given.args.offsets.now) in
     let many = length-map (processor_at given.args.table.now) given.args.offsets.now in
-    too_short _ given.args.list-1.now _ (omega arith)
+    let told = too_short _ given.args.list.now _ (omega arith) in
+    record { result_value = told.0; list_after = told.1 }
 
 pub put_all-requires : goal.put_all-requires
 put_all-requires c =
@@ -26,4 +27,5 @@ returns c =
     let given = c in
     let size = two_each (processors_at given.args.table.now given.args.offsets.now) in
     let many = length-map (processor_at given.args.table.now) given.args.offsets.now in
-    enough_room _ given.args.list-1.now _ (omega arith) refl c.put_all.ensures
+    let told = enough_room _ given.args.list.now _ (omega arith) refl c.put_all.ensures in
+    record { result_value = told.0; list_after = told.1 }

@@ -9,17 +9,13 @@ use Rattle.reading.proofs.entries.answer_bytes.Goals as goal
 
 pub returns-in-NoRoom : goal.returns-in-NoRoom
 returns-in-NoRoom c =
-    let f = c in
-    let start = f in
-    let same = same_entries start.args.table.now start.args.offsets.now start.requires in
-    let room = no_room_told _ _ _ (sym f.fill.ensures.0 ∙ c.enum_told-1.given.1) in
-    (ap Refused c.refuse.ensures ∙ sym (in_60 _ _ (rw same at room)), rw same at f.fill.ensures.1)
+    let same = same_entries c.args.table.now c.args.offsets.now c.requires in
+    let room = no_room_told _ _ _ (sym c.fill.ensures.result_value ∙ c.in-NoRoom.is) in
+    record { value = ap Refused c.refuse.ensures ∙ sym (in_60 _ _ (rw same at room)); list_after = rw same at c.fill.ensures.list_after }
 
 pub returns-in-Whole : goal.returns-in-Whole
 returns-in-Whole c =
-    let f = c in
-    let start = f in
-    let same = same_entries start.args.table.now start.args.offsets.now start.requires in
-    let many = same_count start.args.table.now start.args.offsets.now start.requires in
-    let room = whole_told _ _ _ (sym f.fill.ensures.0 ∙ c.processors-1.given.1) in
-    (ap Read (room.1 ∙ many) ∙ sym (in_read _ _ (rw same at room.0)), rw same at f.fill.ensures.1)
+    let same = same_entries c.args.table.now c.args.offsets.now c.requires in
+    let many = same_count c.args.table.now c.args.offsets.now c.requires in
+    let room = whole_told _ _ _ (sym c.fill.ensures.result_value ∙ c.in-Whole.is) in
+    record { value = ap Read (room.1 ∙ many) ∙ sym (in_read _ _ (rw same at room.0)); list_after = rw same at c.fill.ensures.list_after }

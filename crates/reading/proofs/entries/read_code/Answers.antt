@@ -5,7 +5,7 @@ use borrow.Author.Rules.{rules}
 use Rattle.reading.proofs.entries.read_code.Goals as goal
 
 pub returns-in-Read : goal.returns-in-Read
-returns-in-Read c = sym (code_read _ c.answer-1.given.1)
+returns-in-Read c = sym (code_read _ c.in-Read.is)
 
 pub returns-in-Refused : goal.returns-in-Refused
-returns-in-Refused c = c.refusal_code.ensures ∙ sym (code-refused _ c.answer-in-Refused-1.given.1)
+returns-in-Refused c = c.refusal_code.ensures ∙ sym (code-refused _ c.in-Refused.is)

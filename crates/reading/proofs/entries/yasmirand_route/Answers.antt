@@ -13,18 +13,16 @@ use Rattle.reading.proofs.entries.yasmirand_route.Goals as goal
 pub returns-in-Refused : goal.returns-in-Refused
 unfolding route_result
 returns-in-Refused c =
-    let s = c in
     c.refusal_code.ensures
-    ∙ sym (unless-refused _ _ _ (ap (λ (x : Scan). x.verdict-1) (sym s.scan_strictly-noted.ensures.0) ∙ c.verdict-1.given.1))
+    ∙ sym (unless-refused _ _ _ (ap (λ (x : Scan). x.verdict) (sym c.scan_strictly-noted.ensures.scan_value) ∙ c.in-Refused.is))
 
 pub returns-in-Sound : goal.returns-in-Sound
 unfolding route_result
 returns-in-Sound c =
-    let s = c in
-    let number = s.args.number in
-    let sound = ap (λ (x : Scan). x.verdict-1) (sym s.scan_strictly-noted.ensures.0) ∙ c.enum_told-1.given.1 in
+    let number = c.args.number in
+    let sound = ap (λ (x : Scan). x.verdict) (sym c.scan_strictly-noted.ensures.scan_value) ∙ c.in-Sound.is in
     c.route_code.ensures
     ∙ ap route_code c.arrival.ensures
-    ∙ ap (λ (x : Scan). route_code (arrival (says x.map-1) number)) s.scan_strictly-noted.ensures.0
+    ∙ ap (λ (x : Scan). route_code (arrival (says x.map) number)) c.scan_strictly-noted.ensures.scan_value
     ∙ ap route_code (sym (accepted_route _ _ sound number))
     ∙ sym (unless_sound _ _ _ sound)

@@ -13,18 +13,16 @@ use Rattle.reading.proofs.entries.yasmirand_trace.Goals as goal
 pub returns-in-Refused : goal.returns-in-Refused
 unfolding trace_result
 returns-in-Refused c =
-    let s = c in
     c.refusal_code.ensures
-    ∙ sym (unless-refused _ _ _ (ap (λ (x : Scan). x.verdict-1) (sym s.scan_strictly-noted.ensures.0) ∙ c.verdict-1.given.1))
+    ∙ sym (unless-refused _ _ _ (ap (λ (x : Scan). x.verdict) (sym c.scan_strictly-noted.ensures.scan_value) ∙ c.in-Refused.is))
 
 pub returns-in-Sound : goal.returns-in-Sound
 unfolding trace_result
 returns-in-Sound c =
-    let s = c in
-    let a = s.args in
-    let sound = ap (λ (x : Scan). x.verdict-1) (sym s.scan_strictly-noted.ensures.0) ∙ c.enum_told-1.given.1 in
+    let a = c.args in
+    let sound = ap (λ (x : Scan). x.verdict) (sym c.scan_strictly-noted.ensures.scan_value) ∙ c.in-Sound.is in
     c.trace_code.ensures
     ∙ ap trace_code c.traced.ensures
-    ∙ ap (λ (x : Scan). trace_code (traced (says x.map-1) a.vector a.number)) s.scan_strictly-noted.ensures.0
+    ∙ ap (λ (x : Scan). trace_code (traced (says x.map) a.vector a.number)) c.scan_strictly-noted.ensures.scan_value
     ∙ ap trace_code (sym (accepted_trace _ _ sound a.vector a.number))
     ∙ sym (unless_sound _ _ _ sound)

@@ -9,7 +9,6 @@ use Rattle.words.proofs.Tests.{neither_right}
 use Rattle.tables.specs.Table.{wrong_sum}
 use Rattle.tables.specs.Whole.{rules_within, table_within}
 use Rattle.tables.specs.declared.Checked.TheVariants.{Is, Refused}
-use borrow.Author.Rules.{rules}
 use Rattle.tables.proofs.headers.check_whole.Goals as goal
 
 pub returns-then-length-room : goal.returns-then-length-room

@@ -1,7 +1,6 @@
 -- `tables::sum_at` is the sum of the part.
 use mathlib.Core.Path.{ap, ◌∙◌}
 use Rattle.words.specs.Bytes.{byte_sum}
-use borrow.Author.Rules.{rules}
 use Rattle.tables.proofs.headers.sum_at.Goals as goal
 
 pub returns : goal.returns

@@ -3,7 +3,6 @@ use mathlib.Core.Path.{ap, sym, ◌∙◌}
 use Rattle.words.proofs.Verdicts.{first_none, first_broken_lem, first_kept}
 use Rattle.words.specs.declared.Verdict.TheVariants.{Refused}
 use Rattle.tables.specs.Rsdp.{rsdp_rules}
-use borrow.Author.Rules.{rules}
 use Rattle.tables.proofs.rsdp.rsdp_rules.Goals as goal
 
 pub returns-then-wrong_signature : goal.returns-then-wrong_signature

@@ -1,6 +1,5 @@
 -- `tables::wrong_length` is refusal 13.
 use Rattle.tables.specs.Rsdp.{wrong_length}
-use borrow.Author.Rules.{rules}
 use Rattle.tables.proofs.rsdp.wrong_length.Goals as goal
 
 pub returns : goal.returns

@@ -1,6 +1,5 @@
 -- `tables::wrong_revision` is refusal 12.
 use Rattle.tables.specs.Rsdp.{wrong_revision}
-use borrow.Author.Rules.{rules}
 use Rattle.tables.proofs.rsdp.wrong_revision.Goals as goal
 
 pub returns : goal.returns

@@ -1,7 +1,6 @@
 -- `tables::wrong_signature` is refusal 11.
 use Rattle.words.specs.Bytes.{spelled}
 use Rattle.tables.specs.Rsdp.{wrong_signature, rsd_ptr}
-use borrow.Author.Rules.{rules}
 use Rattle.tables.proofs.rsdp.wrong_signature.Goals as goal
 
 pub returns : goal.returns

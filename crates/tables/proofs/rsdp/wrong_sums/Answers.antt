@@ -1,6 +1,5 @@
 -- `tables::wrong_sums` is refusal 14.
 use Rattle.tables.specs.Rsdp.{wrong_sums}
-use borrow.Author.Rules.{rules}
 use Rattle.tables.proofs.rsdp.wrong_sums.Goals as goal
 
 pub returns : goal.returns

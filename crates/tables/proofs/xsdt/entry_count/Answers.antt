@@ -1,6 +1,5 @@
 -- `tables::entry_count` is the number of the XSDT's addresses.
 use Rattle.tables.specs.Xsdt.{entry_count}
-use borrow.Author.Rules.{rules}
 use Rattle.tables.proofs.xsdt.entry_count.Goals as goal
 
 pub returns : goal.returns

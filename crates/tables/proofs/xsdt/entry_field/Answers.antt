@@ -1,7 +1,6 @@
 -- `tables::entry_field` is the place of an entry's address field.
 use native.Mathlib.Omega.{arith}
 use Rattle.tables.specs.Xsdt.{entry_field}
-use borrow.Author.Rules.{rules}
 use Rattle.tables.proofs.xsdt.entry_field.Goals as goal
 
 pub returns : goal.returns

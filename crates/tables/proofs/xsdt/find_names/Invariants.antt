@@ -1,22 +1,13 @@
 -- `tables::find_names` gives the refusal of the first entry that has one; where none has, what it knows in the end is what the
 -- finder finds.
-use Prim.Native.Nat.{ℕ, ◌-◌, ◌<◌}
-use mathlib.Core.Path.{◌≡◌, ap, ap₂, sym, ◌∙◌}
-use native.Mathlib.Omega.{arith}
-use lib.Dec.{eqb}
-use Rattle.words.specs.Bytes.{spelled}
+use Prim.Native.Nat.{ℕ, ◌-◌}
 use Rattle.words.specs.Lists.{numbers_from}
 use Rattle.words.specs.Refusals.{first_refusal}
-use Rattle.words.proofs.Searches.{next_number, no_number}
-use Rattle.words.proofs.Verdicts.{unless-refused, unless_sound, Asking, ask_refused, ask_kept, ask_over}
-use Rattle.tables.specs.Table.{table_rules, table_at}
-use Rattle.tables.specs.Xsdt.{entry_count, entry_field, entry_rules}
+use Rattle.words.proofs.Verdicts.{Asking}
+use Rattle.tables.specs.Table.{table_rules}
+use Rattle.tables.specs.Xsdt.{entry_field, entry_rules}
 use Rattle.tables.specs.Survey.{apic, facp}
-use Rattle.tables.specs.Naming.{one_more}
-use Rattle.tables.specs.declared.Names.TheVariants.{Are}
-use Rattle.tables.proofs.Laws.{table_told}
-use Rattle.tables.proofs.Naming.{Noting, note_start, note_checked, note_end, ask_start}
-use borrow.Author.Rules.{rules}
+use Rattle.tables.proofs.Naming.{Noting}
 use Rattle.tables.proofs.xsdt.find_names.Given as goal
 
 abbrev pub invariant-loop-entry : goal.invariant-loop-entry

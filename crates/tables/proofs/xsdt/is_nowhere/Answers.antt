@@ -1,12 +1,11 @@
 -- `tables::is_nowhere` goes by the entry's two cases.
 use Rattle.tables.specs.Survey.{is_nowhere}
-use borrow.Author.Rules.{rules}
 use Rattle.tables.proofs.xsdt.is_nowhere.Goals as goal
 
 pub returns-in-Nowhere : goal.returns-in-Nowhere
 unfolding is_nowhere
-returns-in-Nowhere c = rw c.enum_told-1.given.1
+returns-in-Nowhere c = rw c.in-Nowhere.is
 
 pub returns-in-At : goal.returns-in-At
 unfolding is_nowhere
-returns-in-At c = rw c.enum_told-in-At-1.given.1
+returns-in-At c = rw c.in-At.is

@@ -2,7 +2,6 @@
 use mathlib.Core.Path.{sym, refl}
 use Rattle.words.proofs.Choices.{yes_if, no_if}
 use Rattle.tables.specs.Naming.{one_more}
-use borrow.Author.Rules.{rules}
 use Rattle.tables.proofs.xsdt.noted.Goals as goal
 
 pub returns-then-not-signed : goal.returns-then-not-signed

@@ -1,6 +1,5 @@
 -- `tables::wrong_body` is refusal 25.
 use Rattle.tables.specs.Xsdt.{wrong_body}
-use borrow.Author.Rules.{rules}
 use Rattle.tables.proofs.xsdt.wrong_body.Goals as goal
 
 pub returns : goal.returns

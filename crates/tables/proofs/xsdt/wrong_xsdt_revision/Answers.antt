@@ -1,6 +1,5 @@
 -- `tables::wrong_xsdt_revision` is refusal 24.
 use Rattle.tables.specs.Xsdt.{wrong_xsdt_revision}
-use borrow.Author.Rules.{rules}
 use Rattle.tables.proofs.xsdt.wrong_xsdt_revision.Goals as goal
 
 pub returns : goal.returns

@@ -3,7 +3,6 @@ use mathlib.Core.Path.{ap, sym, ◌∙◌}
 use Rattle.words.proofs.Verdicts.{first_none, first_broken_lem, first_kept}
 use Rattle.words.specs.declared.Verdict.TheVariants.{Refused}
 use Rattle.tables.specs.Xsdt.{xsdt_rules}
-use borrow.Author.Rules.{rules}
 use Rattle.tables.proofs.xsdt.xsdt_rules.Goals as goal
 
 pub returns-then-not_xsdt : goal.returns-then-not_xsdt

@@ -12,10 +12,12 @@ pub put_byte-end-requires : goal.put_byte-end-requires
 put_byte-end-requires c = ahead c.loop-i.invariant (next_byte _ _ c.loop-i-test.true)
 
 pub loop-i-preserved : goal.loop-i-preserved
-loop-i-preserved c = next c.loop-i.invariant (next_byte _ _ c.loop-i-test.true) c.put_byte-end.ensures
+loop-i-preserved c = next c.loop-i.invariant (next_byte _ _ c.loop-i-test.true) (c.put_byte-end.ensures.value, c.put_byte-end.ensures.room_after)
 
 pub shape_of-room : goal.shape_of-room
 shape_of-room c = c.loop-i.invariant.same
 
 pub returns : goal.returns
-returns c = over c.loop-i.invariant (none_in _ _ c.loop-i-test.false)
+returns c =
+    let told = over c.loop-i.invariant (none_in _ _ c.loop-i-test.false) in
+    record { value = told.0; room_after = told.1 }

@@ -6,18 +6,16 @@ use Rattle.text.proofs.put.put_field.Goals as goal
 
 pub put_byte-end-requires : goal.put_byte-end-requires
 put_byte-end-requires c =
-    let a = c in
-    let p = begin (field a.args.number) a.args.room-1.now a.args.n a.requires in
+    let p = begin (field c.args.number) c.args.room.now c.args.n c.requires in
     ahead p (field_split _)
 
 pub put_decimal-requires : goal.put_decimal-requires
 put_decimal-requires c =
-    let a = c in
-    let p = begin (field a.args.number) a.args.room-1.now a.args.n a.requires in
-    (next p (field_split _) c.put_byte-end.ensures).fits
+    let p = begin (field c.args.number) c.args.room.now c.args.n c.requires in
+    (next p (field_split _) (c.put_byte-end.ensures.value, c.put_byte-end.ensures.room_after)).fits
 
 pub returns : goal.returns
 returns c =
-    let a = c in
-    let p = begin (field a.args.number) a.args.room-1.now a.args.n a.requires in
-    done (next p (field_split _) c.put_byte-end.ensures) c.put_decimal.ensures
+    let p = begin (field c.args.number) c.args.room.now c.args.n c.requires in
+    let told = done (next p (field_split _) (c.put_byte-end.ensures.value, c.put_byte-end.ensures.room_after)) (c.put_decimal.ensures.value, c.put_decimal.ensures.room_after) in
+    record { value = told.0; room_after = told.1 }

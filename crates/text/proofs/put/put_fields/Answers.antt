@@ -13,10 +13,12 @@ pub put_field-end-requires : goal.put_field-end-requires
 put_field-end-requires c = ahead c.loop-i.invariant (next_of field (next_in _ _ 0 c.loop-i-test.true))
 
 pub loop-i-preserved : goal.loop-i-preserved
-loop-i-preserved c = next c.loop-i.invariant (next_of field (next_in _ _ 0 c.loop-i-test.true)) c.put_field-end.ensures
+loop-i-preserved c = next c.loop-i.invariant (next_of field (next_in _ _ 0 c.loop-i-test.true)) (c.put_field-end.ensures.value, c.put_field-end.ensures.room_after)
 
 pub shape_of-room : goal.shape_of-room
 shape_of-room c = c.loop-i.invariant.same
 
 pub returns : goal.returns
-returns c = over c.loop-i.invariant (none_of field (none_in _ _ c.loop-i-test.false))
+returns c =
+    let told = over c.loop-i.invariant (none_of field (none_in _ _ c.loop-i-test.false)) in
+    record { value = told.0; room_after = told.1 }

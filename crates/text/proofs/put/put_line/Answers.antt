@@ -6,18 +6,16 @@ use Rattle.text.proofs.put.put_line.Goals as goal
 
 pub put_phrase-end-requires : goal.put_phrase-end-requires
 put_phrase-end-requires c =
-    let a = c in
-    let p = begin (line a.args.word.now a.args.numbers.now) a.args.room-1.now a.args.n a.requires in
+    let p = begin (line c.args.word.now c.args.numbers.now) c.args.room.now c.args.n c.requires in
     ahead p (line_split _ _)
 
 pub put_byte-requires : goal.put_byte-requires
 put_byte-requires c =
-    let a = c in
-    let p = begin (line a.args.word.now a.args.numbers.now) a.args.room-1.now a.args.n a.requires in
-    (next p (line_split _ _) c.put_phrase-end.ensures).fits
+    let p = begin (line c.args.word.now c.args.numbers.now) c.args.room.now c.args.n c.requires in
+    (next p (line_split _ _) (c.put_phrase-end.ensures.value, c.put_phrase-end.ensures.room_after)).fits
 
 pub returns : goal.returns
 returns c =
-    let a = c in
-    let p = begin (line a.args.word.now a.args.numbers.now) a.args.room-1.now a.args.n a.requires in
-    done (next p (line_split _ _) c.put_phrase-end.ensures) c.put_byte.ensures
+    let p = begin (line c.args.word.now c.args.numbers.now) c.args.room.now c.args.n c.requires in
+    let told = done (next p (line_split _ _) (c.put_phrase-end.ensures.value, c.put_phrase-end.ensures.room_after)) (c.put_byte.ensures.value, c.put_byte.ensures.room_after) in
+    record { value = told.0; room_after = told.1 }

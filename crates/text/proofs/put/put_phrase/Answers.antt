@@ -6,18 +6,16 @@ use Rattle.text.proofs.put.put_phrase.Goals as goal
 
 pub put_bytes-end-requires : goal.put_bytes-end-requires
 put_bytes-end-requires c =
-    let a = c in
-    let p = begin (phrase a.args.word.now a.args.numbers.now) a.args.room-1.now a.args.n a.requires in
+    let p = begin (phrase c.args.word.now c.args.numbers.now) c.args.room.now c.args.n c.requires in
     ahead p (phrase_split _ _)
 
 pub put_fields-requires : goal.put_fields-requires
 put_fields-requires c =
-    let a = c in
-    let p = begin (phrase a.args.word.now a.args.numbers.now) a.args.room-1.now a.args.n a.requires in
-    (next p (phrase_split _ _) c.put_bytes-end.ensures).fits
+    let p = begin (phrase c.args.word.now c.args.numbers.now) c.args.room.now c.args.n c.requires in
+    (next p (phrase_split _ _) (c.put_bytes-end.ensures.value, c.put_bytes-end.ensures.room_after)).fits
 
 pub returns : goal.returns
 returns c =
-    let a = c in
-    let p = begin (phrase a.args.word.now a.args.numbers.now) a.args.room-1.now a.args.n a.requires in
-    done (next p (phrase_split _ _) c.put_bytes-end.ensures) c.put_fields.ensures
+    let p = begin (phrase c.args.word.now c.args.numbers.now) c.args.room.now c.args.n c.requires in
+    let told = done (next p (phrase_split _ _) (c.put_bytes-end.ensures.value, c.put_bytes-end.ensures.room_after)) (c.put_fields.ensures.value, c.put_fields.ensures.room_after) in
+    record { value = told.0; room_after = told.1 }

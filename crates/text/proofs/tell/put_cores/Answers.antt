@@ -13,10 +13,12 @@ pub put_core-end-requires : goal.put_core-end-requires
 put_core-end-requires c = ahead c.loop-i.invariant (next_core _ _ c.loop-i-test.true)
 
 pub loop-i-preserved : goal.loop-i-preserved
-loop-i-preserved c = next c.loop-i.invariant (next_core _ _ c.loop-i-test.true) c.put_core-end.ensures
+loop-i-preserved c = next c.loop-i.invariant (next_core _ _ c.loop-i-test.true) (c.put_core-end.ensures.value, c.put_core-end.ensures.room_after)
 
 pub shape_of-room : goal.shape_of-room
 shape_of-room c = c.loop-i.invariant.same
 
 pub returns : goal.returns
-returns c = over c.loop-i.invariant (no_core _ _ c.loop-i-test.false)
+returns c =
+    let told = over c.loop-i.invariant (no_core _ _ c.loop-i-test.false) in
+    record { value = told.0; room_after = told.1 }

@@ -6,7 +6,7 @@ use borrow.Author.Rules.{rules}
 use Rattle.text.proofs.tell.put_half.Goals as goal
 
 pub returns-then-half-eq0 : goal.returns-then-half-eq0
-returns-then-half-eq0 c = let e = half_unused c.args.half c.if-half-eq0.true in (rw e (omega arith), rw e)
+returns-then-half-eq0 c = let e = half_unused c.args.half c.if-half-eq0.true in record { value = rw e (omega arith); room_after = rw e }
 
 pub put_line-requires : goal.put_line-requires
 unfolding letters

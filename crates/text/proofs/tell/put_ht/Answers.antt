@@ -8,20 +8,15 @@ use borrow.Author.Tests.{not-true, not-false}
 use borrow.Author.Rules.{rules}
 use Rattle.text.proofs.tell.put_ht.Goals as goal
 
-eight : (s : tie.Start) → length s.args.ht.bytes ≡ 8
-eight s = search rules
-
 pub returns-then-not-ht : goal.returns-then-not-ht
-returns-then-not-ht c = let e = ht_absent c.args.ht (not-true _ c.if-not-ht.true) in (rw e (omega arith), rw e)
+returns-then-not-ht c = let e = ht_absent c.args.ht (not-true _ c.if-not-ht.true) in record { value = rw e (omega arith); room_after = rw e }
 
 pub put_line-requires : goal.put_line-requires
 unfolding letters
 put_line-requires c =
-    let s = c in
-    rw (ht_there s.args.ht (eight s) (not-false _ c.if-not-ht.false)) at s.requires
+    rw (ht_there c.args.ht (search rules) (not-false _ c.if-not-ht.false)) at c.requires
 
 pub returns : goal.returns
 unfolding letters
 returns c =
-    let s = c in
-    rw (ht_there s.args.ht (eight s) (not-false _ c.if-not-ht.false)) c.put_line.ensures
+    rw (ht_there c.args.ht (search rules) (not-false _ c.if-not-ht.false)) c.put_line.ensures

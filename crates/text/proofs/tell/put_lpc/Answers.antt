@@ -7,7 +7,7 @@ use borrow.Author.Tests.{not-true, not-false}
 use Rattle.text.proofs.tell.put_lpc.Goals as goal
 
 pub returns-then-not-lpc : goal.returns-then-not-lpc
-returns-then-not-lpc c = let e = lpc_absent c.args.lpc (not-true _ c.if-not-lpc.true) in (rw e (omega arith), rw e)
+returns-then-not-lpc c = let e = lpc_absent c.args.lpc (not-true _ c.if-not-lpc.true) in record { value = rw e (omega arith); room_after = rw e }
 
 pub put_line-requires : goal.put_line-requires
 unfolding letters

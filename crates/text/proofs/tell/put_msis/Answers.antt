@@ -9,7 +9,7 @@ use borrow.Author.Rules.{rules}
 use Rattle.text.proofs.tell.put_msis.Goals as goal
 
 pub loop-i-init : goal.loop-i-init
-loop-i-init c = (record { within = search rules; fits = search rules }, begin _ _ _ c.requires.1)
+loop-i-init c = (record { within = search rules; fits = search rules }, begin _ _ _ c.requires.fits)
 
 pub put_msi-end-requires : goal.put_msi-end-requires
 put_msi-end-requires c = let l = c.loop-i.invariant in ahead l.1 (next_of msi_line (element l.0 _ (omega arith)))
@@ -17,10 +17,13 @@ put_msi-end-requires c = let l = c.loop-i.invariant in ahead l.1 (next_of msi_li
 pub loop-i-preserved : goal.loop-i-preserved
 loop-i-preserved c =
     let l = c.loop-i.invariant in
-    (next_turn l.0 (omega arith), next l.1 (next_of msi_line (element l.0 _ (omega arith))) c.put_msi-end.ensures)
+    (next_turn l.0 (omega arith), next l.1 (next_of msi_line (element l.0 _ (omega arith))) (c.put_msi-end.ensures.value, c.put_msi-end.ensures.room_after))
 
 pub shape_of-room : goal.shape_of-room
 shape_of-room c = c.loop-i.invariant.1.same
 
 pub returns : goal.returns
-returns c = let l = c.loop-i.invariant in over l.1 (none_of msi_line (no_turn l.0 (omega arith)))
+returns c =
+    let l = c.loop-i.invariant in
+    let told = over l.1 (none_of msi_line (no_turn l.0 (omega arith))) in
+    record { value = told.0; room_after = told.1 }

@@ -9,32 +9,28 @@ use Rattle.text.proofs.tell.put_places.Goals as goal
 pub put_line-requires : goal.put_line-requires
 unfolding letters
 put_line-requires c =
-    let a = c in
-    rw (one_place a.args.place a.args.second c.if-second-eq0.true) at a.requires
+    rw (one_place c.args.place c.args.second c.if-second-eq0.true) at c.requires
 
 pub returns-then-second-eq0 : goal.returns-then-second-eq0
 unfolding letters
 returns-then-second-eq0 c =
-    let a = c in
-    rw (one_place a.args.place a.args.second c.if-second-eq0.true) c.put_line.ensures
+    rw (one_place c.args.place c.args.second c.if-second-eq0.true) c.put_line.ensures
 
 pub put_phrase-end-requires : goal.put_phrase-end-requires
 unfolding letters
 put_phrase-end-requires c =
-    let a = c in
-    let p = begin (places_line a.args.place a.args.second) a.args.room-1.now a.args.n a.requires in
-    ahead p (places_split a.args.place a.args.second c.if-second-eq0.false)
+    let p = begin (places_line c.args.place c.args.second) c.args.room.now c.args.n c.requires in
+    ahead p (places_split c.args.place c.args.second c.if-second-eq0.false)
 
 pub put_line-requires-2 : goal.put_line-requires-2
 unfolding letters
 put_line-requires-2 c =
-    let a = c in
-    let p = begin (places_line a.args.place a.args.second) a.args.room-1.now a.args.n a.requires in
-    (next p (places_split a.args.place a.args.second c.if-second-eq0.false) c.put_phrase-end.ensures).fits
+    let p = begin (places_line c.args.place c.args.second) c.args.room.now c.args.n c.requires in
+    (next p (places_split c.args.place c.args.second c.if-second-eq0.false) (c.put_phrase-end.ensures.value, c.put_phrase-end.ensures.room_after)).fits
 
 pub returns : goal.returns
 unfolding letters
 returns c =
-    let a = c in
-    let p = begin (places_line a.args.place a.args.second) a.args.room-1.now a.args.n a.requires in
-    done (next p (places_split a.args.place a.args.second c.if-second-eq0.false) c.put_phrase-end.ensures) c.put_line-2.ensures
+    let p = begin (places_line c.args.place c.args.second) c.args.room.now c.args.n c.requires in
+    let told = done (next p (places_split c.args.place c.args.second c.if-second-eq0.false) (c.put_phrase-end.ensures.value, c.put_phrase-end.ensures.room_after)) (c.put_line-2.ensures.value, c.put_line-2.ensures.room_after) in
+    record { value = told.0; room_after = told.1 }

@@ -1,6 +1,5 @@
 -- `Core::from_bytes` reads the fields of a CORE.
 use Rattle.kinds.specs.Makers.{core_of}
-use borrow.Author.Rules.{rules}
 use Rattle.kinds.proofs.makers.Core.from_bytes.Goals as goal
 
 pub returns : goal.returns
