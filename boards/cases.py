@@ -1403,8 +1403,8 @@ both(lookup, "lookup: revision 5, the table of board A", A, NEWER, [72], ordinar
 both(by_map, "by the map: revision 5", NEWER, [72], ordinary="asked bio 0 8 0 3 8", strict=f"asked {NOT_KEPT}")
 
 # Board A's neighbours among document 01's twelve examples, which are proved from the boards' bytes.
-NEIGHBOURS = [("msiFrom63", "MSI start 63, count 193", put(MSI, msi(63, 193))), ("msiTo257", "MSI start 65, count 192", put(MSI, msi(65, 192))),
-              ("eioAt2", "EIO cascade 2", put(EIO, eio(2, 0)))]
+NEIGHBOURS = [("msi_from_63", "MSI start 63, count 193", put(MSI, msi(63, 193))), ("msi_to_257", "MSI start 65, count 192", put(MSI, msi(65, 192))),
+              ("eio_at_2", "EIO cascade 2", put(EIO, eio(2, 0)))]
 
 
 # And board A moved, for the statement that its map stays.

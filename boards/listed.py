@@ -2,22 +2,20 @@
 from board import A
 
 # What stands where in board A, by the name and the place of each part.
-PARTS = [("container", "the container: header and one descriptor", 0), ("rsdpBytes", "RSDP", 30), ("xsdtBytes", "XSDT", 66),
-         ("madtHead", "MADT: header, address and flags", 118), ("core0", "CORE 0, 0, enabled", 162),
+PARTS = [("container", "the container: header and one descriptor", 0), ("rsdp_bytes", "RSDP", 30), ("xsdt_bytes", "XSDT", 66),
+         ("madt_head", "MADT: header, address and flags", 118), ("core0", "CORE 0, 0, enabled", 162),
          ("core1", "CORE 1, 1, enabled", 177), ("core2", "CORE 2, 2, disabled", 192),
-         ("lioBytes", "LIO, bytes 2 and 0, masks 0x00FFFFFF and 0", 207), ("eioBytes", "EIO, cascade 3, node 0, map 1", 230),
-         ("msiBytes", "MSI, start 64, count 192", 243), ("bioBytes", "BIO, hardware ID 0, base 64", 262),
-         ("lpcBytes", "LPC, cascade 19", 279), ("fadtBytes", "FADT, SCI 75", 294)]
+         ("lio_bytes", "LIO, bytes 2 and 0, masks 0x00FFFFFF and 0", 207), ("eio_bytes", "EIO, cascade 3, node 0, map 1", 230),
+         ("msi_bytes", "MSI, start 64, count 192", 243), ("bio_bytes", "BIO, hardware ID 0, base 64", 262),
+         ("lpc_bytes", "LPC, cascade 19", 279), ("fadt_bytes", "FADT, SCI 75", 294)]
 
 # And in board A moved: a container and an XSDT of its own, and then the FADT ahead of the MADT.
-OWN = [("containerMoved", "the container: header, pairs and one descriptor", 0, 38), ("xsdtMoved", "XSDT", 74, 126)]
-MOVED = ["containerMoved", "rsdpBytes", "xsdtMoved", "fadtBytes"] + [name for name, _, _ in PARTS[3:-1]]
+OWN = [("container_moved", "the container: header, pairs and one descriptor", 0, 38), ("xsdt_moved", "XSDT", 74, 126)]
+MOVED = ["container_moved", "rsdp_bytes", "xsdt_moved", "fadt_bytes"] + [name for name, _, _ in PARTS[3:-1]]
 
 HEAD = """-- Document 01, "Board A and its neighbours", byte by byte: what boards/A.cap holds, three neighbours with their sums made good, and board
 -- A moved. boards/cases.py writes this file, and says whether it is what boards/A.cap holds.
-use Prim.Native.Nat.{ℕ}
-use mathlib.Core.List.{List, [], _∷_, _++_}
-use lib.ListN.{set}
+use Rattle.std.specs.Prelude.{ℕ, List, [], ◌∷◌, ◌++◌, set}
 """
 
 
@@ -28,7 +26,7 @@ def spelled(data):
 def changed(data):
     """A neighbour of board A by the bytes in which it differs."""
     assert len(data) == len(A)
-    board = "boardA"
+    board = "board_a"
     for at in range(len(A)):
         if data[at] != A[at]:
             board = f"(set {board} {at} {data[at]})"
@@ -48,12 +46,12 @@ def boards(neighbours, moved):
     ends = [place for _, _, place in PARTS[1:]] + [len(A)]
     held = {name: A[place:end] for (name, _, place), end in zip(PARTS, ends)}
     page = [HEAD] + [listed(name, title, held[name]) for name, title, _ in PARTS]
-    page.append(joined("boardA", held))
+    page.append(joined("board_a", held))
     for name, title, data in neighbours:
-        page.append(f"-- {title}\nunfoldable pub {name} : List ℕ\nunfolding boardA\n{name} = {changed(data)}\n")
+        page.append(f"-- {title}\nunfoldable pub {name} : List ℕ\nunfolding board_a\n{name} = {changed(data)}\n")
     title, data = moved
     held.update({name: data[place:end] for name, _, place, end in OWN})
     assert data == b"".join(held[name] for name in MOVED)
     page += [f"-- ---- {title}"] + [listed(name, own, held[name]) for name, own, _, _ in OWN]
-    page.append(joined("boardAMoved", MOVED))
+    page.append(joined("board_a_moved", MOVED))
     return "\n".join(page)

@@ -1,5 +1,5 @@
 /*
- * Yasmirand's entries for C (crates/reading/src/entries.rt). A slice of bytes is a pointer and a length.
+ * Yasmirand's entries for C (crates/reading_c, over crates/reading/src/entries.rt). A slice of bytes is a pointer and a length.
  *
  * All of them take captures of version 1 and of version 2, which tells how many inputs bridges have (README, "Two versions of the
  * capture"), and give the strict reading: a MADT of another revision than 1 is refused with 29 (README, "Newer tables").
