@@ -5,9 +5,9 @@ use Rattle.std.specs.Prelude.{ℕ, List, ◌≡◌}
 use contract.Lifetimes.{Lfts}
 use denote.Triple.Clauses.{Lasts, at_exit}
 use borrow.Fn.Kinds.{ParamKind, ResultKind, Out, Dens, res_t, ended_of}
-use Rattle.lines.proofs.Map.keeps_rules.Kinds as keeps_rules_lem
+use Rattle.lines.proofs.Map.keeps_rules.Kinds as keeps_rules
 use Rattle.lines.proofs.Map.keeps_rules.Reads as keeps-rules-reads
-use Rattle.lines.proofs.Map.first_broken.Kinds as first_broken_lem
+use Rattle.lines.proofs.Map.first_broken.Kinds as first_broken
 use Rattle.lines.proofs.Map.first_broken.Reads as first-broken-reads
 use Rattle.lines.proofs.Map.route.Kinds as route
 use Rattle.lines.proofs.Map.route.Reads as route-reads
@@ -17,7 +17,7 @@ use Rattle.lines.proofs.Map.route_each.Kinds as route_each
 use Rattle.lines.proofs.Map.route_each.Reads as route-each-reads
 use Rattle.lines.proofs.Map.owner.Kinds as owner
 use Rattle.lines.proofs.Map.owner.Reads as owner-reads
-use Rattle.lines.proofs.Map.arrival_of.Kinds as arrival_of_lem
+use Rattle.lines.proofs.Map.arrival_of.Kinds as arrival_of
 use Rattle.lines.proofs.Map.arrival_of.Reads as arrival-of-reads
 use Rattle.lines.proofs.Map.arrival.Kinds as arrival
 use Rattle.lines.proofs.Map.arrival.Reads as arrival-reads
@@ -62,10 +62,10 @@ pub record OneAnswer : Type 0 where
   pub route : Determined route.ps route.r route-reads.Post
   pub trace : Determined trace.ps trace.r trace-reads.Post
   pub route_each : Determined route_each.ps route_each.r route-each-reads.Post
-  pub keeps_rules_lem : Determined keeps_rules_lem.ps keeps_rules_lem.r keeps-rules-reads.Post
-  pub first_broken_lem : Determined first_broken_lem.ps first_broken_lem.r first-broken-reads.Post
+  pub keeps_rules : Determined keeps_rules.ps keeps_rules.r keeps-rules-reads.Post
+  pub first_broken : Determined first_broken.ps first_broken.r first-broken-reads.Post
   pub owner : Determined owner.ps owner.r owner-reads.Post
-  pub arrival_of_lem : Determined arrival_of_lem.ps arrival_of_lem.r arrival-of-reads.Post
+  pub arrival_of : Determined arrival_of.ps arrival_of.r arrival-of-reads.Post
   pub arrival : Determined arrival.ps arrival.r arrival-reads.Post
   pub traced : Determined traced.ps traced.r traced-reads.Post
   -- with its owner table
