@@ -1,6 +1,6 @@
 #!/usr/bin/env python3
 """Respells the repository's own definitions and lemmas as today's Rattle spells names. It was run once, right after
-/opt/rattle/port/port.py (docs/PORT.md), and is kept so that the step can be made again beside the commit from which it began.
+the kit's port.py (docs/PORT.md), and is kept so that the step can be made again beside the commit from which it began.
 
 usage: tools/respell.py            at the top of the repository
        tools/respell.py --list     prints what would be renamed, and changes nothing
