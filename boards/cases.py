@@ -15,7 +15,7 @@ from board import A, BASE, STRUCTURES_OF_A, bio, board, capture, core, cut, eio,
 from board import place_of_table, rebuilt, rsdp, structure, summed, table
 from printed import PRINTED, REAL
 
-# The kinds of question that crates/vectors/src/main.rt knows.
+# The kinds of question that crates/vectors/src/asked.rt knows.
 CHECK, RSDP, REACH, SURVEY, READ, ROUTE, TRACE, READ_BYTES, ROUTE_EACH, ROUTE_SINGLY, LOOKUP, BY_MAP, CHANGED = range(13)
 # The readings that it asks: surveys and readings are the ordinary one's if not said, routes and traces the strict one's, by the C entries.
 ORDINARY, STRICT = range(2)

@@ -18,10 +18,10 @@ use Rattle.capture.specs.Fields.{segment_count, descriptor, segment_address, seg
 use Rattle.capture.specs.Rules.{empty_segment, ends_past_memory, starts_early, end_before, segment_broken}
 use Rattle.capture.specs.Presence.{Present, goes_on, run_end, place_in, located}
 use Rattle.capture.specs.Memory.{Stands, OnePlace, BytesInOrder, Missing}
-use Rattle.words.specs.declared.Verdict.TheVariants as verdicts
 use Rattle.capture.proofs.Laws.{holds_start, holds_end, has_bounds, segments-first}
 use Rattle.capture.proofs.Runs.{ended, covered, not_touching}
 use Rattle.capture.proofs.Within.{Sound, sound_segments, located_held, held_place}
+use Rattle.std.specs.Prelude.{Ok, Err}
 
 -- byte k of a stretch stands k after its place
 pub bytes_in_order : (capture : List ℕ) → BytesInOrder capture
@@ -43,8 +43,8 @@ module _ (capture : List ℕ) (sound : Sound capture) where
   unbroken : (i : ℕ) → i < segment_count capture → segment_broken capture i ≡ false
   unfolding segments numbers_below
   unbroken i h =
-      search_none (segment_broken capture) (λ (k : ℕ). verdicts.Refused (refused 6 (descriptor capture k))) verdicts.Sound
-      verdicts.Sound
+      search_none (segment_broken capture) (λ (k : ℕ). Err (refused 6 (descriptor capture k))) (Ok tt)
+      (Ok tt)
       0
       (segment_count capture)
       i

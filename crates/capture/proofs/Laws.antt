@@ -18,10 +18,10 @@ use Rattle.capture.specs.Reach.{reach_in, nowhere, reached}
 use Rattle.words.specs.Bytes.{AllBytes}
 use Rattle.words.specs.Lists.{first}
 use Rattle.words.specs.Refusals.{refused, first_refusal}
-use Rattle.words.specs.declared.Verdict.TheVariants.{Sound, Refused}
 use Rattle.words.proofs.Choices.{yes_if, no_if, if_cases}
 use Rattle.words.proofs.Numbers.{number_small}
 use Rattle.words.proofs.Verdicts.{first_in_turn}
+use Rattle.std.specs.Prelude.{Ok, Err}
 
 -- a header has 18 bytes, or 26
 pub header_bounds : (version : ℕ) → (18 ≤ header_size version) × (header_size version ≤ 26)
@@ -134,6 +134,6 @@ place_behind capture address i = omega (arith, (header_bounds (version capture))
 
 -- 6, as a search for the first broken segment
 pub segments-first : (capture : List ℕ)
-    → first_refusal (segment_rules capture) ≡ first (segment_broken capture) (λ i. Refused (refused 6 (descriptor capture i))) Sound (segments capture)
+    → first_refusal (segment_rules capture) ≡ first (segment_broken capture) (λ i. Err (refused 6 (descriptor capture i))) (Ok tt) (segments capture)
 unfolding segment_rules
 segments-first capture = first_in_turn (segment_broken capture) 6 (descriptor capture) (segments capture)

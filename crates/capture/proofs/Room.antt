@@ -17,12 +17,12 @@ use Rattle.capture.specs.Presence.{Stretch, Present, Absent, run_end, holds, pla
 use Rattle.capture.specs.Reach.{reach_in, nowhere, reached}
 use Rattle.capture.specs.Memory.{Stands, Missing}
 use Rattle.capture.specs.declared.Reach.{Reach}
-use Rattle.capture.specs.declared.Root.{Root}
-use Rattle.capture.specs.declared.Root.TheVariants as roots
 use Rattle.capture.proofs.Laws.{holds_start, holds_end, has_bounds, reached_whole, place_behind}
 use Rattle.capture.proofs.Runs.{run_reaches, covered}
 use Rattle.capture.proofs.Within.{Sound, sound_length, located_held, within_small}
 use Rattle.capture.proofs.Apart.{one_segment, first_byte, one_byte, run_missing}
+use Rattle.std.specs.Prelude.{Result, Ok, Err}
+use Rattle.words.specs.declared.Refusal.{Refusal}
 
 module _ (capture : List ℕ) (sound : Sound capture) (address : ℕ) where
   -- the descriptors of a sound capture lie inside it, so that its segments are searched
@@ -153,14 +153,14 @@ module _ (capture : List ℕ) (sound : Sound capture) {reach : Reach} (h : reach
   rsdp_there : rsdp_size ≤ reach.room → located capture (rsdp_address capture) rsdp_size ≡ Present reach.place
   rsdp_there fits = rw h (room_present capture sound (rsdp_address capture) rsdp_size (omega arith) (rw h at fits))
 
-  abbrev answer : Root
-  answer = unless roots.Refused (first_refusal (presence_rules capture)) (roots.At (rsdp_place capture))
+  abbrev answer : Result ℕ Refusal
+  answer = unless Err (first_refusal (presence_rules capture)) (Ok (rsdp_place capture))
 
-  pub rsdp_present : rsdp_size ≤ reach.room → answer ≡ roots.At reach.place
+  pub rsdp_present : rsdp_size ≤ reach.room → answer ≡ Ok reach.place
   unfolding presence_rules rsdp_place rsdp_stretch is_present place_of first_refusal unless if
   rsdp_present fits = rw (rsdp_there fits)
 
-  pub rsdp_absent : reach.room < rsdp_size → answer ≡ roots.Refused (refused 10 10)
+  pub rsdp_absent : reach.room < rsdp_size → answer ≡ Err (refused 10 10)
   unfolding presence_rules rsdp_stretch is_present first_refusal unless if
   rsdp_absent short = rw (room_absent capture sound (rsdp_address capture) rsdp_size (rw h at short))
 

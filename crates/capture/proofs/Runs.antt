@@ -2,22 +2,20 @@
 -- segment of it, at the place that the run's first segment tells, and all of it lies among the segments' bytes.
 use mathlib.Core.Bool.{Bool, true, false, true≢false}
 use mathlib.Core.List.{List}
-use mathlib.Core.Path.{◌≡◌, refl, sym, ◌∙◌}
+use mathlib.Core.Path.{◌≡◌, refl, ap, sym, ◌∙◌}
 use Prim.Native.Nat.{ℕ, zero, suc, ◌+◌, ◌-◌, ◌≤◌, ◌<◌}
 use native.Mathlib.Numerals.{add-one}
 use native.Mathlib.Omega.{arith}
+use Rattle.std.proofs.Common.{add-zero}
 use lib.Dec.{eqb, ltb}
-use lib.ListN.{length}
 use borrow.Author.Tests.{ltb-true, ltb-false, lt-ltb, eqb-true, eq-eqb, le-leb}
-use Rattle.words.specs.Bytes.{part_at}
 use Rattle.words.specs.Choice.{if}
 use Rattle.words.specs.Lists.{first}
 use Rattle.words.proofs.Searches.{next_number}
 use Rattle.words.proofs.Tests.{fails, both_left, both_right}
-use Rattle.capture.specs.Fields.{segment_count, descriptor, descriptors_end, segment_address, segment_length, segment_end, has_address, lengths}
+use Rattle.capture.specs.Fields.{segment_count, segment_address, segment_length, segment_end, has_address, lengths}
 use Rattle.capture.specs.Presence.{goes_on, run_end, place_in}
 use Rattle.capture.proofs.Laws.{lengths_next, lengths_within, place_next}
-use Rattle.capture.proofs.Head.{next_descriptor, same_count, same_address, same_length}
 
 module _ (capture : List ℕ) where
   -- behind a segment that goes on there is one, which starts at its end
@@ -128,62 +126,46 @@ module _ (capture : List ℕ) where
             run = c.run ∙ sym (run_next i h);
           }
 
-  -- going along a run from an address of segment i: `sum` bytes reach to the end of its segment `last`, and the next one's descriptor
-  -- stands at `at`
-  pub record Along (address i sum at : ℕ) : Type 0 where
-    pub last : ℕ
-    pub next : at ≡ descriptor capture (last + 1)
-    pub counted : last < segment_count capture
-    pub here : address + sum ≡ segment_end capture last
-    pub same : run_end capture last ≡ run_end capture i
+  -- going along a run from an address of segment i: over k segments behind it, `sum` bytes reach to the end of the last of them
+  pub record Along (address i sum k : ℕ) : Type 0 where
+    pub counted : i + k < segment_count capture
+    pub here : address + sum ≡ segment_end capture (i + k)
+    pub same : run_end capture (i + k) ≡ run_end capture i
 
-  module _ {address i sum at : ℕ} (a : Along address i sum at) where
-    -- the next segment starts there: the run goes on
-    pub along_on : a.last + 1 < segment_count capture → eqb (segment_address capture (a.last + 1)) (address + sum) ≡ true
-        → Along address i (sum + segment_length capture (a.last + 1)) (at + 12)
+  pub along_start : {address i sum : ℕ} → i < segment_count capture → address + sum ≡ segment_end capture i → Along address i sum 0
+  along_start {address} {i} counted here =
+      record { counted = omega arith; here = here ∙ ap (segment_end capture) (sym (add-zero i)); same = ap (run_end capture) (add-zero i) }
+
+  module _ {address i sum k : ℕ} (a : Along address i sum k) where
+    -- the next segment
+    next : i + 1 + k ≡ i + k + 1
+    next = omega arith
+
+    -- it starts there: the run goes on
+    pub along_on : i + 1 + k < segment_count capture → eqb (segment_address capture (i + 1 + k)) (address + sum) ≡ true
+        → Along address i (sum + segment_length capture (i + 1 + k)) (k + 1)
     unfolding goes_on
     along_on more h =
-        let starts : segment_address capture (a.last + 1) ≡ address + sum = eqb-true _ _ h in
-        let on : goes_on capture a.last ≡ true =
-        rw (lt-ltb (a.last + 1) (segment_count capture) more, eq-eqb (segment_address capture (a.last + 1)) (segment_end capture a.last) (starts ∙ a.here))
+        let more : i + k + 1 < segment_count capture = omega arith in
+        let starts : segment_address capture (i + k + 1) ≡ address + sum = eqb-true _ _ (rw next at h) in
+        let on : goes_on capture (i + k) ≡ true =
+        rw (lt-ltb (i + k + 1) (segment_count capture) more, eq-eqb (segment_address capture (i + k + 1)) (segment_end capture (i + k)) (starts ∙ a.here))
         in
-        record {
-          last = a.last + 1;
-          next = next_descriptor capture (a.last + 1) a.next;
-          counted = more;
-          here = omega (arith, a.here);
-          same = sym (run_next a.last on) ∙ a.same;
-        }
+        let last : i + (k + 1) ≡ i + k + 1 = omega arith in
+        rw next
+        (record {
+          counted = omega arith;
+          here = rw last (omega (arith, a.here, starts));
+          same = rw last (sym (run_next (i + k) on) ∙ a.same);
+        })
 
-    ends : goes_on capture a.last ≡ false → sum ≡ run_end capture i - address
-    ends over = omega (arith, a.here, a.same, run_last a.last a.counted over)
+    ends : goes_on capture (i + k) ≡ false → sum ≡ run_end capture i - address
+    ends over = omega (arith, a.here, a.same, run_last (i + k) a.counted over)
 
     -- it does not, or there is none: the run ends
-    pub along_gap : eqb (segment_address capture (a.last + 1)) (address + sum) ≡ false → sum ≡ run_end capture i - address
-    along_gap h = ends (fails (goes_on capture a.last) (λ on. true≢false (sym (eq-eqb _ _ (next_touches a.last on ∙ sym a.here)) ∙ h)))
+    pub along_gap : eqb (segment_address capture (i + 1 + k)) (address + sum) ≡ false → sum ≡ run_end capture i - address
+    along_gap h =
+        ends (fails (goes_on capture (i + k)) (λ on. true≢false (sym (eq-eqb _ _ (next_touches (i + k) on ∙ sym a.here)) ∙ (rw next at h))))
 
-    pub along_end : segment_count capture ≤ a.last + 1 → sum ≡ run_end capture i - address
-    along_end out = ends (fails (goes_on capture a.last) (λ on. omega (arith, next_counted a.last on)))
-
--- a capture's head has its runs
-module _ (capture : List ℕ) {head : List ℕ} (whole : descriptors_end capture ≤ length capture) (is : head ≡ part_at capture 0 (descriptors_end capture)) where
-  pub same_segment_end : (i : ℕ) → i < segment_count capture → segment_end head i ≡ segment_end capture i
-  same_segment_end i counted = omega (arith, same_address capture whole is i counted, same_length capture whole is i counted)
-
-  same_goes_on : (i : ℕ) → i < segment_count capture → goes_on head i ≡ goes_on capture i
-  unfolding goes_on
-  same_goes_on i counted = go (ltb (i + 1) (segment_count capture)) refl
-    where
-      go : (more : Bool) → ltb (i + 1) (segment_count capture) ≡ more → goes_on head i ≡ goes_on capture i
-      go true more =
-          rw (same_count capture whole is, same_address capture whole is (i + 1) (ltb-true _ _ more), same_segment_end i counted)
-      go false more = rw (same_count capture whole is, more)
-
-  pub same_run : (i : ℕ) → i < segment_count capture → run_end head i ≡ run_end capture i
-  same_run =
-      along capture (λ (i : ℕ). run_end head i ≡ run_end capture i)
-      (λ i counted over.
-      run_last head i (omega (arith, same_count capture whole is)) (same_goes_on i counted ∙ over)
-      ∙ same_segment_end i counted
-      ∙ sym (run_last capture i counted over))
-      (λ i on later. run_next head i (same_goes_on i (omega (arith, next_counted capture i on)) ∙ on) ∙ later ∙ sym (run_next capture i on))
+    pub along_end : segment_count capture ≤ i + 1 + k → sum ≡ run_end capture i - address
+    along_end out = ends (fails (goes_on capture (i + k)) (λ on. omega (arith, next_counted (i + k) on)))

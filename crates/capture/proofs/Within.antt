@@ -8,24 +8,22 @@ use lib.Dec.{eqb, ltb}
 use lib.ListN.{length}
 use borrow.Author.Tests.{eqb-true, ltb-false, not-false}
 use Rattle.words.specs.Lists.{numbers_below}
-use Rattle.words.specs.Refusals.{first_refusal}
+use Rattle.words.specs.Refusals.{Verdict, unless, first_refusal}
 use Rattle.words.proofs.Searches.{Hit, search_found}
 use Rattle.words.proofs.Tests.{neither_right}
-use Rattle.words.proofs.Verdicts.{unless_sound, unless-told, first_sound, joined_kept}
+use Rattle.words.proofs.Verdicts.{unless_sound, unless-told, first_sound, joined_kept, joined-refused, joined_sound}
 use Rattle.capture.specs.Fields.{version, header_size, segment_count, total_length, rsdp_address, descriptors_end, lengths, segment_place, segments}
 use Rattle.capture.specs.Rules.{wrong_size, wrong_total, segment_rules, container_rules, verdict}
 use Rattle.capture.specs.Pairs.{pair_rules}
 use Rattle.capture.specs.Presence.{Stretch, Present, Absent, is_present, place_of, holds, place_in, located, rsdp_size, rsdp_stretch, presence_rules, rsdp_place, rsdp}
-use Rattle.words.specs.declared.Verdict.{Verdict}
-use Rattle.words.specs.declared.Verdict.TheVariants as verdicts
-use Rattle.capture.specs.declared.Root.{Root}
-use Rattle.capture.specs.declared.Root.TheVariants as roots
 use Rattle.capture.proofs.Laws.{holds_start, holds_end, place_behind}
 use Rattle.capture.proofs.Runs.{run_fits}
+use Rattle.std.specs.Prelude.{Result, Ok, Err}
+use Rattle.words.specs.declared.Refusal.{Refusal}
 
 -- a capture that no rule refuses
 abbrev pub Sound : List ℕ → Type 0
-Sound capture = verdict capture ≡ verdicts.Sound
+Sound capture = verdict capture ≡ Ok tt
 
 -- no rule of its list is broken
 sound_size : (capture : List ℕ) → Sound capture → wrong_size capture ≡ false
@@ -34,15 +32,15 @@ sound_size capture h = (first_sound _ 1 0 _ h).0
 
 -- what 5 says, and the segments and the pairs
 sound_rest : (capture : List ℕ) → Sound capture
-    → (wrong_total capture ≡ false) × (first_refusal (segment_rules capture ++ pair_rules capture) ≡ verdicts.Sound)
+    → (wrong_total capture ≡ false) × (first_refusal (segment_rules capture ++ pair_rules capture) ≡ Ok tt)
 unfolding verdict container_rules
 sound_rest capture h =
     first_sound _ 5 0 _ (first_sound _ 4 0 _ (first_sound _ 3 0 _ (first_sound _ 2 0 _ (first_sound _ 1 0 _ h).1).1).1).1
 
-pub sound_segments : (capture : List ℕ) → Sound capture → first_refusal (segment_rules capture) ≡ verdicts.Sound
+pub sound_segments : (capture : List ℕ) → Sound capture → first_refusal (segment_rules capture) ≡ Ok tt
 sound_segments capture h = (joined_kept (segment_rules capture) (pair_rules capture) (sound_rest capture h).1).0
 
-pub sound_pairs : (capture : List ℕ) → Sound capture → first_refusal (pair_rules capture) ≡ verdicts.Sound
+pub sound_pairs : (capture : List ℕ) → Sound capture → first_refusal (pair_rules capture) ≡ Ok tt
 sound_pairs capture h = (joined_kept (segment_rules capture) (pair_rules capture) (sound_rest capture h).1).1
 
 -- a sound capture has at most 65,536 bytes
@@ -113,35 +111,41 @@ unfolding is_present place_of
 present_at (Present place) h = refl
 present_at Absent h = absurd (true≢false (sym h))
 
-pub rsdp_there : (capture : List ℕ) → first_refusal (presence_rules capture) ≡ verdicts.Sound
+pub rsdp_there : (capture : List ℕ) → first_refusal (presence_rules capture) ≡ Ok tt
     → located capture (rsdp_address capture) rsdp_size ≡ Present (rsdp_place capture)
 unfolding presence_rules rsdp_place rsdp_stretch
 rsdp_there capture h = present_at (located capture (rsdp_address capture) rsdp_size) (not-false _ (first_sound _ 10 10 _ h).0)
 
 -- what the answer for the RSDP tells of the rules before it, and of the place
-abbrev said : Root → Verdict
-said (roots.At place) = verdicts.Sound
-said (roots.Refused refusal) = verdicts.Refused refusal
+abbrev said : Result ℕ Refusal → Verdict
+said (Ok place) = Ok tt
+said (Err refusal) = Err refusal
 
-pub root_told : (capture : List ℕ) {root : Root} → rsdp capture ≡ root → first_refusal (container_rules capture ++ presence_rules capture) ≡ said root
+pub root_told : (capture : List ℕ) {root : Result ℕ Refusal} → rsdp capture ≡ root → first_refusal (container_rules capture ++ presence_rules capture) ≡ said root
 unfolding rsdp
-root_told capture h = sym (unless-told roots.Refused said (λ r. refl) _ _ refl) ∙ ap said h
+root_told capture h = sym (unless-told Err said (λ r. refl) _ _ refl) ∙ ap said h
 
-rsdp_kept : (capture : List ℕ) (place : ℕ) → rsdp capture ≡ roots.At place → Sound capture × (first_refusal (presence_rules capture) ≡ verdicts.Sound)
+rsdp_kept : (capture : List ℕ) (place : ℕ) → rsdp capture ≡ Ok place → Sound capture × (first_refusal (presence_rules capture) ≡ Ok tt)
 unfolding verdict
 rsdp_kept capture place h = joined_kept (container_rules capture) (presence_rules capture) (root_told capture h)
 
-pub rsdp_of_sound : (capture : List ℕ) (place : ℕ) → rsdp capture ≡ roots.At place → Sound capture
-rsdp_of_sound capture place h = (rsdp_kept capture place h).0
+-- the answer for the RSDP, by the verdict on the capture
+pub rsdp-refused : (capture : List ℕ) {refusal : Refusal} → verdict capture ≡ Err refusal → rsdp capture ≡ Err refusal
+unfolding verdict rsdp
+rsdp-refused capture h = joined-refused Err (container_rules capture) (presence_rules capture) _ h
 
-pub rsdp-at : (capture : List ℕ) (place : ℕ) → rsdp capture ≡ roots.At place → rsdp_place capture ≡ place
+pub rsdp-sound : (capture : List ℕ) → Sound capture → rsdp capture ≡ unless Err (first_refusal (presence_rules capture)) (Ok (rsdp_place capture))
+unfolding verdict rsdp
+rsdp-sound capture h = joined_sound Err (container_rules capture) (presence_rules capture) _ h
+
+pub rsdp-at : (capture : List ℕ) (place : ℕ) → rsdp capture ≡ Ok place → rsdp_place capture ≡ place
 unfolding rsdp
 rsdp-at capture place h =
-    let at : roots.At (rsdp_place capture) ≡ roots.At place = sym (unless_sound roots.Refused _ _ (root_told capture h)) ∙ h in
+    let at : Ok (rsdp_place capture) ≡ Ok place = sym (unless_sound Err _ _ (root_told capture h)) ∙ h in
     cc
 
 -- where the RSDP was found, its bytes are all there
-pub rsdp_within : (capture : List ℕ) (place : ℕ) → rsdp capture ≡ roots.At place → place + rsdp_size ≤ length capture
+pub rsdp_within : (capture : List ℕ) (place : ℕ) → rsdp capture ≡ Ok place → place + rsdp_size ≤ length capture
 rsdp_within capture place h =
     let kept = rsdp_kept capture place h in
     rw (← rsdp-at capture place h) (within capture (rsdp_address capture) rsdp_size (rsdp_place capture) kept.0 (rsdp_there capture kept.1))

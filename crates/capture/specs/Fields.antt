@@ -1,6 +1,6 @@
 -- Document 01, "The capture", and W-212 of document 02: what stands where.
-use Rattle.std.specs.Prelude.{ℕ, zero, suc, ◌+◌, ◌*◌, Bool, ◌&&◌, List, eqb, ltb, leb}
-use Rattle.words.specs.Bytes.{byte_at, number_at}
+use Rattle.std.specs.Prelude.{ℕ, zero, suc, ◌+◌, ◌*◌, Bool, ◌&&◌, List, map, eqb, ltb, leb}
+use Rattle.words.specs.Bytes.{byte_at, number_at, part_at}
 use Rattle.words.specs.Choice.{if}
 use Rattle.words.specs.Lists.{numbers_below}
 
@@ -31,6 +31,10 @@ descriptor capture i = header_size (version capture) + 12 * i
 -- "18 + 12n", or "26 + 12n": where the descriptors end
 unfoldable pub descriptors_end : List ℕ → ℕ
 descriptors_end capture = descriptor capture (segment_count capture)
+
+-- the descriptors, in their order
+unfoldable pub descriptors : List ℕ → List (List ℕ)
+descriptors capture = map (λ i. part_at capture (descriptor capture i) 12) (numbers_below (segment_count capture))
 
 -- a descriptor's "address 64 bits"
 unfoldable pub segment_address : List ℕ → ℕ → ℕ

@@ -1,11 +1,11 @@
 -- W-212 of document 02: how many inputs bridges have. "Capture version 2 carries it: four pairs of bytes at 18 (hardware ID, number
 -- of inputs 1 to 64; a pair with number 0 is empty and its ID is free)". And refusal 7.
-use Rattle.std.specs.Prelude.{ℕ, ◌+◌, ◌*◌, Bool, not, ◌&&◌, ◌||◌, List, map, eqb, ltb, take, get_or}
+use Rattle.std.specs.Prelude.{ℕ, ◌+◌, ◌*◌, Bool, not, ◌&&◌, ◌||◌, List, map, find, Option, eqb, ltb, take, get_or}
+use Rattle.std.specs.Option.{option_map, is_some, unwrap_or}
 use Rattle.words.specs.Bytes.{byte_at}
 use Rattle.words.specs.Choice.{if}
-use Rattle.words.specs.Lists.{first, numbers_below}
-use Rattle.words.specs.Refusals.{rule}
-use Rattle.words.specs.declared.Verdict.{Verdict}
+use Rattle.words.specs.Lists.{numbers_below}
+use Rattle.words.specs.Refusals.{Verdict, rule}
 use Rattle.capture.specs.Fields.{version}
 use Rattle.capture.specs.declared.pairs.Pair.{Pair}
 
@@ -31,19 +31,19 @@ pairs_of capture = map (λ k. if (eqb (version capture) 2) (pair_at capture k) n
 unfoldable pub tells_of : ℕ → Pair → Bool
 tells_of id pair = not (eqb pair.pins 0) && eqb pair.id id
 
--- the number of the first pair that does; 0 where none does
-unfoldable pub told_of : ℕ → List Pair → ℕ
-told_of id pairs = first (tells_of id) (λ pair. pair.pins) 0 pairs
+-- the number of the first pair that does, if one does
+abbrev pub told_of : ℕ → List Pair → Option ℕ
+told_of id pairs = option_map (λ pair. pair.pins) (find (tells_of id) pairs)
 
 -- "A BIO without a pair, or of a version 1 capture, has 64."
 unfoldable pub pins_of : List Pair → ℕ → ℕ
-pins_of pairs id = if (eqb (told_of id pairs) 0) 64 (told_of id pairs)
+pins_of pairs id = unwrap_or (told_of id pairs) 64
 
 -- ---- 7: "at the pair for a number over 64 or an ID given twice in pairs that are not empty"
 unfoldable pub pair_broken : List Pair → ℕ → Bool
 pair_broken pairs k =
     let pair = get_or pairs k no_pair in
-    ltb 64 pair.pins || (not (eqb pair.pins 0) && not (eqb (told_of pair.id (take k pairs)) 0))
+    ltb 64 pair.pins || (not (eqb pair.pins 0) && is_some (told_of pair.id (take k pairs)))
 
 -- the pairs in turn
 unfoldable pub pair_rules : List ℕ → List Verdict

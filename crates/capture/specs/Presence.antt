@@ -1,13 +1,11 @@
 -- Document 01, "The capture", as W-206 of document 02 changed it: where a stretch of memory stands in the capture; and refusal 10, the
 -- RSDP's presence. What presence means byte by byte is said, and proved of these definitions, in Memory.
-use Rattle.std.specs.Prelude.{ℕ, ◌+◌, ◌-◌, Bool, true, false, not, ◌&&◌, List, [], ◌∷◌, ◌++◌, eqb, ltb, leb}
+use Rattle.std.specs.Prelude.{ℕ, ◌+◌, ◌-◌, Bool, true, false, not, ◌&&◌, List, [], ◌∷◌, ◌++◌, eqb, ltb, leb, Result, Ok, Err}
 use Rattle.words.specs.Lists.{first, numbers_from}
-use Rattle.words.specs.Refusals.{rule, unless, first_refusal}
+use Rattle.words.specs.Refusals.{Verdict, rule, unless, first_refusal}
 use Rattle.capture.specs.Fields.{segment_count, rsdp_address, segment_address, segment_end, segment_place, segments}
 use Rattle.capture.specs.Rules.{container_rules}
-use Rattle.words.specs.declared.Verdict.{Verdict}
-use Rattle.capture.specs.declared.Root.{Root}
-use Rattle.capture.specs.declared.Root.TheVariants.{At, Refused}
+use Rattle.words.specs.declared.Refusal.{Refusal}
 
 -- a stretch of memory: present at a place of the capture, or absent
 pub data Stretch : Type 0 where
@@ -59,5 +57,5 @@ unfoldable pub presence_rules : List ℕ → List Verdict
 presence_rules capture = rule (not (is_present (rsdp_stretch capture))) 10 10 ∷ []
 
 -- the order: refusals 1 to 7, then 10; or the RSDP's place
-unfoldable pub rsdp : List ℕ → Root
-rsdp capture = unless Refused (first_refusal (container_rules capture ++ presence_rules capture)) (At (rsdp_place capture))
+unfoldable pub rsdp : List ℕ → Result ℕ Refusal
+rsdp capture = unless Err (first_refusal (container_rules capture ++ presence_rules capture)) (Ok (rsdp_place capture))

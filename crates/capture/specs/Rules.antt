@@ -3,10 +3,9 @@
 use Rattle.std.specs.Prelude.{ℕ, zero, suc, ◌+◌, ◌^◌, Bool, not, ◌&&◌, ◌||◌, List, ◌∷◌, ◌++◌, map, eqb, ltb, length}
 use Prim.Native.Char.{code}
 use Rattle.words.specs.Bytes.{byte_at}
-use Rattle.words.specs.Refusals.{rule, first_refusal}
+use Rattle.words.specs.Refusals.{Verdict, rule, first_refusal}
 use Rattle.capture.specs.Fields.{version, segment_count, total_length, header_size, descriptor, descriptors_end, segment_address, segment_length, segment_end, segments, lengths}
 use Rattle.capture.specs.Pairs.{pair_rules}
-use Rattle.words.specs.declared.Verdict.{Verdict}
 
 -- 1: "capture under 18 or over 65,536 bytes"; "under 26 bytes in version 2"
 unfoldable pub wrong_size : List ℕ → Bool

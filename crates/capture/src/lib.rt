@@ -2,31 +2,32 @@
 // and whether the RSDP is there (refusal 10). Every public function answers for any bytes.
 #![tactic(auto)]
 
-ghost use Rattle.std.specs.Prelude.{◌≡◌, ◌&&◌, ◌||◌, ℕ, ◌+◌, ◌-◌, ◌^◌, ◌≤◌, ◌<◌, eqb, ltb, leb, length, ◌++◌};
-ghost use Rattle.words.specs.Bytes.{number_at, part_at};
-ghost use Rattle.capture.specs.Fields.{version, segment_count, rsdp_address, header_size, descriptor, descriptors_end, segment_end, lengths};
+ghost use Rattle.std.specs.Prelude.{◌≡◌, ◌&&◌, ◌||◌, ℕ, ◌+◌, ◌-◌, ◌^◌, ◌≤◌, ◌<◌, eqb, ltb, leb, List, length, drop, ◌++◌, Err, Ok};
+ghost use Rattle.words.specs.Bytes.{number_at};
+ghost use Rattle.capture.specs.Fields.{version, segment_count, rsdp_address, header_size, descriptor, descriptors_end, descriptors, segment_end, lengths};
 ghost use Rattle.capture.specs.Rules.{wrong_size, wrong_mark, wrong_version, wrong_count, wrong_total, segment_rules, verdict};
 ghost use Rattle.capture.specs.Pairs.{pair_rules};
 ghost use Rattle.capture.specs.Presence.{run_end, presence_rules, rsdp_place, rsdp};
 ghost use Rattle.capture.specs.Reach.{reached};
 ghost use Rattle.words.specs.Refusals.{unless, first_refusal};
 
-use words::{Refusal, Verdict};
+use words::Refusal;
 
 pub mod pairs; // how many inputs bridges have, and refusal 7
 
-// The place of an address, and how many bytes there are from there on, as far as segments touch.
+// The place of an address, and how many bytes there are from there on, as far as segments touch. No Option: where nothing is there is
+// no room, so that "room < size" asks of every answer alike whether a stretch is absent.
 #[derive(Clone, Copy)]
 pub struct Reach {
     pub place: usize,
     pub room: u64,
 }
 
-// The place of the RSDP of a sound capture, which has at most 65,536 bytes: 16 bits hold it.
+// A sound capture: no rule of 1 to 7 refuses it. It has at most 65,536 bytes, so that 16 bits hold each place in it.
 #[derive(Clone, Copy)]
-pub enum Root {
-    At(u16),
-    Refused(Refusal),
+pub struct Sound<'a> {
+    pub bytes: &'a [u8],
+    pub ghost kept: { verdict bytes.now ≡ Ok tt },
 }
 
 // A segment, by its descriptor.
@@ -60,8 +61,6 @@ const DESCRIPTOR_LENGTH: usize = 8;
 const MOST_SEGMENTS: u8 = 16;
 
 const MOST_BYTES: usize = 65536;
-
-const LAST_ADDRESS: u64 = 18446744073709551615;
 
 const RSDP_SIZE: u64 = 36;
 
@@ -103,22 +102,26 @@ fn descriptors_end(capture: &[u8]) -> usize
     descriptors_start(capture) + DESCRIPTOR_SIZE * (segment_count(capture) as usize)
 }
 
-// Header and descriptors, or as much of them as there is. Loops over the descriptors read them here: that each lies inside is then
-// plain from the loop's own test, and the compiler does not ask it at each read.
-fn head_of(capture: &[u8]) -> &[u8]
-    ensures { let c = capture.now in result.now ≡ part_at c 0 (descriptors_end c) }
+// The descriptors, in their order. The type says that each has 12 bytes: the compiler then does not ask at each read of a number
+// whether it lies inside. That all of them are there is asked of callers, here and in the three functions below that read them, and no
+// type says it as `Sound` does: what bounds the sums, that each byte is below 256, a proof knows of a parameter and not of a field.
+fn descriptors_of(capture: &[u8]) -> &[[u8; DESCRIPTOR_SIZE]]
+    requires { descriptors_end capture.now ≤ length capture.now }
+    ensures { result.now ≡ descriptors capture.now }
 {
-    words::part(capture, 0, descriptors_end(capture))
+    let size = DESCRIPTOR_SIZE * (segment_count(capture) as usize);
+    words::part(capture, descriptors_start(capture), size)
+        .as_chunks()
+        .0
 }
 
-// The segment whose descriptor stands at a place of the head.
-fn segment_at(head: &[u8], at: usize) -> Segment
-    requires { at + 12 ≤ length head.now }
-    ensures { let h = head.now in (result.address ≡ number_at 8 h at) × (result.length ≡ number_at 4 h (at + 8)) }
+// The segment that a descriptor tells of.
+fn segment_of(descriptor: &[u8; DESCRIPTOR_SIZE]) -> Segment
+    ensures { let d = descriptor.now in (result.address ≡ number_at 8 d 0) × (result.length ≡ number_at 4 d 8) }
 {
     Segment {
-        address: words::u64_at(head, at),
-        length: words::u32_at(head, at + DESCRIPTOR_LENGTH),
+        address: words::u64_at(descriptor, 0),
+        length: words::u32_at(descriptor, DESCRIPTOR_LENGTH),
     }
 }
 
@@ -127,12 +130,9 @@ fn lengths_of(capture: &[u8]) -> u64
     requires { descriptors_end capture.now ≤ length capture.now }
     ensures { let c = capture.now in result ≡ lengths c (segment_count c) }
 {
-    let head = head_of(capture);
     let mut sum: u64 = 0;
-    let mut at = descriptors_start(capture);
-    while at + DESCRIPTOR_SIZE <= head.len() {
-        sum += segment_at(head, at).length as u64;
-        at += DESCRIPTOR_SIZE;
+    for descriptor in descriptors_of(capture) {
+        sum += segment_of(descriptor).length as u64;
     }
     sum
 }
@@ -186,20 +186,18 @@ fn wrong_total(capture: &[u8]) -> bool
 fn past_memory(address: u64, length: u32) -> bool
     ensures { result ≡ ltb (2 ^ 64) (address + length) }
 {
-    if length == 0 {
-        return false;
-    }
-    LAST_ADDRESS - address < (length as u64) - 1
+    length
+        .checked_sub(1)
+        .is_some_and(|last| address.checked_add(last as u64).is_none())
 }
 
 // Whether an address lies before the end of a stretch.
 fn before_end(address: u64, start: u64, length: u32) -> bool
     ensures { result ≡ ltb address (start + length) }
 {
-    if address < start {
-        return true;
-    }
-    address - start < length as u64
+    address
+        .checked_sub(start)
+        .is_none_or(|ahead| ahead < length as u64)
 }
 
 // Refusal 6, for one segment and the one before it.
@@ -213,57 +211,44 @@ fn segment_broken(segment: Segment, before: Segment) -> bool
 }
 
 // Refusal 6, segment by segment, where 5 is kept. Nothing ends before the first: one of no bytes at 0 stands in for it.
-fn check_segments(capture: &[u8]) -> Verdict
+fn check_segments(capture: &[u8]) -> Result<(), Refusal>
     requires { descriptors_end capture.now ≤ length capture.now }
     ensures { result ≡ first_refusal (segment_rules capture.now) }
 {
-    let head = head_of(capture);
     let mut before = Segment {
         address: 0,
         length: 0,
     };
-    let mut at = descriptors_start(capture);
-    while at + DESCRIPTOR_SIZE <= head.len() {
-        let segment = segment_at(head, at);
+    for (i, descriptor) in descriptors_of(capture).iter().enumerate() {
+        let segment = segment_of(descriptor);
         if segment_broken(segment, before) {
-            return Verdict::Refused(words::refuse(6, at as u32));
+            let place = descriptors_start(capture) + DESCRIPTOR_SIZE * i;
+            return Err(words::refuse(6, place as u32));
         }
         before = segment;
-        at += DESCRIPTOR_SIZE;
     }
-    Verdict::Sound
+    Ok(())
 }
 
 // Refusals 6 and 7, where 5 is kept: all segments, then all pairs.
-fn check_parts(capture: &[u8]) -> Verdict
+fn check_parts(capture: &[u8]) -> Result<(), Refusal>
     requires { descriptors_end capture.now ≤ length capture.now }
     ensures { let c = capture.now in result ≡ first_refusal (segment_rules c ++ pair_rules c) }
 {
-    match check_segments(capture) {
-        Verdict::Refused(refusal) => Verdict::Refused(refusal),
-        Verdict::Sound => pairs::check(capture),
-    }
+    check_segments(capture)?;
+    pairs::check(capture)
 }
 
 // Refusals 1 to 7: whether the capture is sound, or which rule it breaks first.
-pub fn check(capture: &[u8]) -> Verdict
+#[tactic(auto, unfolding(crate::specs::Rules::verdict, crate::specs::Rules::container_rules, words::specs::Refusals::unless, words::specs::Refusals::first_refusal))]
+pub fn check(capture: &[u8]) -> Result<(), Refusal>
     ensures { result ≡ verdict capture.now }
 {
-    if wrong_size(capture) {
-        return Verdict::Refused(words::refuse(1, 0));
-    }
-    if wrong_mark(capture) {
-        return Verdict::Refused(words::refuse(2, 0));
-    }
-    if wrong_version(capture) {
-        return Verdict::Refused(words::refuse(3, 0));
-    }
-    if wrong_count(capture) {
-        return Verdict::Refused(words::refuse(4, 0));
-    }
-    if wrong_total(capture) {
-        return Verdict::Refused(words::refuse(5, 0));
-    }
+    words::rule(wrong_size(capture), 1, 0)?;
+    words::rule(wrong_mark(capture), 2, 0)?;
+    words::rule(wrong_version(capture), 3, 0)?;
+    words::rule(wrong_count(capture), 4, 0)?;
+    words::rule(wrong_total(capture), 5, 0)?;
     check_parts(capture)
 }
 
@@ -271,7 +256,9 @@ pub fn check(capture: &[u8]) -> Verdict
 fn has_address(segment: Segment, address: u64) -> bool
     ensures { result ≡ (leb segment.address address && ltb address (segment.address + segment.length)) }
 {
-    (segment.address <= address) & before_end(address, segment.address, segment.length)
+    address
+        .checked_sub(segment.address)
+        .is_some_and(|ahead| ahead < segment.length as u64)
 }
 
 // Whether a segment starts exactly at the end of the one before it, `room` bytes behind an address. The end may be 2^64, where
@@ -279,28 +266,23 @@ fn has_address(segment: Segment, address: u64) -> bool
 fn starts_at(start: u64, address: u64, room: u64) -> bool
     ensures { result ≡ eqb start (address + room) }
 {
-    if start < address {
-        return false;
-    }
-    start - address == room
+    start.checked_sub(address) == Some(room)
 }
 
-// How many bytes there are from an address of segment i on, as far as segments touch. Up to the end of segment i it is `room`; the
-// next segment's descriptor stands at `next`. The head of a capture tells it, since it has the capture's segments.
-fn room_of_run(head: &[u8], address: u64, next: usize, room: u64) -> u64
-    requires { let h = head.now in ((i : ℕ) × (i < segment_count h) × (next ≡ descriptor h (i + 1))
-        × (address + room ≡ segment_end h i) × (room < 2 ^ 32) × (length h ≡ descriptors_end h)) }
-    ensures { (i : ℕ) → next ≡ descriptor head.now (i + 1) → result ≡ run_end head.now i - address }
+// How many bytes there are from an address of a segment on, as far as segments touch. Up to the end of that segment it is `room`; the
+// descriptors are those behind its own.
+fn room_of_run(later: &[[u8; DESCRIPTOR_SIZE]], address: u64, room: u64) -> u64
+    requires { (length later.now < 256) × (room < 2 ^ 32) }
+    ensures { (c : List ℕ) (i : ℕ) → i < segment_count c → later.now ≡ drop (i + 1) (descriptors c)
+        → address + room ≡ segment_end c i → result ≡ run_end c i - address }
 {
     let mut sum = room;
-    let mut at = next;
-    while at + DESCRIPTOR_SIZE <= head.len() {
-        let segment = segment_at(head, at);
+    for descriptor in later {
+        let segment = segment_of(descriptor);
         if !starts_at(segment.address, address, sum) {
             return sum;
         }
         sum += segment.length as u64;
-        at += DESCRIPTOR_SIZE;
     }
     sum
 }
@@ -315,17 +297,16 @@ pub fn reach_of(capture: &[u8], address: u64) -> Reach
     if capture.len() < end {
         return Reach { place: 0, room: 0 };
     }
-    let head = words::part(capture, 0, end);
+    let descriptors = descriptors_of(capture);
     let mut place = end;
-    let mut at = descriptors_start(capture);
-    while at + DESCRIPTOR_SIZE <= head.len() {
-        let segment = segment_at(head, at);
-        at += DESCRIPTOR_SIZE;
+    for (i, descriptor) in descriptors.iter().enumerate() {
+        let segment = segment_of(descriptor);
         if has_address(segment, address) {
             let ahead = address - segment.address;
+            let later = &descriptors[i + 1..];
             return Reach {
                 place: place + ahead as usize,
-                room: room_of_run(head, address, at, (segment.length as u64) - ahead),
+                room: room_of_run(later, address, (segment.length as u64) - ahead),
             };
         }
         place += segment.length as usize;
@@ -339,25 +320,33 @@ fn rsdp_address(capture: &[u8]) -> u64
     words::u64_at(capture, RSDP_ADDRESS)
 }
 
-// Refusal 10, of a sound capture.
-fn locate_rsdp(capture: &[u8]) -> Root
-    requires { verdict capture.now ≡ Verdict.Sound }
-    ensures { let c = capture.now in
-        result ≡ unless Root.Refused (first_refusal (presence_rules c)) (Root.At (rsdp_place c)) }
-{
-    let reach = reach_of(capture, rsdp_address(capture));
-    if reach.room < RSDP_SIZE {
-        return Root::Refused(words::refuse(10, RSDP_ADDRESS as u32));
+impl<'a> Sound<'a> {
+    // Refusals 1 to 7: the capture as one that is known to be sound.
+    pub fn of(capture: &'a [u8]) -> Result<Sound<'a>, Refusal>
+        ensures of_capture { (s : _) → result ≡ Ok s → s.bytes.now ≡ capture.now }
+        ensures refused { (r : _) → result ≡ Err r → verdict capture.now ≡ Err r }
+    {
+        check(capture)?;
+        Ok(Sound { bytes: capture })
     }
-    Root::At(reach.place as u16)
+
+    // Refusal 10: the place of the RSDP.
+    pub fn locate_rsdp(self) -> Result<u16, Refusal>
+        ensures { let c = self.entry.bytes.now in
+            result ≡ unless Err (first_refusal (presence_rules c)) (Ok (rsdp_place c)) }
+    {
+        let capture = self.bytes;
+        let reach = reach_of(capture, rsdp_address(capture));
+        if reach.room < RSDP_SIZE {
+            return Err(words::refuse(10, RSDP_ADDRESS as u32));
+        }
+        Ok(reach.place as u16)
+    }
 }
 
 // Refusals 1 to 7, then 10: the place of the RSDP.
-pub fn find_rsdp(capture: &[u8]) -> Root
+pub fn find_rsdp(capture: &[u8]) -> Result<u16, Refusal>
     ensures { result ≡ rsdp capture.now }
 {
-    match check(capture) {
-        Verdict::Refused(refusal) => Root::Refused(refusal),
-        Verdict::Sound => locate_rsdp(capture),
-    }
+    Sound::of(capture)?.locate_rsdp()
 }

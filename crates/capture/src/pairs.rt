@@ -1,11 +1,11 @@
 // How many inputs bridges have (W-212 of document 02). The MADT has no field for it: a capture of version 2 carries it, in four
 // pairs of bytes. Whether they are sound is refusal 7.
-ghost use Rattle.std.specs.Prelude.{◌≡◌, ◌≤◌, ◌<◌, take};
+ghost use Rattle.std.specs.Prelude.{◌≡◌, ◌<◌};
 ghost use Rattle.words.specs.Refusals.{first_refusal};
 ghost use Rattle.capture.specs.Pairs.{tells_of, pair_at, pairs_of, told_of, pins_of, pair_broken, pair_rules};
 
 use crate::WITH_PAIRS;
-use words::Verdict;
+use words::Refusal;
 
 // Bridges with a hardware ID have so many inputs. With number 0 the pair is empty and its ID is free.
 #[derive(Clone, Copy)]
@@ -50,43 +50,27 @@ fn pair_at(capture: &[u8], k: usize) -> Pair
 pub fn pairs_of(capture: &[u8]) -> Pairs
     ensures { result ≡ pairs_of capture.now }
 {
-    if crate::version_of(capture) == WITH_PAIRS {
-        return [
-            pair_at(capture, 0),
-            pair_at(capture, 1),
-            pair_at(capture, 2),
-            pair_at(capture, 3),
-        ];
+    if crate::version_of(capture) != WITH_PAIRS {
+        return [Pair { id: 0, pins: 0 }; COUNT];
     }
-    let none = Pair { id: 0, pins: 0 };
-    [none; COUNT]
+    std::array::from_fn(|k| pair_at(capture, k))
 }
 
-// What the first n pairs tell of bridges with a hardware ID; 0 where none of them does.
-fn told_of(pairs: Pairs, n: usize, id: u16) -> u8
-    requires { n ≤ 4 }
-    ensures { result ≡ told_of id (take n pairs) }
+// What pairs tell of bridges with a hardware ID, if any of them does: the first that does is heard.
+fn told_of(pairs: &[Pair], id: u16) -> Option<u8>
+    ensures { result ≡ told_of id pairs.now }
 {
-    let mut i = 0;
-    while i < n {
-        let pair = pairs[i];
-        if tells_of(pair, id) {
-            return pair.pins;
-        }
-        i += 1;
-    }
-    0
+    pairs
+        .iter()
+        .find(|pair| tells_of(**pair, id))
+        .map(|pair| pair.pins)
 }
 
 // How many inputs bridges with a hardware ID have.
 pub fn pins_of(pairs: Pairs, id: u16) -> u16
     ensures { result ≡ pins_of pairs id }
 {
-    let told = told_of(pairs, COUNT, id);
-    if told == 0 {
-        return MOST_PINS as u16;
-    }
-    told as u16
+    told_of(&pairs, id).unwrap_or(MOST_PINS) as u16
 }
 
 // Refusal 7, of pair k.
@@ -95,23 +79,21 @@ fn is_broken(pairs: Pairs, k: usize) -> bool
     ensures { result ≡ pair_broken pairs k }
 {
     let pair = pairs[k];
-    (MOST_PINS < pair.pins) | ((pair.pins != 0) & (told_of(pairs, k, pair.id as u16) != 0))
+    (MOST_PINS < pair.pins) | ((pair.pins != 0) & told_of(&pairs[..k], pair.id as u16).is_some())
 }
 
 // Refusal 7, pair by pair; empty ones keep it.
-pub(crate) fn check(capture: &[u8]) -> Verdict
+pub(crate) fn check(capture: &[u8]) -> Result<(), Refusal>
     ensures { result ≡ first_refusal (pair_rules capture.now) }
 {
     if crate::version_of(capture) != WITH_PAIRS {
-        return Verdict::Sound;
+        return Ok(());
     }
     let pairs = pairs_of(capture);
-    let mut k = 0;
-    while k < COUNT {
+    for k in 0..COUNT {
         if is_broken(pairs, k) {
-            return Verdict::Refused(words::refuse(7, (FIRST + SIZE * k) as u32));
+            return Err(words::refuse(7, (FIRST + SIZE * k) as u32));
         }
-        k += 1;
     }
-    Verdict::Sound
+    Ok(())
 }

@@ -1,6 +1,6 @@
 pub mod Arrays
 pub mod Logic
-pub mod Folding
+pub mod Sooner
 pub mod Symmetric
 pub mod Searched
 pub mod Apart

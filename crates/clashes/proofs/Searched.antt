@@ -12,47 +12,50 @@ use Rattle.clashes.specs.Folds.{fold}
 use Rattle.clashes.specs.Rules.{clash, lone}
 use Rattle.clashes.specs.Search.{sooner, nearer, partner, better, first_clash, lonelier, first_lone}
 use Rattle.clashes.specs.declared.Claim.{Claim}
-use Rattle.clashes.specs.declared.Spot.{Spot}
-use Rattle.clashes.specs.declared.Spot.TheVariants.{At, Nowhere}
-use Rattle.clashes.specs.declared.Pair.{Pair}
-use Rattle.clashes.specs.declared.Pair.TheVariants.{Two, None}
+use Rattle.std.specs.Prelude.{Option, Some, None}
 
-pub at-nowhere : (p : ℕ) → At p ≡ Nowhere → ⊥
+pub at-nowhere : (p : ℕ) → Some p ≡ None → ⊥
 at-nowhere p h = let z : ◌≡◌ {A = ℕ} 0 1 = cc in omega arith
 
-pub two_none : (p q : ℕ) → Two p q ≡ None → ⊥
+pub two_none : (p q : ℕ) → ◌≡◌ {A = Option (ℕ × ℕ)} (Some (p, q)) None → ⊥
 two_none p q h = let z : ◌≡◌ {A = ℕ} 0 1 = cc in omega arith
 
-sooner_some : (best : Spot) (p : ℕ) → sooner best p ≡ Nowhere → ⊥
+-- and two that are the same have the same later and the same earlier one
+pub same_two : {p q x y : ℕ} → ◌≡◌ {A = Option (ℕ × ℕ)} (Some (p, q)) (Some (x, y)) → (p ≡ x) × (q ≡ y)
+same_two {p} {q} {x} {y} h =
+    let same : ◌≡◌ {A = ℕ × ℕ} (p, q) (x, y) = cc in
+    (ap (λ (t : ℕ × ℕ). t.0) same, ap (λ (t : ℕ × ℕ). t.1) same)
+
+sooner_some : (best : Option ℕ) (p : ℕ) → sooner best p ≡ None → ⊥
 unfolding sooner if
-sooner_some Nowhere p h = at-nowhere p h
-sooner_some (At q) p h = go (ltb p q) h
+sooner_some None p h = at-nowhere p h
+sooner_some (Some q) p h = go (ltb p q) h
   where
-    go : (b : Bool) → if b (At p) (At q) ≡ Nowhere → ⊥
+    go : (b : Bool) → if b (Some p) (Some q) ≡ None → ⊥
     go true h = at-nowhere p h
     go false h = at-nowhere q h
 
-better_none : (best : Pair) (p : ℕ) (s : Spot) → better best p s ≡ None → (best ≡ None) × (s ≡ Nowhere)
+better_none : (best : Option (ℕ × ℕ)) (p : ℕ) (s : Option ℕ) → better best p s ≡ None → (best ≡ None) × (s ≡ None)
 unfolding better if
-better_none best p Nowhere h = (h, refl)
-better_none None p (At q) h = absurd (two_none p q h)
-better_none (Two o w) p (At q) h = absurd (go (ltb p o) h)
+better_none best p None h = (h, refl)
+better_none None p (Some q) h = absurd (two_none p q h)
+better_none (Some (o, w)) p (Some q) h = absurd (go (ltb p o) h)
   where
-    go : (b : Bool) → if b (Two p q) (Two o w) ≡ None → ⊥
+    go : (b : Bool) → ◌≡◌ {A = Option (ℕ × ℕ)} (if b (Some (p, q)) (Some (o, w))) None → ⊥
     go true h = two_none p q h
     go false h = two_none o w h
 
 -- the least place of those that a test takes
-abbrev pub step : (Claim → Bool) → Spot → Claim → Spot
+abbrev pub step : (Claim → Bool) → Option ℕ → Claim → Option ℕ
 step t best y = if (t y) (sooner best y.place) best
 
 module _ (t : Claim → Bool) where
-  step_no : (best : Spot) (y : Claim) (b : Bool) → t y ≡ b → step t best y ≡ Nowhere → (best ≡ Nowhere) × (t y ≡ false)
+  step_no : (best : Option ℕ) (y : Claim) (b : Bool) → t y ≡ b → step t best y ≡ None → (best ≡ None) × (t y ≡ false)
   unfolding if
   step_no best y true e h = absurd (sooner_some best y.place (rw e at h))
   step_no best y false e h = (rw e at h, e)
 
-  pub spot_none : (l : List Claim) (best : Spot) → fold (step t) best l ≡ Nowhere → (best ≡ Nowhere) × ((y : Claim) → Memᴰ y l → t y ≡ false)
+  pub spot_none : (l : List Claim) (best : Option ℕ) → fold (step t) best l ≡ None → (best ≡ None) × ((y : Claim) → Memᴰ y l → t y ≡ false)
   unfolding fold
   spot_none [] best h = (h, λ y m. absurd (Memᴰ.not-nil m))
   spot_none (y ∷ ys) best h =
@@ -60,16 +63,16 @@ module _ (t : Claim → Bool) where
       let s = step_no best y (t y) refl r.0 in
       (s.0, λ z m. ⊎_elim (λ e. ap t e ∙ s.1) (r.1 z) (Memᴰ.cases_cons m))
 
-  pub none_spot : (l : List Claim) → ((y : Claim) → Memᴰ y l → t y ≡ false) → fold (step t) Nowhere l ≡ Nowhere
+  pub none_spot : (l : List Claim) → ((y : Claim) → Memᴰ y l → t y ≡ false) → fold (step t) None l ≡ None
   unfolding fold if
   none_spot [] h = refl
   none_spot (y ∷ ys) h = rw (h y (Memᴰ.head refl)) (none_spot ys (λ z m. h z (Memᴰ.tail m)))
 
-abbrev pub turn : (Claim → Spot) → Pair → Claim → Pair
+abbrev pub turn : (Claim → Option ℕ) → Option (ℕ × ℕ) → Claim → Option (ℕ × ℕ)
 turn g best x = better best x.place (g x)
 
-module _ (g : Claim → Spot) where
-  pair_none : (l : List Claim) (best : Pair) → fold (turn g) best l ≡ None → (best ≡ None) × ((x : Claim) → Memᴰ x l → g x ≡ Nowhere)
+module _ (g : Claim → Option ℕ) where
+  pair_none : (l : List Claim) (best : Option (ℕ × ℕ)) → fold (turn g) best l ≡ None → (best ≡ None) × ((x : Claim) → Memᴰ x l → g x ≡ None)
   unfolding fold
   pair_none [] best h = (h, λ y m. absurd (Memᴰ.not-nil m))
   pair_none (x ∷ xs) best h =
@@ -77,7 +80,7 @@ module _ (g : Claim → Spot) where
       let s = better_none best x.place (g x) r.0 in
       (s.0, λ z m. ⊎_elim (λ e. ap g e ∙ s.1) (r.1 z) (Memᴰ.cases_cons m))
 
-  none_pair : (l : List Claim) → ((x : Claim) → Memᴰ x l → g x ≡ Nowhere) → fold (turn g) None l ≡ None
+  none_pair : (l : List Claim) → ((x : Claim) → Memᴰ x l → g x ≡ None) → fold (turn g) None l ≡ None
   unfolding fold better
   none_pair [] h = refl
   none_pair (x ∷ xs) h = rw (h x (Memᴰ.head refl)) (none_pair xs (λ z m. h z (Memᴰ.tail m)))
@@ -88,17 +91,17 @@ hits rule x y = ltb y.place x.place && clash rule x y
 
 pub clear : (rule : ℕ) (l : List Claim) → first_clash rule l ≡ None → (x y : Claim) → Memᴰ x l → Memᴰ y l → hits rule x y ≡ false
 unfolding first_clash partner nearer
-clear rule l h x y mx my = (spot_none (hits rule x) l Nowhere ((pair_none (λ x. partner rule x l) l None h).1 x mx)).1 y my
+clear rule l h x y mx my = (spot_none (hits rule x) l None ((pair_none (λ x. partner rule x l) l None h).1 x mx)).1 y my
 
 pub quiet : (rule : ℕ) (l : List Claim) → ((x y : Claim) → Memᴰ x l → Memᴰ y l → hits rule x y ≡ false) → first_clash rule l ≡ None
 unfolding first_clash partner nearer
 quiet rule l h = none_pair (λ x. partner rule x l) l (λ x mx. none_spot (hits rule x) l (λ y my. h x y mx my))
 
 -- 42
-pub none_lone : (nodes : List ℕ) (l : List Claim) → first_lone nodes l ≡ Nowhere → (x : Claim) → Memᴰ x l → lone nodes x ≡ false
+pub none_lone : (nodes : List ℕ) (l : List Claim) → first_lone nodes l ≡ None → (x : Claim) → Memᴰ x l → lone nodes x ≡ false
 unfolding first_lone lonelier
-none_lone nodes l h = (spot_none (lone nodes) l Nowhere h).1
+none_lone nodes l h = (spot_none (lone nodes) l None h).1
 
-pub lone_none : (nodes : List ℕ) (l : List Claim) → ((x : Claim) → Memᴰ x l → lone nodes x ≡ false) → first_lone nodes l ≡ Nowhere
+pub lone_none : (nodes : List ℕ) (l : List Claim) → ((x : Claim) → Memᴰ x l → lone nodes x ≡ false) → first_lone nodes l ≡ None
 unfolding first_lone lonelier
 lone_none nodes l h = none_spot (lone nodes) l h

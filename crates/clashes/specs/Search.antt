@@ -1,42 +1,38 @@
 -- "Of two things that clash the place is the later one's; where one line fits several structures, the first in table order
 -- is named": searches among claims by the places of their structures.
-use Rattle.std.specs.Prelude.{ℕ, List, ◌&&◌, ltb}
+use Rattle.std.specs.Prelude.{ℕ, List, ◌&&◌, ltb, Option, Some, None}
 use Rattle.words.specs.Choice.{if}
 use Rattle.clashes.specs.Folds.{fold}
 use Rattle.clashes.specs.Rules.{clash, lone}
 use Rattle.clashes.specs.declared.Claim.{Claim}
-use Rattle.clashes.specs.declared.Spot.{Spot}
-use Rattle.clashes.specs.declared.Spot.TheVariants.{At, Nowhere}
-use Rattle.clashes.specs.declared.Pair.{Pair}
-use Rattle.clashes.specs.declared.Pair.TheVariants.{Two, None}
 
 -- the earlier of two places
-unfoldable pub sooner : Spot → ℕ → Spot
-sooner Nowhere p = At p
-sooner (At q) p = if (ltb p q) (At p) (At q)
+unfoldable pub sooner : Option ℕ → ℕ → Option ℕ
+sooner None p = Some p
+sooner (Some q) p = if (ltb p q) (Some p) (Some q)
 
 -- y stands before x and x clashes with it: its place, if it is the earliest so far
-unfoldable pub nearer : ℕ → Claim → Spot → Claim → Spot
+unfoldable pub nearer : ℕ → Claim → Option ℕ → Claim → Option ℕ
 nearer rule x best y = if (ltb y.place x.place && clash rule x y) (sooner best y.place) best
 
 -- the earliest structure before x that x clashes with
-unfoldable pub partner : ℕ → Claim → List Claim → Spot
-partner rule x claims = fold (nearer rule x) Nowhere claims
+unfoldable pub partner : ℕ → Claim → List Claim → Option ℕ
+partner rule x claims = fold (nearer rule x) None claims
 
 -- the structure at p with its partner, if it is the first so far that has one
-unfoldable pub better : Pair → ℕ → Spot → Pair
-better best p Nowhere = best
-better None p (At q) = Two p q
-better (Two o w) p (At q) = if (ltb p o) (Two p q) (Two o w)
+unfoldable pub better : Option (ℕ × ℕ) → ℕ → Option ℕ → Option (ℕ × ℕ)
+better best p None = best
+better None p (Some q) = Some (p, q)
+better (Some (o, w)) p (Some q) = if (ltb p o) (Some (p, q)) (Some (o, w))
 
 -- the first structure of the table that clashes with an earlier one, and the earliest that it clashes with
-unfoldable pub first_clash : ℕ → List Claim → Pair
+unfoldable pub first_clash : ℕ → List Claim → Option (ℕ × ℕ)
 first_clash rule claims = fold (λ best x. better best x.place (partner rule x claims)) None claims
 
 -- x stands alone among hubs with some nodes: its place, if it is the first so far
-unfoldable pub lonelier : List ℕ → Spot → Claim → Spot
+unfoldable pub lonelier : List ℕ → Option ℕ → Claim → Option ℕ
 lonelier nodes best x = if (lone nodes x) (sooner best x.place) best
 
 -- the first structure of the table that stands alone
-unfoldable pub first_lone : List ℕ → List Claim → Spot
-first_lone nodes claims = fold (lonelier nodes) Nowhere claims
+unfoldable pub first_lone : List ℕ → List Claim → Option ℕ
+first_lone nodes claims = fold (lonelier nodes) None claims

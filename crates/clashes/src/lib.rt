@@ -10,7 +10,7 @@ ghost use Rattle.clashes.specs.Apart.{apart};
 ghost use Rattle.clashes.specs.Search.{sooner, nearer, better};
 ghost use Rattle.clashes.specs.Told.{at_later, at_both, spotted};
 
-use words::Verdict;
+use words::Refusal;
 
 // Numbers one after the other: the first, and how many. None at all is 0, 0.
 #[derive(Clone, Copy)]
@@ -21,7 +21,7 @@ pub struct Run {
 
 // What one structure claims: the node that it is the EIO of, global numbers, vectors of the hub of node `hub`, and up to two core
 // vectors to enter by. Without a node `node` and `hub` are 65,535, and a hub without a node is every hub; a core vector that is not
-// used is 0.
+// used is 0. No Options: so each rule is a test of two numbers, where it would be one of four cases.
 #[derive(Clone, Copy)]
 pub struct Claim {
     pub place: u32,
@@ -31,20 +31,6 @@ pub struct Claim {
     pub hub: u16,
     pub low: u8,
     pub high: u8,
-}
-
-// The place of a structure, if there is one.
-#[derive(Clone, Copy)]
-pub enum Spot {
-    At(u32),
-    Nowhere,
-}
-
-// The place of a structure, and that of the earliest one that it clashes with.
-#[derive(Clone, Copy)]
-pub enum Pair {
-    Two(u32, u32),
-    None,
 }
 
 // `node` and `hub` of a claim that names no node.
@@ -75,18 +61,14 @@ fn repeats_node(x: Claim, y: Claim) -> bool
 fn shares_number(x: Claim, y: Claim) -> bool
     ensures { result ≡ shares_number x y }
 {
-    let a = x.numbers;
-    let b = y.numbers;
-    meets(a, b)
+    meets(x.numbers, y.numbers)
 }
 
 // 52: a vector of both, on one hub.
 fn shares_vector(x: Claim, y: Claim) -> bool
     ensures { result ≡ shares_vector x y }
 {
-    let a = x.vectors;
-    let b = y.vectors;
-    ((x.hub == y.hub) | (x.hub == NO_NODE) | (y.hub == NO_NODE)) & meets(a, b)
+    ((x.hub == y.hub) | (x.hub == NO_NODE) | (y.hub == NO_NODE)) & meets(x.vectors, y.vectors)
 }
 
 // 53: a core vector that both enter.
@@ -98,7 +80,8 @@ fn shares_core(x: Claim, y: Claim) -> bool
     low | high
 }
 
-// Whether two claims clash by a rule: 41, 51, 52, or else 53.
+// Whether two claims clash by a rule: 41, 51, 52, or else 53. A rule goes by its number in the documents, and `clash` answers for any
+// number: a narrower type would ask more of callers.
 fn clashing(rule: u8, x: Claim, y: Claim) -> bool
     ensures { result ≡ clash rule x y }
 {
@@ -124,21 +107,18 @@ pub fn are_apart(x: Claim, y: Claim) -> bool
 // ---- the steps of a search, by places
 
 // The earlier of two places.
-pub fn sooner_of(best: Spot, place: u32) -> Spot
+#[tactic(auto, using(crate::proofs::Sooner::least), unfolding(crate::specs::Search::sooner))]
+pub fn sooner_of(best: Option<u32>, place: u32) -> Option<u32>
     ensures { result ≡ sooner best place }
 {
-    let Spot::At(q) = best else {
-        return Spot::At(place);
-    };
-    if place < q {
-        Spot::At(place)
-    } else {
-        Spot::At(q)
+    match best {
+        Some(q) => Some(q.min(place)),
+        None => Some(place),
     }
 }
 
 // One claim more as a partner of x: it must stand before x, and the earliest counts.
-pub fn nearer_of(rule: u8, x: Claim, best: Spot, y: Claim) -> Spot
+pub fn nearer_of(rule: u8, x: Claim, best: Option<u32>, y: Claim) -> Option<u32>
     ensures { result ≡ nearer rule x best y }
 {
     if (y.place < x.place) & clashing(rule, x, y) {
@@ -148,50 +128,49 @@ pub fn nearer_of(rule: u8, x: Claim, best: Spot, y: Claim) -> Spot
 }
 
 // One structure more that has a partner: the first in the table counts.
-pub fn better_of(best: Pair, place: u32, with: Spot) -> Pair
+pub fn better_of(best: Option<(u32, u32)>, place: u32, with: Option<u32>) -> Option<(u32, u32)>
     ensures { result ≡ better best place with }
 {
-    let Spot::At(q) = with else {
+    let Some(q) = with else {
         return best;
     };
-    let Pair::Two(o, w) = best else {
-        return Pair::Two(place, q);
-    };
-    if place < o {
-        Pair::Two(place, q)
-    } else {
-        Pair::Two(o, w)
+    match best {
+        Some((o, _)) if o <= place => best,
+        _ => Some((place, q)),
     }
 }
 
 // ---- what is told of a search's answer
 
 // A clash of which the later structure is told.
-pub fn at_later(number: u8, pair: Pair) -> Verdict
+#[tactic(auto, unfolding(crate::specs::Told::at_later))]
+pub fn at_later(number: u8, pair: Option<(u32, u32)>) -> Result<(), Refusal>
     ensures { result ≡ at_later number pair }
 {
-    let Pair::Two(later, _) = pair else {
-        return Verdict::Sound;
-    };
-    Verdict::Refused(words::refuse(number, later))
+    match pair {
+        Some((later, _)) => Err(words::refuse(number, later)),
+        None => Ok(()),
+    }
 }
 
 // A clash of which the later structure and the earliest that it clashes with are told.
-pub fn at_both(number: u8, pair: Pair) -> Verdict
+#[tactic(auto, unfolding(crate::specs::Told::at_both))]
+pub fn at_both(number: u8, pair: Option<(u32, u32)>) -> Result<(), Refusal>
     ensures { result ≡ at_both number pair }
 {
-    let Pair::Two(later, earliest) = pair else {
-        return Verdict::Sound;
-    };
-    Verdict::Refused(words::refuse_with(number, later, earliest))
+    match pair {
+        Some((later, earliest)) => Err(words::refuse_with(number, later, earliest)),
+        None => Ok(()),
+    }
 }
 
 // A rule that is broken at a spot, or nowhere.
-pub fn at_spot(number: u8, spot: Spot) -> Verdict
+#[tactic(auto, unfolding(crate::specs::Told::spotted))]
+pub fn at_spot(number: u8, spot: Option<u32>) -> Result<(), Refusal>
     ensures { result ≡ spotted number spot }
 {
-    let Spot::At(place) = spot else {
-        return Verdict::Sound;
-    };
-    Verdict::Refused(words::refuse(number, place))
+    match spot {
+        Some(place) => Err(words::refuse(number, place)),
+        None => Ok(()),
+    }
 }

@@ -1,6 +1,6 @@
 -- Document 01, "Ranges (H)", one test for each field; and the first field of a structure that is out of its range, by the number that
 -- W-202 of document 02 gives it.
-use Rattle.std.specs.Prelude.{ℕ, ◌+◌, Bool, not, ◌&&◌, ◌||◌, eqb, leb}
+use Rattle.std.specs.Prelude.{ℕ, ◌+◌, Bool, not, ◌&&◌, ◌||◌, eqb, leb, Option, None, Some}
 use Rattle.std.specs.Int.Bits.{bit_and}
 use Rattle.words.specs.Choice.{if}
 use Rattle.words.specs.Lists.{every}
@@ -57,31 +57,31 @@ abbrev pub halves_fit : Lio → Bool
 halves_fit lio = half_fits lio.low && half_fits lio.high
 
 -- ---- the first field of a structure that is out of its range, by the number that refuses it: "71 cascade of EIO or LIO, 72 node
--- or hardware ID, 73 node map, 74 MSI count, 75 MSI end, 76 GSI base, 77 LPC cascade, 78 HT byte"; 0 where every field is in its range
-unfoldable pub lio_field : Lio → ℕ
-lio_field lio = if (halves_fit lio) 0 71
+-- or hardware ID, 73 node map, 74 MSI count, 75 MSI end, 76 GSI base, 77 LPC cascade, 78 HT byte"; none where every field is in its range
+unfoldable pub lio_field : Lio → Option ℕ
+lio_field lio = if (halves_fit lio) None (Some 71)
 
-unfoldable pub ht_field : Ht → ℕ
-ht_field ht = if (every byte_fits ht.bytes) 0 78
+unfoldable pub ht_field : Ht → Option ℕ
+ht_field ht = if (every byte_fits ht.bytes) None (Some 78)
 
-unfoldable pub eio_field : Eio → ℕ
+unfoldable pub eio_field : Eio → Option ℕ
 eio_field eio =
-    if (not (cascade_fits eio.cascade)) 71
-    (if (not (node_fits eio.node)) 72
-    (if (nodes_fit eio.nodes) 0 73))
+    if (not (cascade_fits eio.cascade)) (Some 71)
+    (if (not (node_fits eio.node)) (Some 72)
+    (if (nodes_fit eio.nodes) None (Some 73)))
 
-unfoldable pub msi_field : Msi → ℕ
+unfoldable pub msi_field : Msi → Option ℕ
 msi_field msi =
-    if (not (count_fits msi.count)) 74
-    (if (end_fits msi.start msi.count) 0 75)
+    if (not (count_fits msi.count)) (Some 74)
+    (if (end_fits msi.start msi.count) None (Some 75))
 
-unfoldable pub bio_field : Bio → ℕ
+unfoldable pub bio_field : Bio → Option ℕ
 bio_field bio =
-    if (not (node_fits bio.node)) 72
-    (if (base_fits bio.base) 0 76)
+    if (not (node_fits bio.node)) (Some 72)
+    (if (base_fits bio.base) None (Some 76))
 
-unfoldable pub lpc_field : Lpc → ℕ
-lpc_field lpc = if (input_fits lpc.cascade) 0 77
+unfoldable pub lpc_field : Lpc → Option ℕ
+lpc_field lpc = if (input_fits lpc.cascade) None (Some 77)
 
 -- ---- 37: a bit in both LIO masks
 abbrev pub bit_in_both : Lio → Bool

@@ -10,14 +10,15 @@ pub mod makers; // type, length and maker of each of the seven kinds
 
 // One half of the LIO: a bit for each input that it leads to a core vector, and the vector. With mask 0 it is unused and its
 // cascade is free.
-#[derive(Clone, Copy)]
+#[derive(Clone, Copy, Default)]
 pub struct Half {
     pub mask: u32,
     pub cascade: u8,
 }
 
-// The processor's own controller. Bytes 13 and 15 of its structure are the low half, 14 and 19 the high half.
-#[derive(Clone, Copy)]
+// The processor's own controller. Bytes 13 and 15 of its structure are the low half, 14 and 19 the high half. Whether there is one is a
+// flag here, of the HT and the LPC too, and no Option: callers fill a map, an absent one holds anything, and `SameAnswers` speaks of that.
+#[derive(Clone, Copy, Default)]
 pub struct Lio {
     pub present: bool,
     pub low: Half,
@@ -25,14 +26,14 @@ pub struct Lio {
 }
 
 // The controller of older boards: a byte for each 32 of its vectors, which names the LIO input that they go to.
-#[derive(Clone, Copy)]
+#[derive(Clone, Copy, Default)]
 pub struct Ht {
     pub present: bool,
     pub bytes: [u8; 8],
 }
 
 // An extended controller: the core vector that it enters by, its node, and its node map.
-#[derive(Clone, Copy)]
+#[derive(Clone, Copy, Default)]
 pub struct Eio {
     pub cascade: u8,
     pub node: u8,
@@ -40,7 +41,7 @@ pub struct Eio {
 }
 
 // A bridge: its hardware ID, which is the node of its hub, its first global number, and how many inputs it has.
-#[derive(Clone, Copy)]
+#[derive(Clone, Copy, Default)]
 pub struct Bio {
     pub node: u16,
     pub base: u16,
@@ -48,14 +49,14 @@ pub struct Bio {
 }
 
 // Message slots: the first, and how many.
-#[derive(Clone, Copy)]
+#[derive(Clone, Copy, Default)]
 pub struct Msi {
     pub start: u32,
     pub count: u32,
 }
 
 // The sixteen lines of the LPC: the node of its bridge, and the input of the bridge that they share.
-#[derive(Clone, Copy)]
+#[derive(Clone, Copy, Default)]
 pub struct Lpc {
     pub present: bool,
     pub node: u16,
@@ -67,37 +68,24 @@ pub fn used_half(half: Half) -> Half
     ensures { result ≡ used_half half }
 {
     if half.mask == 0 {
-        return Half {
-            cascade: 0,
-            mask: 0,
-        };
+        Half::default()
+    } else {
+        half
     }
-    half
 }
 
 // The LIO without what is unused in it.
 pub fn said_lio(lio: Lio) -> Lio
     ensures { result ≡ said_lio lio }
 {
-    let a = lio.low;
-    let b = lio.high;
     if lio.present {
-        let low = used_half(a);
-        let high = used_half(b);
-        return Lio {
+        Lio {
             present: true,
-            low,
-            high,
-        };
-    }
-    let none = Half {
-        cascade: 0,
-        mask: 0,
-    };
-    Lio {
-        present: false,
-        low: none,
-        high: none,
+            low: used_half(lio.low),
+            high: used_half(lio.high),
+        }
+    } else {
+        Lio::default()
     }
 }
 
@@ -105,26 +93,12 @@ pub fn said_lio(lio: Lio) -> Lio
 pub fn said_ht(ht: Ht) -> Ht
     ensures { result ≡ said_ht ht }
 {
-    if ht.present {
-        return ht;
-    }
-    let bytes = [0u8; 8];
-    Ht {
-        present: false,
-        bytes,
-    }
+    if ht.present { ht } else { Ht::default() }
 }
 
 // The LPC without what is unused in it.
 pub fn said_lpc(lpc: Lpc) -> Lpc
     ensures { result ≡ said_lpc lpc }
 {
-    if lpc.present {
-        return lpc;
-    }
-    Lpc {
-        present: false,
-        node: 0,
-        cascade: 0,
-    }
+    if lpc.present { lpc } else { Lpc::default() }
 }

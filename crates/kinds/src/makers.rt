@@ -1,5 +1,6 @@
 // Document 01, "MADT structures": for each of the seven kinds its type number, its length, and the structure made from its
-// bytes, and of CORE what its flags say. Every maker answers for any bytes; a byte past the end counts as 0.
+// bytes, and of CORE what its flags say. Every maker answers for any bytes; a byte past the end counts as 0. A maker is a function
+// `from_bytes` and no `From` of a slice: document 01 fixes the form, a function that makes it from bytes.
 ghost use Rattle.std.specs.Prelude.{◌≡◌};
 ghost use Rattle.kinds.specs.Makers.{core_of, lio_of, ht_of, eio_of, msi_of, bio_of, with_pins, lpc_of, reserved_flags, is_enabled};
 
@@ -76,16 +77,7 @@ impl Ht {
     pub fn from_bytes(structure: &[u8]) -> Ht
         ensures { result ≡ ht_of structure.now }
     {
-        let bytes = [
-            words::byte_at(structure, 13),
-            words::byte_at(structure, 14),
-            words::byte_at(structure, 15),
-            words::byte_at(structure, 16),
-            words::byte_at(structure, 17),
-            words::byte_at(structure, 18),
-            words::byte_at(structure, 19),
-            words::byte_at(structure, 20),
-        ];
+        let bytes = std::array::from_fn(|i| words::byte_at(structure, 13 + i));
         Ht {
             present: true,
             bytes,
@@ -146,11 +138,7 @@ impl Bio {
     pub fn with_pins(self, pins: u16) -> Bio
         ensures { result ≡ with_pins pins self }
     {
-        Bio {
-            node: self.node,
-            base: self.base,
-            pins,
-        }
+        Bio { pins, ..self }
     }
 }
 

@@ -1,5 +1,5 @@
 // Document 01, "Ranges (H)": a test for each field, and for each kind of structure the first field out of its range, by the number
-// that refuses it; 0 where every field is in its range.
+// that refuses it; `None` where every field is in its range.
 ghost use Rattle.std.specs.Prelude.{◌≡◌};
 ghost use Rattle.words.specs.Lists.{every};
 ghost use Rattle.kinds.specs.Ranges.{cascade_fits, node_fits, nodes_fit, count_fits, end_fits, base_fits, pins_fit, input_fits, byte_fits, half_fits, lio_field, ht_field, eio_field, msi_field, bio_field, lpc_field, bit_in_both};
@@ -110,14 +110,7 @@ pub fn byte_fits(byte: u8) -> bool
 fn bytes_fit(bytes: [u8; 8]) -> bool
     ensures { result ≡ every byte_fits bytes }
 {
-    let mut fit = true;
-    let mut i = 0;
-    while i < 8 {
-        let b = bytes[i];
-        fit = fit & byte_fits(b);
-        i += 1;
-    }
-    fit
+    bytes.iter().all(|byte| byte_fits(*byte))
 }
 
 // A half of the LIO: unused, or its cascade fits.
@@ -128,71 +121,80 @@ pub fn half_fits(half: Half) -> bool
 }
 
 // The first field of a LIO that is out of its range.
-pub fn lio_field(lio: Lio) -> u8
+pub fn lio_field(lio: Lio) -> Option<u8>
     ensures { result ≡ lio_field lio }
 {
-    let low = lio.low;
-    let high = lio.high;
-    if half_fits(low) & half_fits(high) {
-        0
+    if half_fits(lio.low) & half_fits(lio.high) {
+        None
     } else {
-        CASCADE
+        Some(CASCADE)
     }
 }
 
 // The first field of an HT that is out of its range.
-pub fn ht_field(ht: Ht) -> u8
+pub fn ht_field(ht: Ht) -> Option<u8>
     ensures { result ≡ ht_field ht }
 {
-    let bytes = ht.bytes;
-    if bytes_fit(bytes) { 0 } else { HT_BYTE }
+    if bytes_fit(ht.bytes) {
+        None
+    } else {
+        Some(HT_BYTE)
+    }
 }
 
 // The first field of an EIO that is out of its range.
-pub fn eio_field(eio: Eio) -> u8
+pub fn eio_field(eio: Eio) -> Option<u8>
     ensures { result ≡ eio_field eio }
 {
     if !cascade_fits(eio.cascade) {
-        return CASCADE;
+        return Some(CASCADE);
     }
     if !node_fits(eio.node as u16) {
-        return NODE;
+        return Some(NODE);
     }
-    if nodes_fit(eio.nodes) { 0 } else { NODE_MAP }
+    if nodes_fit(eio.nodes) {
+        None
+    } else {
+        Some(NODE_MAP)
+    }
 }
 
 // The first field of an MSI that is out of its range.
-pub fn msi_field(msi: Msi) -> u8
+pub fn msi_field(msi: Msi) -> Option<u8>
     ensures { result ≡ msi_field msi }
 {
     if !count_fits(msi.count) {
-        return MSI_COUNT;
+        return Some(MSI_COUNT);
     }
     if end_fits(msi.start, msi.count) {
-        0
+        None
     } else {
-        MSI_END
+        Some(MSI_END)
     }
 }
 
 // The first field of a BIO that is out of its range.
-pub fn bio_field(bio: Bio) -> u8
+pub fn bio_field(bio: Bio) -> Option<u8>
     ensures { result ≡ bio_field bio }
 {
     if !node_fits(bio.node) {
-        return NODE;
+        return Some(NODE);
     }
-    if base_fits(bio.base) { 0 } else { GSI_BASE }
+    if base_fits(bio.base) {
+        None
+    } else {
+        Some(GSI_BASE)
+    }
 }
 
 // The first field of an LPC that is out of its range.
-pub fn lpc_field(lpc: Lpc) -> u8
+pub fn lpc_field(lpc: Lpc) -> Option<u8>
     ensures { result ≡ lpc_field lpc }
 {
     if input_fits(lpc.cascade) {
-        0
+        None
     } else {
-        LPC_CASCADE
+        Some(LPC_CASCADE)
     }
 }
 
@@ -200,7 +202,5 @@ pub fn lpc_field(lpc: Lpc) -> u8
 pub fn bit_in_both(lio: Lio) -> bool
     ensures { result ≡ bit_in_both lio }
 {
-    let low = lio.low;
-    let high = lio.high;
-    low.mask & high.mask != 0
+    lio.low.mask & lio.high.mask != 0
 }

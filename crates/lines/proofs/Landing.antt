@@ -2,23 +2,28 @@
 use Prim.Native.Nat.{ℕ, ◌+◌, ◌-◌, ◌≤◌, ◌<◌}
 use native.Mathlib.Nat.{sub-zero}
 use native.Mathlib.Omega.{arith}
-use mathlib.Core.Path.{◌≡◌, refl, sym}
+use mathlib.Core.Path.{◌≡◌, refl, sym, ◌∙◌}
 use mathlib.Core.Bool.{Bool, true, false, not, ◌&&◌}
 use mathlib.Core.List.{List, [], ◌∷◌, map}
 use borrow.Author.Tests.{le-leb, lt-leb, eq-eqb, ne_eqb}
 use lib.Dec.{eqb, leb}
 use lib.ListN.{length, length-map}
+use Rattle.std.specs.List.{find}
+use Rattle.std.specs.Option.{option_map_or}
 use Rattle.words.specs.Choice.{if}
 use Rattle.words.specs.Lists.{first, every}
+use Rattle.words.proofs.Searches.{first_find}
 use Rattle.words.proofs.Choices.{yes_if, no_if}
 use Rattle.kinds.specs.declared.Lio.{Lio}
 use Rattle.kinds.specs.declared.Ht.{Ht}
 use Rattle.kinds.specs.declared.Eio.{Eio}
+use Rattle.kinds.proofs.Used.{ht_present}
 use Rattle.parts.specs.Inputs.{core_vector, input_for}
-use Rattle.lines.specs.Says.{Said}
+use Rattle.lines.specs.Says.{Said, says}
 use Rattle.lines.specs.Hubs.{eio_hub, ht_hub, hubs_of, enters}
 use Rattle.lines.specs.Routes.{through}
 use Rattle.lines.specs.Traces.{landed, comes_by, hub_traced}
+use Rattle.lines.specs.declared.Map.{Map}
 use Rattle.lines.specs.declared.Route.TheVariants.{Arrives, NoOwner}
 use Rattle.lines.specs.declared.Trace.TheVariants.{Nothing}
 
@@ -30,7 +35,6 @@ first_made make test found none [] = refl
 first_made make test found none (x ∷ xs) = rw (first_made make test found none xs)
 
 pub every_made : {A B : Type 0} (make : A → B) (test : B → Bool) (l : List A) → every test (map make l) ≡ every (λ x. test (make x)) l
-unfolding every
 every_made make test [] = refl
 every_made make test (x ∷ xs) = rw (every_made make test xs)
 
@@ -59,6 +63,15 @@ traced-eios said vector number none =
     let any : leb 0 number ≡ true = le-leb 0 number (omega arith) in
     rw (eios_only said.lio said.ht said.eios none)
     (sym (rw (sub-zero, any) at (first_made eio_hub (comes_by vector number) (λ h. landed said h.node (number - h.above)) Nothing said.eios)))
+
+-- both by std's `find`, for the program
+pub eios_entered : (eios : List Eio) (node v : ℕ)
+    → through (map eio_hub eios) node v ≡ option_map_or (λ e. Arrives e.cascade v) (find (λ e. eqb e.node node) eios) NoOwner
+eios_entered eios node v = through-eios eios node v ∙ first_find _ _ _ _
+
+pub eios_traced : (map : Map) (vector number : ℕ) → map.ht.present ≡ false
+    → hub_traced (says map) vector number ≡ option_map_or (λ e. landed (says map) e.node number) (find (λ e. eqb e.cascade vector) (says map).eios) Nothing
+eios_traced map vector number none = sym (traced-eios (says map) vector number (ht_present map.ht ∙ none)) ∙ first_find _ _ _ _
 
 -- what comes by the HT: it lands on the vector that the number is 256 above, if this leads to the core vector
 module _ (said : Said) (vector number : ℕ) (there : said.ht.present ≡ true) where

@@ -3,6 +3,5 @@ pub mod Landing
 pub mod Bridges
 pub mod Stilling
 pub mod NoClash
-pub mod Entries
-pub mod Claimed
+pub mod Folds
 pub mod AtOnce

@@ -16,7 +16,6 @@ use Rattle.clashes.specs.Apart.{apart}
 use Rattle.clashes.specs.Search.{first_clash}
 use Rattle.clashes.specs.Told.{at_later, at_both, spotted}
 use Rattle.clashes.specs.declared.Claim.{Claim}
-use Rattle.clashes.specs.declared.Pair.TheVariants.{None}
 use Rattle.clashes.proofs.Logic.{and_left, and_right}
 use Rattle.clashes.proofs.Apart.{apart-clash, apart_clash_back}
 use Rattle.clashes.proofs.Searched.{hits, quiet as none-hits, lone_none}
@@ -27,6 +26,7 @@ use Rattle.lines.specs.Hubs.{nodes}
 use Rattle.lines.specs.Quiet.{far_from, still_each, eios_quiet, bios_quiet, msis_quiet, quiet}
 use Rattle.lines.specs.Rules.{rule40, rule43, rule44, rule45, rule54, rules_to_45, rules_from_51, map_rules}
 use Rattle.lines.specs.declared.Places.{Places}
+use Rattle.std.specs.Prelude.{None}
 
 -- ---- lists of claims without a clash
 module _ (rule : ℕ) where
@@ -66,7 +66,7 @@ module _ (rule : ℕ) where
 module _ {A : Type 0} (claim : A → ℕ → Claim) where
   each_placed : (t : A → Bool) (P : Claim → Type 0) → ((y : A) (p : ℕ) → t y ≡ true → P (claim y p)) → (xs : List A) (ps : List ℕ)
       → every t xs ≡ true → (c : Claim) → Memᴰ c (placed claim xs ps) → P c
-  unfolding every placed
+  unfolding placed
   each_placed t P f [] ps h c m = absurd (Memᴰ.not-nil m)
   each_placed t P f (x ∷ xs) [] h c m = absurd (Memᴰ.not-nil m)
   each_placed t P f (x ∷ xs) (p ∷ ps) h c m =
@@ -81,7 +81,7 @@ module _ {A : Type 0} (claim : A → ℕ → Claim) where
   all_placed P f (x ∷ xs) (p ∷ ps) c m = ⊎_elim (λ e. rw e (f x p)) (all_placed P f xs ps c) (Memᴰ.cases_cons m)
 
   still_alone : (alone : A → Bool) (xs : List A) → still_each claim alone xs ≡ true → every alone xs ≡ true
-  unfolding every still_each
+  unfolding still_each
   still_alone alone [] h = refl
   still_alone alone (x ∷ xs) h =
       let far = far_from claim (claim x 0) xs in

@@ -3,6 +3,7 @@ pub mod Hubs
 pub mod Routes
 pub mod Traces
 pub mod Claims
+pub mod Steps
 pub mod Quiet
 pub mod Rules
 pub mod Answers

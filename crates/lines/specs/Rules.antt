@@ -1,9 +1,8 @@
 -- The rules that a map must keep: document 01, "Refusals in order", 71 to 78 (36 before W-202 of document 02), 37, 38, 34 and 40 to 54,
 -- with 34, 40, 42 and 44 as W-201 has them, 43 as W-208, 45 of W-212, and their order.
-use Rattle.std.specs.Prelude.{ℕ, Bool, true, false, not, ◌&&◌, ◌||◌, List, [], ◌∷◌, ◌++◌, eqb, ltb, leb, length}
+use Rattle.std.specs.Prelude.{ℕ, Bool, true, false, not, ◌&&◌, ◌||◌, List, [], ◌∷◌, ◌++◌, eqb, ltb, leb, length, is_none}
 use Rattle.words.specs.Lists.{every, first}
-use Rattle.words.specs.Refusals.{rule, first_refusal, is_sound}
-use Rattle.words.specs.declared.Verdict.{Verdict}
+use Rattle.words.specs.Refusals.{Verdict, rule, first_refusal, is_sound}
 use Rattle.kinds.specs.Ranges.{bit_in_both, lio_field, ht_field, eio_field, bio_field, pins_fit, msi_field, lpc_field}
 use Rattle.kinds.specs.declared.Eio.{Eio}
 use Rattle.kinds.specs.declared.Bio.{Bio}
@@ -20,28 +19,28 @@ use Rattle.lines.specs.Routes.{arrival}
 use Rattle.lines.specs.declared.Map.{Map}
 use Rattle.lines.specs.declared.Places.{Places}
 use Rattle.lines.specs.declared.Route.{Route}
-use Rattle.lines.specs.declared.Route.TheVariants.{Arrives, Unwired, NoOwner, Refused as NoRoute}
+use Rattle.lines.specs.declared.Route.TheVariants.{Arrives, Unwired, NoOwner}
 
 -- ---- the rules
 -- 71 to 78: every EIO, BIO and MSI has its fields in their ranges; "61 also for a map with a count outside 1 to 64"
 unfoldable pub eios_fit : List Eio → Bool
-eios_fit eios = every (λ e. eqb (eio_field e) 0) eios
+eios_fit eios = every (λ e. is_none (eio_field e)) eios
 
 unfoldable pub bios_fit : List Bio → Bool
-bios_fit bios = every (λ b. eqb (bio_field b) 0 && pins_fit b.pins) bios
+bios_fit bios = every (λ b. is_none (bio_field b) && pins_fit b.pins) bios
 
 unfoldable pub msis_fit : List Msi → Bool
-msis_fit msis = every (λ m. eqb (msi_field m) 0) msis
+msis_fit msis = every (λ m. is_none (msi_field m)) msis
 
 -- and so has every structure
 unfoldable pub ranges_kept : Said → Bool
 ranges_kept said =
-    eqb (lio_field said.lio) 0
-    && eqb (ht_field said.ht) 0
+    is_none (lio_field said.lio)
+    && is_none (ht_field said.ht)
     && eios_fit said.eios
     && bios_fit said.bios
     && msis_fit said.msis
-    && eqb (lpc_field said.lpc) 0
+    && is_none (lpc_field said.lpc)
 
 -- 38: one too many of its kind; a map has one LIO, one HT and one LPC at most
 abbrev pub too_many : Map → Bool
@@ -104,7 +103,6 @@ unfoldable pub lost : Route → Bool
 lost (Arrives vector number) = false
 lost Unwired = true
 lost NoOwner = true
-lost (NoRoute refusal) = true
 
 -- 54: SCI_INT doesn't arrive
 abbrev pub rule54 : Said → ℕ → Verdict

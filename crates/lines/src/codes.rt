@@ -1,4 +1,5 @@
-// Each answer as one number, for those who take plain numbers: document 01's refusals, and this house's kinds.
+// Each answer as one number, for those who take plain numbers: document 01's refusals, and this house's kinds. The kinds are bare
+// numbers and no enum, since they are what the C interface hands out (include/yasmirand.h); inside, an answer is a Route or a Trace.
 ghost use Rattle.std.specs.Prelude.{◌≡◌};
 ghost use Rattle.lines.specs.Answers.{refusal_code, coded, route_code, trace_code};
 
@@ -6,11 +7,11 @@ use crate::{Route, Trace};
 use words::Refusal;
 
 // What stands above the place of a refusal, above both values of an answer, and above its second value.
-const REFUSALS: u64 = 281474976710656;
+const REFUSALS: u64 = 1 << 48;
 
-const KINDS: u64 = 1099511627776;
+const KINDS: u64 = 1 << 40;
 
-const HIGH: u64 = 4294967296;
+const HIGH: u64 = 1 << 32;
 
 // The kinds of an answer to a global number.
 pub(crate) const ARRIVES: u8 = 0;
@@ -18,6 +19,17 @@ pub(crate) const ARRIVES: u8 = 0;
 pub(crate) const UNWIRED: u8 = 1;
 
 pub(crate) const NO_OWNER: u8 = 2;
+
+// The kinds of an answer to a core vector and a number.
+const NOTHING: u8 = 0;
+
+const LIO_INPUT: u8 = 1;
+
+const BIO_INPUT: u8 = 2;
+
+const LPC_CASCADE: u8 = 3;
+
+const MSI_SLOT: u8 = 4;
 
 // A refusal as a number.
 pub fn refusal_code(refusal: Refusal) -> u64
@@ -34,28 +46,29 @@ fn coded_as(kind: u8, high: u8, low: u32) -> u64
 }
 
 // The answer to a global number as a number.
-pub fn route_code(route: Route) -> u64
+#[tactic(auto, unfolding(crate::specs::Answers::route_code, crate::specs::Answers::in_numbers))]
+pub fn route_code(route: Result<Route, Refusal>) -> u64
     ensures { result ≡ route_code route }
 {
     match route {
-        Route::Arrives(vector, number) => coded_as(ARRIVES, vector, number),
-        Route::Unwired => coded_as(UNWIRED, 0, 0),
-        Route::NoOwner => coded_as(NO_OWNER, 0, 0),
-        Route::Refused(refusal) => refusal_code(refusal),
+        Ok(Route::Arrives(vector, number)) => coded_as(ARRIVES, vector, number),
+        Ok(Route::Unwired) => coded_as(UNWIRED, 0, 0),
+        Ok(Route::NoOwner) => coded_as(NO_OWNER, 0, 0),
+        Err(refusal) => refusal_code(refusal),
     }
 }
 
-// The answer to a core vector and a number as a number: kind 0 nothing, 1 LIO input, 2 BIO input, 3 LPC cascade input, 4 MSI
-// slot.
-pub fn trace_code(trace: Trace) -> u64
+// The answer to a core vector and a number as a number.
+#[tactic(auto, unfolding(crate::specs::Answers::trace_code))]
+pub fn trace_code(trace: Result<Trace, Refusal>) -> u64
     ensures { result ≡ trace_code trace }
 {
     match trace {
-        Trace::Nothing => coded_as(0, 0, 0),
-        Trace::LioInput(number) => coded_as(1, 0, number),
-        Trace::BioInput(number) => coded_as(2, 0, number),
-        Trace::LpcCascade(number) => coded_as(3, 0, number),
-        Trace::MsiSlot(node, slot) => coded_as(4, node, slot),
-        Trace::Refused(refusal) => refusal_code(refusal),
+        Ok(Trace::Nothing) => coded_as(NOTHING, 0, 0),
+        Ok(Trace::LioInput(number)) => coded_as(LIO_INPUT, 0, number),
+        Ok(Trace::BioInput(number)) => coded_as(BIO_INPUT, 0, number),
+        Ok(Trace::LpcCascade(number)) => coded_as(LPC_CASCADE, 0, number),
+        Ok(Trace::MsiSlot(node, slot)) => coded_as(MSI_SLOT, node, slot),
+        Err(refusal) => refusal_code(refusal),
     }
 }

@@ -3,7 +3,6 @@
 #![tactic(auto)]
 
 use kinds::{Bio, Eio, Ht, Lio, Lpc, Msi};
-use words::Refusal;
 
 mod hubs; // what bridges and slots land on: the HT, or the EIO
 pub mod routes; // where a global number arrives
@@ -19,7 +18,8 @@ mod at_once; // the answers to a list of numbers
 pub const MOST: u8 = 4;
 
 // A map: the used fields of each structure in table order, and the SCI number. Entries from the count on are unused, and so
-// is what an absent LIO, HT or LPC or an unused half holds: nothing looks at them.
+// is what an absent LIO, HT or LPC or an unused half holds: nothing looks at them. Arrays with a count each, and no lists: a map is handed
+// on by value (document 01 fixes that), and there is no heap. `Map::eios` and its like give the entries in use.
 #[derive(Clone, Copy)]
 pub struct Map {
     pub lio: Lio,
@@ -35,28 +35,26 @@ pub struct Map {
 }
 
 // The answer to a global number: it arrives at a core vector with a number, or it is unwired, or it has no owner.
-#[derive(Clone, Copy)]
+#[derive(Clone, Copy, Debug, PartialEq, Eq)]
 pub enum Route {
     Arrives(u8, u32),
     Unwired,
     NoOwner,
-    Refused(Refusal),
 }
 
 // The answer to a core vector and a number: nothing; the global number of a LIO input, of a BIO input, or of the input that
 // the LPC lines share, which is never told as a BIO input; or the node and the slot of an MSI.
-#[derive(Clone, Copy)]
+#[derive(Clone, Copy, Debug, PartialEq, Eq)]
 pub enum Trace {
     Nothing,
     LioInput(u32),
     BioInput(u32),
     LpcCascade(u32),
     MsiSlot(u8, u32),
-    Refused(Refusal),
 }
 
 // Whose a global number is: the LPC's, an input of the LIO, an input of the BIO of a node, or nobody's.
-#[derive(Clone, Copy)]
+#[derive(Clone, Copy, PartialEq, Eq)]
 pub enum Owner {
     LpcInput,
     LioInput(u32),
@@ -64,7 +62,8 @@ pub enum Owner {
     Nobody,
 }
 
-// Where each structure of a map stands in the capture, in the same arrangement as the map.
+// Where each structure of a map stands in the capture, in the same arrangement as the map. Beside the map and not in it: where its
+// structures stand is no part of a map (`SameAnswers`, `PlacesDoNotMatter`).
 #[derive(Clone, Copy)]
 pub struct Places {
     pub lio: u32,

@@ -1,46 +1,15 @@
 // The rules that a map must keep from 38 on, 34 among them, each in the documents' words, and their order: the lowest line that
 // applies wins. A map comes with the places of its structures in the table; one that has none is given places of its own, since
 // whether a rule is broken does not hang on them.
-ghost use Rattle.std.specs.Prelude.{◌≡◌, [], ◌∷◌, ℕ, ◌≤◌};
-ghost use Rattle.words.specs.Refusals.{rule, unless, first_refusal, is_sound};
-ghost use Rattle.words.specs.declared.Verdict.TheVariants.{Refused};
+ghost use Rattle.std.specs.Prelude.{◌≡◌, [], ◌∷◌, ℕ, find, Err};
+ghost use Rattle.words.specs.Refusals.{first_refusal};
+ghost use Rattle.parts.specs.Inputs.{is_bridge};
 ghost use Rattle.lines.specs.Says.{says};
 ghost use Rattle.lines.specs.Rules.{too_many, both_kinds, rule40, rule43, rule44, rule45, rule54, map_rules, first_broken, slot_places};
 
 use crate::{MOST, Map, Places, Route};
-use words::Verdict;
-
-// ---- verdicts
-
-// A rule that is broken at a known place, or kept.
-pub(crate) fn rule_of(broken: bool, number: u8, place: u32) -> Verdict
-    ensures { result ≡ rule broken number place }
-{
-    if broken {
-        return Verdict::Refused(words::refuse(number, place));
-    }
-    Verdict::Sound
-}
-
-// The first of two verdicts that refuses.
-pub(crate) fn or_else(first: Verdict, second: Verdict) -> Verdict
-    ensures { result ≡ unless Refused first second }
-{
-    match first {
-        Verdict::Sound => second,
-        Verdict::Refused(refusal) => Verdict::Refused(refusal),
-    }
-}
-
-// Whether no rule is broken.
-pub(crate) fn is_sound(verdict: Verdict) -> bool
-    ensures { result ≡ is_sound verdict }
-{
-    match verdict {
-        Verdict::Sound => true,
-        Verdict::Refused(_) => false,
-    }
-}
+use kinds::Bio;
+use words::Refusal;
 
 // Places for a map that comes with none.
 pub(crate) fn slot_places() -> Places
@@ -61,118 +30,119 @@ pub(crate) fn slot_places() -> Places
 
 impl Map {
     // 38: one too many of its kind.
-    pub(crate) fn too_many(self) -> bool
-        ensures { result ≡ too_many self }
+    pub(crate) fn too_many(&self) -> bool
+        ensures { result ≡ too_many self.now }
     {
         (MOST < self.eiocount) | (MOST < self.biocount) | (MOST < self.msicount)
     }
 
     // 34: both an HT and an EIO.
-    pub(crate) fn both_kinds(self) -> bool
-        requires { self.eiocount ≤ 4 }
-        ensures { result ≡ both_kinds (says self) }
+    #[tactic(auto, using(kinds::proofs::Used::ht_present))]
+    pub(crate) fn both_kinds(&self) -> bool
+        ensures { result ≡ both_kinds (says self.now) }
     {
-        let ht = self.ht;
-        ht.present & (self.eiocount != 0)
+        self.ht.present & !self.eios().is_empty()
     }
 
     // 40: no LIO, or neither EIO nor HT. (No enabled CORE is the reading's.)
-    fn rule_40(self, madt: u32) -> Verdict
-        requires { self.eiocount ≤ 4 }
-        ensures { result ≡ rule40 (says self) madt }
+    #[tactic(auto, using(crate::proofs::Landing::hubs_counted, kinds::proofs::Used::lio_present, kinds::proofs::Used::ht_present))]
+    fn rule_40(&self, madt: u32) -> Result<(), Refusal>
+        ensures { result ≡ rule40 (says self.now) madt }
     {
-        let lio = self.lio;
-        let ht = self.ht;
-        rule_of(
-            !lio.present | (!ht.present & (self.eiocount == 0)),
+        words::rule(
+            !self.lio.present | (!self.ht.present & self.eios().is_empty()),
             40,
             madt,
         )
     }
 
     // 44: the HT names an input that is not wired.
-    fn rule_44(self, place: u32) -> Verdict
-        ensures { result ≡ rule44 (says self) place }
+    fn rule_44(&self, place: u32) -> Result<(), Refusal>
+        ensures { result ≡ rule44 (says self.now) place }
     {
         let broken = parts::names_unwired(kinds::said_lio(self.lio), kinds::said_ht(self.ht));
-        rule_of(broken, 44, place)
+        words::rule(broken, 44, place)
     }
 
-    // 43: no BIO is the LPC's bridge. 45: its bridge has no input of its cascade. What 44 says, which stands between them, is known.
-    fn lpc_rules(self, place: u32, from44: Verdict) -> Verdict
-        requires { self.biocount ≤ 4 }
-        ensures { result ≡ unless Refused (rule43 (says self) place) (unless Refused from44 (rule45 (says self) place)) }
+    // The LPC's bridge: the first BIO of its node.
+    fn bridge(&self) -> Option<Bio>
+        ensures { result ≡ find (is_bridge self.now.lpc) (says self.now).bios }
     {
-        let bios = self.bios;
         let lpc = self.lpc;
-        let n = self.biocount as usize;
+        self.bios()
+            .iter()
+            .copied()
+            .find(|b| parts::is_bridge(lpc, *b))
+    }
+
+    // 43: no BIO is the LPC's bridge. 44, at the HT. 45: the bridge has no input of the LPC's cascade. One search of it tells both.
+    #[tactic(auto, using(crate::proofs::Bridges::absent, crate::proofs::Bridges::present), unfolding(words::specs::Refusals::unless, words::specs::Refusals::first_refusal))]
+    fn lpc_rules(&self, place: u32, ht: u32) -> Result<(), Refusal>
+        ensures { let said = says self.now in result ≡ first_refusal (rule43 said place ∷ rule44 said ht ∷ rule45 said place ∷ []) }
+    {
+        let lpc = self.lpc;
         if !lpc.present {
-            return from44;
+            return self.rule_44(ht);
         }
-        let mut i = 0;
-        while i < n {
-            let b = bios[i];
-            if parts::is_bridge(lpc, b) {
-                return or_else(from44, rule_of(b.pins <= lpc.cascade, 45, place));
-            }
-            i += 1;
-        }
-        Verdict::Refused(words::refuse(43, place))
+        let Some(bridge) = self.bridge() else {
+            return Err(words::refuse(43, place));
+        };
+        self.rule_44(ht)?;
+        words::rule(bridge.pins <= lpc.cascade, 45, place)
     }
 
     // 54: SCI_INT doesn't arrive.
-    fn rule_54(self, fadt: u32) -> Verdict
-        ensures { result ≡ rule54 (says self) fadt }
+    fn rule_54(&self, fadt: u32) -> Result<(), Refusal>
+        ensures { result ≡ rule54 (says self.now) fadt }
     {
         let Route::Arrives(_, _) = self.arrival(self.sci as u32) else {
-            return Verdict::Refused(words::refuse(54, fadt));
+            return Err(words::refuse(54, fadt));
         };
-        Verdict::Sound
+        Ok(())
     }
 
-    // The first broken rule from 40 on, of a map that breaks none of 41, 42 and 51 to 53. What 54 says is known.
-    fn first_of_quiet(self, lpc: u32, ht: u32, madt: u32, from54: Verdict) -> Verdict
-        requires { (self.eiocount ≤ 4) × (self.biocount ≤ 4) }
-        ensures { result ≡ first_refusal (rule40 (says self) madt ∷ rule43 (says self) lpc ∷ rule44 (says self) ht ∷ rule45 (says self) lpc ∷ from54 ∷ []) }
+    // The first broken rule from 40 on, of a map that breaks none of 41, 42 and 51 to 53.
+    #[tactic(auto, unfolding(words::specs::Refusals::unless, words::specs::Refusals::first_refusal))]
+    fn first_of_quiet(&self, lpc: u32, ht: u32, madt: u32, fadt: u32) -> Result<(), Refusal>
+        ensures { let said = says self.now in result ≡ first_refusal (rule40 said madt ∷ rule43 said lpc ∷ rule44 said ht ∷ rule45 said lpc ∷ rule54 said fadt ∷ []) }
     {
-        let from43 = or_else(self.lpc_rules(lpc, self.rule_44(ht)), from54);
-        or_else(self.rule_40(madt), from43)
+        self.rule_40(madt)?;
+        self.lpc_rules(lpc, ht)?;
+        self.rule_54(fadt)
     }
 
-    // The first broken rule from 40 on, by a search of all claims. What 54 says is known.
-    fn first_by_search(self, places: Places, madt: u32, from54: Verdict) -> Verdict
-        requires { (self.eiocount ≤ 4) × (self.biocount ≤ 4) × (self.msicount ≤ 4) }
-        ensures { (fadt : ℕ) → from54 ≡ rule54 (says self) fadt → result ≡ first_refusal (map_rules (says self) places madt fadt) }
+    // The first broken rule from 40 on, by a search of all claims.
+    #[tactic(auto, unfolding(crate::specs::Rules::map_rules, crate::specs::Rules::rules_to_45, crate::specs::Rules::rules_from_51, words::specs::Refusals::unless, words::specs::Refusals::first_refusal))]
+    fn first_by_search(&self, places: Places, madt: u32, fadt: u32) -> Result<(), Refusal>
+        ensures { result ≡ first_refusal (map_rules (says self.now) places madt fadt) }
     {
-        let from53 = or_else(clashes::at_both(53, self.first_clash(places, 53)), from54);
-        let from52 = or_else(clashes::at_both(52, self.first_clash(places, 52)), from53);
-        let from51 = or_else(clashes::at_both(51, self.first_clash(places, 51)), from52);
-        let from43 = or_else(self.lpc_rules(places.lpc, self.rule_44(places.ht)), from51);
-        let from42 = or_else(clashes::at_spot(42, self.first_lone(places)), from43);
-        let from41 = or_else(clashes::at_later(41, self.first_clash(places, 41)), from42);
-        or_else(self.rule_40(madt), from41)
+        self.rule_40(madt)?;
+        clashes::at_later(41, self.first_clash(places, 41))?;
+        clashes::at_spot(42, self.first_lone(places))?;
+        self.lpc_rules(places.lpc, places.ht)?;
+        clashes::at_both(51, self.first_clash(places, 51))?;
+        clashes::at_both(52, self.first_clash(places, 52))?;
+        clashes::at_both(53, self.first_clash(places, 53))?;
+        self.rule_54(fadt)
     }
 
     // The first broken rule from 40 on.
-    fn first_from_40(self, places: Places, madt: u32, fadt: u32) -> Verdict
-        requires { (self.eiocount ≤ 4) × (self.biocount ≤ 4) × (self.msicount ≤ 4) }
-        ensures { result ≡ first_refusal (map_rules (says self) places madt fadt) }
+    fn first_from_40(&self, places: Places, madt: u32, fadt: u32) -> Result<(), Refusal>
+        ensures { result ≡ first_refusal (map_rules (says self.now) places madt fadt) }
     {
-        let from54 = self.rule_54(fadt);
         if self.is_quiet() {
-            return self.first_of_quiet(places.lpc, places.ht, madt, from54);
+            return self.first_of_quiet(places.lpc, places.ht, madt, fadt);
         }
-        self.first_by_search(places, madt, from54)
+        self.first_by_search(places, madt, fadt)
     }
 
     // The first broken rule of a map from 38 on, at the place of the structure that is named, and with its partner's for 51 to 53. A
     // walk refuses 38 at the structure itself; for a map that has too many the place is the MADT's.
-    pub fn first_broken(self, places: Places, madt: u32, fadt: u32) -> Verdict
+    #[tactic(auto, unfolding(crate::specs::Rules::first_broken, words::specs::Refusals::unless, words::specs::Refusals::first_refusal))]
+    pub fn first_broken(self, places: Places, madt: u32, fadt: u32) -> Result<(), Refusal>
         ensures { result ≡ first_broken self places madt fadt }
     {
-        if self.too_many() {
-            return Verdict::Refused(words::refuse(38, madt));
-        }
+        words::rule(self.too_many(), 38, madt)?;
         self.first_from_40(places, madt, fadt)
     }
 }

@@ -1,32 +1,35 @@
 // Tracing back: what arrives at a core vector with a number (document 01, "Where a line arrives"). Nothing here asks whether
 // the map keeps the rules: `Map::traced` is for callers that know it, and `Map::trace`, with 61 first, for all others.
-ghost use Rattle.std.specs.Prelude.{◌≡◌, true, false, not, ◌&&◌, ◌||◌, ◌<◌, ◌≤◌, take};
+ghost use Rattle.std.specs.Prelude.{◌≡◌, true, false, not, ◌&&◌, ◌||◌, ◌<◌, find, nat_eq};
 ghost use Rattle.lines.specs.Says.{says};
-ghost use Rattle.parts.specs.Inputs.{leads, is_named};
+ghost use Rattle.parts.specs.Inputs.{leads, is_named, has_slot, has_pin};
 ghost use Rattle.lines.specs.Traces.{slot_told, is_lpc_pin, pin_told, landed, hub_traced, traced};
 
 use crate::hubs::{HT_ABOVE, HT_NODE};
-use crate::routes::{LIO_FIRST, used};
+use crate::routes::LIO_FIRST;
 use crate::{Map, Trace};
-use kinds::{Bio, Ht, Lio, Lpc, Msi};
+use kinds::{Bio, Eio, Ht, Lio, Lpc, Msi};
+
+// The first MSI that has a slot.
+fn msi_with(msis: &[Msi], slot: u32) -> Option<Msi>
+    ensures { result ≡ find (has_slot slot) msis.now }
+{
+    msis.iter().copied().find(|m| parts::has_slot(*m, slot))
+}
 
 // The slot on the hub of a node, if an MSI has it.
-fn slot_told(msis: [Msi; 4], n: usize, node: u8, slot: u32) -> Trace
-    requires { n ≤ 4 }
-    ensures { result ≡ slot_told (take n msis) node slot }
+#[tactic(auto, using(words::proofs::Searches::first_find), unfolding(crate::specs::Traces::slot_told))]
+fn slot_told(msis: &[Msi], node: u8, slot: u32) -> Trace
+    ensures { result ≡ slot_told msis.now node slot }
 {
-    let mut i = 0;
-    while i < n {
-        let m = msis[i];
-        if parts::has_slot(m, slot) {
-            return Trace::MsiSlot(node, slot);
-        }
-        i += 1;
+    match msi_with(msis, slot) {
+        Some(_) => Trace::MsiSlot(node, slot),
+        None => Trace::Nothing,
     }
-    Trace::Nothing
 }
 
 // Whether input v of a BIO is the one that the LPC lines share.
+#[tactic(auto, unfolding(crate::specs::Traces::is_lpc_pin))]
 fn is_lpc_pin(lpc: Lpc, bio: Bio, v: u32) -> bool
     ensures { result ≡ is_lpc_pin lpc bio v }
 {
@@ -34,6 +37,7 @@ fn is_lpc_pin(lpc: Lpc, bio: Bio, v: u32) -> bool
 }
 
 // What input v of a BIO is told as.
+#[tactic(auto, using(words::proofs::Choices::by_tests), unfolding(crate::specs::Traces::pin_told))]
 fn pin_told(lpc: Lpc, bio: Bio, v: u32) -> Trace
     requires { v < bio.pins }
     ensures { result ≡ pin_told lpc v bio }
@@ -49,55 +53,58 @@ fn pin_told(lpc: Lpc, bio: Bio, v: u32) -> Trace
 fn led_by_lio(lio: Lio, ht: Ht, vector: u32, i: u32) -> bool
     ensures { result ≡ ((leads lio.low vector i || leads lio.high vector i) && not (is_named ht i)) }
 {
-    let low = lio.low;
-    let high = lio.high;
-    if parts::half_leads(low, vector, i) | parts::half_leads(high, vector, i) {
-        return !parts::is_named(ht, i);
-    }
-    false
+    (parts::half_leads(lio.low, vector, i) | parts::half_leads(lio.high, vector, i))
+        && !parts::is_named(ht, i)
 }
 
 impl Map {
-    // What lands on a vector of the hub of a node.
-    fn landed(self, node: u8, vector: u32) -> Trace
-        ensures { result ≡ landed (says self) node vector }
+    // The first BIO with an input on a vector of the hub of a node.
+    fn bio_on(&self, node: u8, vector: u32) -> Option<Bio>
+        ensures { result ≡ find (has_pin node vector) (says self.now).bios }
     {
-        let bios = self.bios;
-        let msis = self.msis;
-        let n = used(self.biocount);
-        let mut i = 0;
-        while i < n {
-            let b = bios[i];
-            if parts::has_pin(b, node, vector) {
-                return pin_told(kinds::said_lpc(self.lpc), b, vector);
-            }
-            i += 1;
+        self.bios()
+            .iter()
+            .copied()
+            .find(|b| parts::has_pin(*b, node, vector))
+    }
+
+    // What lands on a vector of the hub of a node.
+    #[tactic(auto, using(words::proofs::Searches::by_find, parts::proofs::Inputs::pin_small), unfolding(crate::specs::Traces::landed))]
+    fn landed(&self, node: u8, vector: u32) -> Trace
+        ensures { result ≡ landed (says self.now) node vector }
+    {
+        match self.bio_on(node, vector) {
+            Some(bio) => pin_told(kinds::said_lpc(self.lpc), bio, vector),
+            None => slot_told(self.msis(), node, vector),
         }
-        slot_told(msis, used(self.msicount), node, vector)
+    }
+
+    // The first EIO that enters a core vector.
+    fn eio_into(&self, vector: u32) -> Option<Eio>
+        ensures { result ≡ find (λ e. nat_eq e.cascade vector) (says self.now).eios }
+    {
+        self.eios()
+            .iter()
+            .copied()
+            .find(|e| e.cascade as u32 == vector)
     }
 
     // What enters a core vector by an EIO with a number, where there is no HT.
-    fn eio_traced(self, vector: u32, number: u32) -> Trace
-        requires { self.ht.present ≡ false }
-        ensures { result ≡ hub_traced (says self) vector number }
+    #[tactic(auto, using(crate::proofs::Landing::eios_traced))]
+    fn eio_traced(&self, vector: u32, number: u32) -> Trace
+        requires { self.now.ht.present ≡ false }
+        ensures { result ≡ hub_traced (says self.now) vector number }
     {
-        let eios = self.eios;
-        let n = used(self.eiocount);
-        let mut i = 0;
-        while i < n {
-            let e = eios[i];
-            if e.cascade as u32 == vector {
-                return self.landed(e.node, number);
-            }
-            i += 1;
+        match self.eio_into(vector) {
+            Some(eio) => self.landed(eio.node, number),
+            None => Trace::Nothing,
         }
-        Trace::Nothing
     }
 
     // What comes by the HT to a core vector with a number, where there is one.
-    fn ht_traced(self, vector: u32, number: u32) -> Trace
-        requires { self.ht.present ≡ true }
-        ensures { result ≡ hub_traced (says self) vector number }
+    fn ht_traced(&self, vector: u32, number: u32) -> Trace
+        requires { self.now.ht.present ≡ true }
+        ensures { result ≡ hub_traced (says self.now) vector number }
     {
         if number < HT_ABOVE {
             return Trace::Nothing;
@@ -111,6 +118,7 @@ impl Map {
     }
 
     // What arrives at a core vector with a number in a map that is known to keep the rules.
+    #[tactic(auto, using(words::proofs::Choices::by_tests, kinds::proofs::Used::ht_present, parts::proofs::Inputs::leads_small), unfolding(crate::specs::Traces::traced, crate::specs::Traces::led_by_lio))]
     pub fn traced(self, vector: u32, number: u32) -> Trace
         ensures { result ≡ traced (says self) vector number }
     {

@@ -11,9 +11,7 @@ use borrow.Author.Tests.{eqb-true, leb-false}
 use lib.Dec.{leb}
 use Rattle.words.specs.Bytes.{byte_at, part_at}
 use Rattle.words.specs.Lists.{those}
-use Rattle.words.specs.Refusals.{unless, first_refusal}
-use Rattle.words.specs.declared.Verdict.{Verdict}
-use Rattle.words.specs.declared.Verdict.TheVariants.{Sound, Refused}
+use Rattle.words.specs.Refusals.{Verdict, unless, first_refusal}
 use Rattle.words.proofs.Choices.{if_cases}
 use Rattle.words.proofs.Verdicts.{not_sound, first_sound, joined_kept, unless_sound, unless-told}
 use Rattle.words.proofs.Tests.{both_left}
@@ -22,15 +20,17 @@ use Rattle.words.proofs.Those.{those_narrower}
 use Rattle.tables.specs.Structures.{step_at}
 use Rattle.tables.specs.declared.Step.{Step}
 use Rattle.tables.specs.declared.Step.TheVariants.{End, Structure, Broken}
+use Rattle.words.specs.declared.Refusal.{Refusal}
 use Rattle.madt.specs.Pieces.{Piece, whole, cut, Whole, piece_at, pieces_from, pieces, structures}
 use Rattle.madt.specs.Rules.{is_type, structure_rules}
 use Rattle.madt.specs.Contents.{of_type, how_many, is_enabled_core, enabled_cores, offsets_of, found_in}
-use Rattle.madt.specs.Walk.{rules_in_turn, gives_both, kind_rules, walk_rules, turned_away, walked}
+use Rattle.madt.specs.Walk.{rules_in_turn, gives_both, kind_rules, walk_rules, turned_away, Walked, walked, walk}
 use Rattle.madt.specs.Noting.{taken_in_turn, taken}
-use Rattle.madt.specs.declared.Walked.{Walked}
+use Rattle.madt.specs.declared.Found.{Found}
 use Rattle.madt.proofs.Pieces.{step_inside, step_length}
 use Rattle.madt.proofs.Contents.{count_more, count_same}
 use Rattle.madt.proofs.Checks.{Kept, all_kept, length_core, room_core, room_lio, room_eio, room_msi, room_bio, room_lpc}
+use Rattle.std.specs.Prelude.{Result, Ok, Err}
 
 -- ---- what it found
 -- its verdict is the first refusal of its rules
@@ -38,19 +38,46 @@ pub walk_verdict : (table : List ℕ) (base sci : ℕ) (pins : ℕ → ℕ) → 
 unfolding walked turned_away
 walk_verdict table base sci pins = unless-told turned_away (λ w. w.verdict) (λ r. refl) _ _ refl
 
-stands : (v : Verdict) (w : Walked) → (unless turned_away v w).verdict ≡ Sound → (v ≡ Sound) × (unless turned_away v w ≡ w)
+stands : (v : Verdict) (w : Walked) → (unless turned_away v w).verdict ≡ Ok tt → (v ≡ Ok tt) × (unless turned_away v w ≡ w)
 unfolding unless turned_away
-stands Sound w h = (refl, refl)
-stands (Refused r) w h = not_sound h
+stands (Ok tt) w h = (refl, refl)
+stands (Err r) w h = not_sound h
 
-module _ (table : List ℕ) (base sci : ℕ) (pins : ℕ → ℕ) (h : (walked table base sci pins).verdict ≡ Sound) where
-  pub rules_sound : first_refusal (walk_rules table base) ≡ Sound
+module _ (table : List ℕ) (base sci : ℕ) (pins : ℕ → ℕ) (h : (walked table base sci pins).verdict ≡ Ok tt) where
+  pub rules_sound : first_refusal (walk_rules table base) ≡ Ok tt
   unfolding walked
   rules_sound = (stands _ _ h).0
 
   pub found_is : (walked table base sci pins).found ≡ found_in base sci pins (structures (pieces table 44))
   unfolding walked
   found_is = ap (λ (w : Walked). w.found) (stands _ _ h).1
+
+-- ---- the walk as the program answers it
+-- what an answer tells
+unfoldable told : Result Found Refusal → Walked
+told (Ok found) = record { verdict = Ok tt; found = found }
+told (Err refusal) = turned_away refusal
+
+told_unless : (v : Verdict) (f : Found) → told (unless Err v (Ok f)) ≡ unless turned_away v (record { verdict = Ok tt; found = f })
+unfolding told unless
+told_unless (Ok tt) f = refl
+told_unless (Err r) f = refl
+
+module _ (table : List ℕ) (base sci : ℕ) (pins : ℕ → ℕ) where
+  -- it is the walk
+  walk-told : told (walk table base sci pins) ≡ walked table base sci pins
+  unfolding walk walked
+  walk-told = told_unless (first_refusal (walk_rules table base)) _
+
+  -- so of each answer
+  pub walk-refused : {refusal : Refusal} → walk table base sci pins ≡ Err refusal → (walked table base sci pins).verdict ≡ Err refusal
+  unfolding told turned_away
+  walk-refused h = ap (λ (w : Walked). w.verdict) (sym walk-told ∙ ap told h)
+
+  pub walk_found : {found : Found} → walk table base sci pins ≡ Ok found
+      → ((walked table base sci pins).verdict ≡ Ok tt) × ((walked table base sci pins).found ≡ found)
+  unfolding told
+  walk_found h = let e = sym walk-told ∙ ap told h in (ap (λ (w : Walked). w.verdict) e, ap (λ (w : Walked). w.found) e)
 
 -- ---- the structures in turn
 -- past the end of a list of structures there is none
@@ -59,15 +86,15 @@ no_whole = record { at = 0; bytes = [] }
 
 module _ (base : ℕ) where
   -- the rules of the first structure, and of those behind it
-  in_turn : (before : List Whole) (at : ℕ) (s : List ℕ) (later : List Piece) → first_refusal (rules_in_turn base before (whole at s ∷ later)) ≡ Sound
-      → Kept (how_many (byte_at s 0) before) s × (first_refusal (rules_in_turn base (before ++ (record { at = at; bytes = s } ∷ [])) later) ≡ Sound)
+  in_turn : (before : List Whole) (at : ℕ) (s : List ℕ) (later : List Piece) → first_refusal (rules_in_turn base before (whole at s ∷ later)) ≡ Ok tt
+      → Kept (how_many (byte_at s 0) before) s × (first_refusal (rules_in_turn base (before ++ (record { at = at; bytes = s } ∷ [])) later) ≡ Ok tt)
   unfolding rules_in_turn
   in_turn before at s later h =
       let b = joined_kept (structure_rules (base + at) (how_many (byte_at s 0) before) s) _ h in
       (all_kept _ _ _ b.0, b.1)
 
   -- each structure keeps the rules, after so many of its kind
-  pub each_kept : (before : List Whole) (ps : List Piece) → first_refusal (rules_in_turn base before ps) ≡ Sound → (i : ℕ) → i < length (structures ps)
+  pub each_kept : (before : List Whole) (ps : List Piece) → first_refusal (rules_in_turn base before ps) ≡ Ok tt → (i : ℕ) → i < length (structures ps)
       → (n : ℕ) × Kept n (get_or (structures ps) i no_whole).bytes
   unfolding structures
   each_kept before [] h i l = absurd (omega arith)
@@ -76,7 +103,7 @@ module _ (base : ℕ) where
   each_kept before (whole at s ∷ ps) h (suc i) l = each_kept _ ps (in_turn before at s ps h).1 i (omega arith)
 
   -- all are taken
-  taken_in_turn_lem : (before : List Whole) (ps : List Piece) → first_refusal (rules_in_turn base before ps) ≡ Sound → taken_in_turn base before ps ≡ structures ps
+  taken_in_turn_lem : (before : List Whole) (ps : List Piece) → first_refusal (rules_in_turn base before ps) ≡ Ok tt → taken_in_turn base before ps ≡ structures ps
   unfolding taken_in_turn structures rules_in_turn
   taken_in_turn_lem before [] h = refl
   taken_in_turn_lem before (cut at ∷ ps) h = refl
@@ -99,7 +126,7 @@ module _ (base : ℕ) where
             rw (count_more number before x t) (omega arith)
         go false t = rw (count_same number before x t) few
 
-    few_in_turn : (before : List Whole) (ps : List Piece) → how_many number before ≤ most → first_refusal (rules_in_turn base before ps) ≡ Sound
+    few_in_turn : (before : List Whole) (ps : List Piece) → how_many number before ≤ most → first_refusal (rules_in_turn base before ps) ≡ Ok tt
         → how_many number (before ++ structures ps) ≤ most
     unfolding structures
     few_in_turn before [] few h = rw append-nil few
@@ -140,7 +167,7 @@ kind_more before x h k = go (is_type 19 s) (is_type 20 s) refl refl h
     go false false t e h =
         (omega (arith, count_same 19 before x t, k.0), λ l. count_same 20 before x e ∙ k.1 (omega (arith, count_same 19 before x t)))
 
-one_kind_of : (base : ℕ) (before all : List Whole) → first_refusal (kind_rules base before all) ≡ Sound → OneKind before → OneKind (before ++ all)
+one_kind_of : (base : ℕ) (before all : List Whole) → first_refusal (kind_rules base before all) ≡ Ok tt → OneKind before → OneKind (before ++ all)
 unfolding kind_rules
 one_kind_of base before [] h k = rw append-nil k
 one_kind_of base before (x ∷ all) h k =
@@ -148,16 +175,16 @@ one_kind_of base before (x ∷ all) h k =
     rw (sym (append_assoc before (x ∷ []) all)) (one_kind_of base (before ++ (x ∷ [])) all here.1 (kind_more before x here.0 k))
 
 -- ---- "At most 256 CORE, 1 LIO, 4 EIO, 4 BIO, 4 MSI, 1 LPC"
-module _ (table : List ℕ) (base : ℕ) (h : first_refusal (walk_rules table base) ≡ Sound) where
+module _ (table : List ℕ) (base : ℕ) (h : first_refusal (walk_rules table base) ≡ Ok tt) where
   abbrev all : List Whole
   all = structures (pieces table 44)
 
   -- neither the rules in turn nor 34 refuse anything
-  pub both_sound : (first_refusal (rules_in_turn base [] (pieces table 44)) ≡ Sound) × (first_refusal (kind_rules base [] all) ≡ Sound)
+  pub both_sound : (first_refusal (rules_in_turn base [] (pieces table 44)) ≡ Ok tt) × (first_refusal (kind_rules base [] all) ≡ Ok tt)
   unfolding walk_rules
   both_sound = joined_kept (rules_in_turn base [] (pieces table 44)) _ h
 
-  in_turn_sound : first_refusal (rules_in_turn base [] (pieces table 44)) ≡ Sound
+  in_turn_sound : first_refusal (rules_in_turn base [] (pieces table 44)) ≡ Ok tt
   in_turn_sound = both_sound.0
 
   few_of : (number most : ℕ) → ((n : ℕ) (s : List ℕ) → Kept n s → byte_at s 0 ≡ number → n < most) → how_many number all ≤ most
@@ -218,8 +245,8 @@ module _ (table : List ℕ) where
 
   module _ (base : ℕ) where
     fifteen_at : (before : List Whole) (at : ℕ) (step : Step) (later : ℕ → List Piece) → step_at table at ≡ step
-        → ((size : ℕ) (before : List Whole) → first_refusal (rules_in_turn base before (later size)) ≡ Sound → Fifteen (enabled_cores (structures (later size))))
-        → first_refusal (rules_in_turn base before (piece_at table at step later)) ≡ Sound → Fifteen (enabled_cores (structures (piece_at table at step later)))
+        → ((size : ℕ) (before : List Whole) → first_refusal (rules_in_turn base before (later size)) ≡ Ok tt → Fifteen (enabled_cores (structures (later size))))
+        → first_refusal (rules_in_turn base before (piece_at table at step later)) ≡ Ok tt → Fifteen (enabled_cores (structures (piece_at table at step later)))
     unfolding enabled_cores structures those piece_at
     fifteen_at before at End later e rest h = refl
     fifteen_at before at Broken later e rest h = refl
@@ -230,12 +257,12 @@ module _ (table : List ℕ) where
         ∙ ap (λ (r : List (List ℕ)). part_at table at 15 ∷ r) (rest size _ t.1))
         (λ off. rest size _ t.1)
 
-    fifteen_from : (k : ℕ) (before : List Whole) (at : ℕ) → first_refusal (rules_in_turn base before (pieces_from k table at)) ≡ Sound
+    fifteen_from : (k : ℕ) (before : List Whole) (at : ℕ) → first_refusal (rules_in_turn base before (pieces_from k table at)) ≡ Ok tt
         → Fifteen (enabled_cores (structures (pieces_from k table at)))
     unfolding enabled_cores structures those pieces_from
     fifteen_from zero before at h = refl
     fifteen_from (suc k) before at h = fifteen_at before at (step_at table at) _ refl (λ size later. fifteen_from k later (at + size)) h
 
-    pub core_bytes : first_refusal (walk_rules table base) ≡ Sound → Fifteen (enabled_cores (structures (pieces table 44)))
+    pub core_bytes : first_refusal (walk_rules table base) ≡ Ok tt → Fifteen (enabled_cores (structures (pieces table 44)))
     unfolding pieces
     core_bytes h = fifteen_from (length table) [] 44 (in_turn_sound table base h)

@@ -1,40 +1,44 @@
 -- What the rules say of one structure: one law for each of 32 and 33 that is the first to be broken, one for each kind, and one for
 -- a structure that keeps them all.
-use mathlib.Core.Path.{◌≡◌, refl, sym, ◌∙◌}
+use mathlib.Core.Path.{◌≡◌, refl, sym, ◌∙◌, ap}
 use mathlib.Core.Bool.{Bool, true, false, not, or-false, true≢false}
 use mathlib.Core.List.{List, [], ◌∷◌}
 use Prim.Native.Nat.{ℕ, suc, ◌≤◌, ◌<◌}
 use native.Mathlib.Nat.{eq-or-lt_of_le}
 use native.Mathlib.Omega.{arith}
 use mathlib.Core.Logic.{⊎_elim}
-use lib.Dec.{eqb, leb}
+use lib.Dec.{leb}
+use Rattle.std.specs.Prelude.{Option, None, Some, is_none, Ok, Err}
+use Rattle.std.specs.Bool.{then_some}
+use Rattle.std.specs.Option.{option_or}
 use lib.ListN.{drop}
 use borrow.Author.Tests.{eq-eqb, ne_eqb, eqb-true, not-false, le-leb, leb-true, leb-false}
 use Rattle.words.specs.Bytes.{byte_at}
 use Rattle.words.specs.Choice.{if}
 use Rattle.words.specs.Lists.{every}
-use Rattle.words.specs.Refusals.{refused, rule, unless, first_refusal}
-use Rattle.words.specs.declared.Verdict.{Verdict}
-use Rattle.words.specs.declared.Verdict.TheVariants.{Sound, Refused}
+use Rattle.words.specs.Refusals.{Verdict, refused, rule, unless, first_refusal}
 use Rattle.words.proofs.Verdicts.{first_broken_lem, first_kept, first_sound}
 use Rattle.words.proofs.Tests.{both_left, both_right, neither_left}
 use Rattle.kinds.specs.Makers.{reserved_flags, core_of, lio_of, ht_of, eio_of, msi_of, bio_of, lpc_of}
 use Rattle.kinds.specs.Ranges.{cascade_fits, node_fits, nodes_fit, count_fits, end_fits, base_fits, input_fits, byte_fits, halves_fit, lio_field, ht_field, eio_field, msi_field, bio_field, lpc_field, bit_in_both}
-use Rattle.madt.specs.Rules.{is_type, by_type, is_known, length_of, wrong_length, wrong_version, wrong_flags, wrong_cascade, wrong_node, wrong_nodes, wrong_count, wrong_end, wrong_base, wrong_input, wrong_byte, shared_bit, one_too_many, structure_rules}
+use Rattle.madt.specs.Rules.{is_type, by_type, is_known, length_of, wrong_length, wrong_version, wrong_flags, wrong_cascade, wrong_node, wrong_nodes, wrong_count, wrong_end, wrong_base, wrong_input, wrong_byte, shared_bit, one_too_many, structure_rules, refused_by}
 use Rattle.madt.proofs.Types.{type_no, of_core, of_lio, of_ht_lem, of_eio_lem, of_msi, of_bio_lem, of_lpc, of_other}
+
+pub none_some : {n : ℕ} {X : Type 0} → ◌≡◌ {A = Option ℕ} None (Some n) → X
+none_some e = absurd (true≢false (ap is_none e))
 
 above : {n m : ℕ} → n ≤ m → (m ≡ n → ⊥) → suc n ≤ m
 above l h = ⊎_elim (λ e. absurd (h (sym e))) (λ k. k) (eq-or-lt_of_le l)
 
 -- ---- the tests
 module _ (s : List ℕ) where
-  pub length-wrong : is_known s ≡ true → (byte_at s 1 ≡ length_of s → ⊥) → wrong_length s ≡ true
+  pub length-wrong : {n : ℕ} → length_of s ≡ Some n → (byte_at s 1 ≡ n → ⊥) → wrong_length s ≡ true
   unfolding wrong_length
-  length-wrong k h = rw (k, ne_eqb (byte_at s 1) (length_of s) h)
+  length-wrong {n} k h = rw (k, ne_eqb (byte_at s 1) n h)
 
-  pub length_right : is_known s ≡ true → byte_at s 1 ≡ length_of s → wrong_length s ≡ false
+  pub length_right : {n : ℕ} → length_of s ≡ Some n → byte_at s 1 ≡ n → wrong_length s ≡ false
   unfolding wrong_length
-  length_right k h = rw (k, eq-eqb (byte_at s 1) (length_of s) h)
+  length_right {n} k h = rw (k, eq-eqb (byte_at s 1) n h)
 
   pub version-wrong : is_known s ≡ true → (byte_at s 2 ≡ 1 → ⊥) → wrong_version s ≡ true
   unfolding wrong_version
@@ -75,15 +79,18 @@ module _ (s : List ℕ) where
       t23 (omega arith)
 
   -- so a structure is of a known type exactly if its kind has a length
-  pub has_length : (length_of s ≡ 0 → ⊥) → is_known s ≡ true
+  pub length_unknown : is_known s ≡ false → length_of s ≡ None
   unfolding length_of
-  has_length h = go (is_known s) refl
+  length_unknown h = other_type h _ _ _ _ _ _ _ _
+
+  pub has_length : {n : ℕ} → length_of s ≡ Some n → is_known s ≡ true
+  has_length {n} h = go (is_known s) refl
     where
       go : (b : Bool) → is_known s ≡ b → is_known s ≡ true
       go true e = e
-      go false e = absurd (h (other_type e {A = ℕ} 15 23 21 13 19 17 15 0))
+      go false e = none_some (sym (length_unknown e) ∙ h)
 
-  pub no_length : length_of s ≡ 0 → is_known s ≡ false
+  pub no_length : length_of s ≡ None → is_known s ≡ false
   unfolding length_of
   no_length h = go (is_known s) refl
     where
@@ -91,47 +98,75 @@ module _ (s : List ℕ) where
       go false e = e
       go true e =
           absurd (one_of_seven e
-          (λ t. let z : 15 ≡ 0 = sym (of_core s _ _ _ _ _ _ _ _ t) ∙ h in omega arith)
-          (λ t. let z : 23 ≡ 0 = sym (of_lio s _ _ _ _ _ _ _ _ t) ∙ h in omega arith)
-          (λ t. let z : 21 ≡ 0 = sym (of_ht_lem s _ _ _ _ _ _ _ _ t) ∙ h in omega arith)
-          (λ t. let z : 13 ≡ 0 = sym (of_eio_lem s _ _ _ _ _ _ _ _ t) ∙ h in omega arith)
-          (λ t. let z : 19 ≡ 0 = sym (of_msi s _ _ _ _ _ _ _ _ t) ∙ h in omega arith)
-          (λ t. let z : 17 ≡ 0 = sym (of_bio_lem s _ _ _ _ _ _ _ _ t) ∙ h in omega arith)
-          (λ t. let z : 15 ≡ 0 = sym (of_lpc s _ _ _ _ _ _ _ _ t) ∙ h in omega arith))
+          (λ t. none_some (sym h ∙ of_core s _ _ _ _ _ _ _ _ t))
+          (λ t. none_some (sym h ∙ of_lio s _ _ _ _ _ _ _ _ t))
+          (λ t. none_some (sym h ∙ of_ht_lem s _ _ _ _ _ _ _ _ t))
+          (λ t. none_some (sym h ∙ of_eio_lem s _ _ _ _ _ _ _ _ t))
+          (λ t. none_some (sym h ∙ of_msi s _ _ _ _ _ _ _ _ t))
+          (λ t. none_some (sym h ∙ of_bio_lem s _ _ _ _ _ _ _ _ t))
+          (λ t. none_some (sym h ∙ of_lpc s _ _ _ _ _ _ _ _ t)))
 
 -- ---- the ranges of a kind: the rules of its fields in turn say what the number of its first field out of its range says
-abbrev pub field_rule : ℕ → ℕ → Verdict
-field_rule field place = rule (not (eqb field 0)) field place
-
 module _ (place : ℕ) (later : List Verdict) where
-  one_field : (fits : Bool) (n : ℕ) → eqb n 0 ≡ false
-      → first_refusal (rule (not fits) n place ∷ later) ≡ first_refusal (field_rule (if fits 0 n) place ∷ later)
+  one_field : (fits : Bool) (n : ℕ)
+      → first_refusal (rule (not fits) n place ∷ later) ≡ first_refusal (refused_by (if fits None (Some n)) place ∷ later)
   unfolding if
-  one_field true n h = refl
-  one_field false n h = rw h
+  one_field true n = refl
+  one_field false n = refl
 
-  two_fields : (fits then : Bool) (n m : ℕ) → eqb n 0 ≡ false → eqb m 0 ≡ false
+  two_fields : (fits then : Bool) (n m : ℕ)
       → first_refusal (rule (not fits) n place ∷ rule (not then) m place ∷ later)
-      ≡ first_refusal (field_rule (if (not fits) n (if then 0 m)) place ∷ later)
+      ≡ first_refusal (refused_by (if (not fits) (Some n) (if then None (Some m))) place ∷ later)
   unfolding first_refusal unless if
-  two_fields true then n m h k = one_field then m k
-  two_fields false then n m h k = rw h
+  two_fields true then n m = one_field then m
+  two_fields false then n m = refl
 
-  three_fields : (fits then last : Bool) (n m k : ℕ) → eqb n 0 ≡ false → eqb m 0 ≡ false → eqb k 0 ≡ false
+  three_fields : (fits then last : Bool) (n m k : ℕ)
       → first_refusal (rule (not fits) n place ∷ rule (not then) m place ∷ rule (not last) k place ∷ later)
-      ≡ first_refusal (field_rule (if (not fits) n (if (not then) m (if last 0 k))) place ∷ later)
+      ≡ first_refusal (refused_by (if (not fits) (Some n) (if (not then) (Some m) (if last None (Some k)))) place ∷ later)
   unfolding first_refusal unless if
-  three_fields true then last n m k h i j = two_fields then last m k i j
-  three_fields false then last n m k h i j = rw h
+  three_fields true then last n m k = two_fields then last m k
+  three_fields false then last n m k = refl
+
+-- ---- and the numbers of rules in turn say what the rules in turn say
+module _ (place : ℕ) where
+  pub rule_told : (broken : Bool) (n : ℕ) → refused_by (then_some broken n) place ≡ rule broken n place
+  unfolding if
+  rule_told true n = refl
+  rule_told false n = refl
+
+  pub alone : (own : Option ℕ) → refused_by own place ≡ first_refusal (refused_by own place ∷ rule false 38 place ∷ [])
+  unfolding first_refusal unless if
+  alone None = refl
+  alone (Some n) = refl
+
+  pub then_full : (own : Option ℕ) (full : Bool) → refused_by (option_or own (then_some full 38)) place ≡ first_refusal (refused_by own place ∷ rule full 38 place ∷ [])
+  unfolding first_refusal unless if
+  then_full None true = refl
+  then_full None false = refl
+  then_full (Some n) full = refl
+
+  pub flags_then_full : (broken full : Bool)
+      → refused_by (option_or (then_some broken 35) (then_some full 38)) place ≡ first_refusal (rule broken 35 place ∷ rule full 38 place ∷ [])
+  flags_then_full broken full = rw (sym (rule_told broken 35)) (then_full (then_some broken 35) full)
+
+  pub masks_then_full : (own : Option ℕ) (shared full : Bool)
+      → refused_by (option_or (option_or own (then_some shared 37)) (then_some full 38)) place
+      ≡ first_refusal (refused_by own place ∷ rule shared 37 place ∷ rule full 38 place ∷ [])
+  unfolding first_refusal unless if
+  masks_then_full None true full = refl
+  masks_then_full None false true = refl
+  masks_then_full None false false = refl
+  masks_then_full (Some n) shared full = refl
 
 -- ---- the first of them that is broken
 module _ (place before : ℕ) (s : List ℕ) where
-  pub at_32 : wrong_length s ≡ true → first_refusal (structure_rules place before s) ≡ Refused (refused 32 place)
+  pub at_32 : wrong_length s ≡ true → first_refusal (structure_rules place before s) ≡ Err (refused 32 place)
   unfolding structure_rules
   at_32 h = first_broken_lem _ _ _ _ h
 
   module _ (a : wrong_length s ≡ false) where
-    pub at_33 : wrong_version s ≡ true → first_refusal (structure_rules place before s) ≡ Refused (refused 33 place)
+    pub at_33 : wrong_version s ≡ true → first_refusal (structure_rules place before s) ≡ Err (refused 33 place)
     unfolding structure_rules
     at_33 h = first_kept _ _ _ _ a (first_broken_lem _ _ _ _ h)
 
@@ -151,62 +186,62 @@ module _ (place before : ℕ) (s : List ℕ) where
 
         pub for_lio : byte_at s 0 ≡ 18
             → first_refusal (structure_rules place before s)
-            ≡ first_refusal (field_rule (lio_field (lio_of s)) place ∷ rule (bit_in_both (lio_of s)) 37 place ∷ rule full 38 place ∷ [])
+            ≡ first_refusal (refused_by (lio_field (lio_of s)) place ∷ rule (bit_in_both (lio_of s)) 37 place ∷ rule full 38 place ∷ [])
         unfolding structure_rules first_refusal unless if is_type wrong_flags wrong_cascade wrong_node wrong_nodes wrong_count wrong_end wrong_base wrong_input wrong_byte shared_bit lio_field
         for_lio t =
             from_35
-            (rw (t, or-false, sym many) (one_field place (rule (bit_in_both (lio_of s)) 37 place ∷ rule full 38 place ∷ []) (halves_fit (lio_of s)) 71 refl))
+            (rw (t, or-false, sym many) (one_field place (rule (bit_in_both (lio_of s)) 37 place ∷ rule full 38 place ∷ []) (halves_fit (lio_of s)) 71))
 
         pub for_ht : byte_at s 0 ≡ 19
-            → first_refusal (structure_rules place before s) ≡ first_refusal (field_rule (ht_field (ht_of s)) place ∷ rule full 38 place ∷ [])
+            → first_refusal (structure_rules place before s) ≡ first_refusal (refused_by (ht_field (ht_of s)) place ∷ rule full 38 place ∷ [])
         unfolding structure_rules first_refusal unless if is_type wrong_flags wrong_cascade wrong_node wrong_nodes wrong_count wrong_end wrong_base wrong_input wrong_byte shared_bit ht_field
         for_ht t =
             from_35
-            (rw (t, sym many) (one_field place (rule full 38 place ∷ []) (every byte_fits (ht_of s).bytes) 78 refl))
+            (rw (t, sym many) (one_field place (rule full 38 place ∷ []) (every byte_fits (ht_of s).bytes) 78))
 
         pub for_eio : byte_at s 0 ≡ 20
-            → first_refusal (structure_rules place before s) ≡ first_refusal (field_rule (eio_field (eio_of s)) place ∷ rule full 38 place ∷ [])
+            → first_refusal (structure_rules place before s) ≡ first_refusal (refused_by (eio_field (eio_of s)) place ∷ rule full 38 place ∷ [])
         unfolding structure_rules first_refusal unless if is_type wrong_flags wrong_cascade wrong_node wrong_nodes wrong_count wrong_end wrong_base wrong_input wrong_byte shared_bit eio_field
         for_eio t =
             let e = eio_of s in
             from_35
             (rw (t, or-false, sym many)
-            (three_fields place (rule full 38 place ∷ []) (cascade_fits e.cascade) (node_fits e.node) (nodes_fit e.nodes) 71 72 73 refl refl refl))
+            (three_fields place (rule full 38 place ∷ []) (cascade_fits e.cascade) (node_fits e.node) (nodes_fit e.nodes) 71 72 73))
 
         pub for_msi : byte_at s 0 ≡ 21
-            → first_refusal (structure_rules place before s) ≡ first_refusal (field_rule (msi_field (msi_of s)) place ∷ rule full 38 place ∷ [])
+            → first_refusal (structure_rules place before s) ≡ first_refusal (refused_by (msi_field (msi_of s)) place ∷ rule full 38 place ∷ [])
         unfolding structure_rules first_refusal unless if is_type wrong_flags wrong_cascade wrong_node wrong_nodes wrong_count wrong_end wrong_base wrong_input wrong_byte shared_bit msi_field
         for_msi t =
             let m = msi_of s in
             from_35
             (rw (t, sym many)
-            (two_fields place (rule full 38 place ∷ []) (count_fits m.count) (end_fits m.start m.count) 74 75 refl refl))
+            (two_fields place (rule full 38 place ∷ []) (count_fits m.count) (end_fits m.start m.count) 74 75))
 
         pub for_bio : byte_at s 0 ≡ 22
-            → first_refusal (structure_rules place before s) ≡ first_refusal (field_rule (bio_field (bio_of s)) place ∷ rule full 38 place ∷ [])
+            → first_refusal (structure_rules place before s) ≡ first_refusal (refused_by (bio_field (bio_of s)) place ∷ rule full 38 place ∷ [])
         unfolding structure_rules first_refusal unless if is_type wrong_flags wrong_cascade wrong_node wrong_nodes wrong_count wrong_end wrong_base wrong_input wrong_byte shared_bit bio_field
         for_bio t =
             let b = bio_of s in
             from_35
             (rw (t, sym many)
-            (two_fields place (rule full 38 place ∷ []) (node_fits b.node) (base_fits b.base) 72 76 refl refl))
+            (two_fields place (rule full 38 place ∷ []) (node_fits b.node) (base_fits b.base) 72 76))
 
         pub for_lpc : byte_at s 0 ≡ 23
-            → first_refusal (structure_rules place before s) ≡ first_refusal (field_rule (lpc_field (lpc_of s)) place ∷ rule full 38 place ∷ [])
+            → first_refusal (structure_rules place before s) ≡ first_refusal (refused_by (lpc_field (lpc_of s)) place ∷ rule full 38 place ∷ [])
         unfolding structure_rules first_refusal unless if is_type wrong_flags wrong_cascade wrong_node wrong_nodes wrong_count wrong_end wrong_base wrong_input wrong_byte shared_bit lpc_field
         for_lpc t =
             from_35
-            (rw (t, sym many) (one_field place (rule full 38 place ∷ []) (input_fits (lpc_of s).cascade) 77 refl))
+            (rw (t, sym many) (one_field place (rule full 38 place ∷ []) (input_fits (lpc_of s).cascade) 77))
 
   -- no rule speaks of a type that is passed over
   module _ (h : is_known s ≡ false) where
     no : (n : ℕ) → 17 ≤ n → n ≤ 23 → is_type n s ≡ false
     no = no_type s h
 
-    pub passed_over : first_refusal (structure_rules place before s) ≡ Sound
+    pub passed_over : first_refusal (structure_rules place before s) ≡ Ok tt
     unfolding structure_rules first_refusal unless if wrong_length wrong_version wrong_flags wrong_cascade wrong_node wrong_nodes wrong_count wrong_end wrong_base wrong_input wrong_byte shared_bit one_too_many
     passed_over =
-        from_35 (rw h) (rw h)
+        from_35 (rw (length_unknown s h)) (rw h)
         (rw (
           no 17 (omega arith) (omega arith),
           no 18 (omega arith) (omega arith),
@@ -231,7 +266,7 @@ pub record Kept (before : ℕ) (s : List ℕ) : Type 0 where
   pub r37 : shared_bit s ≡ false
   pub r38 : one_too_many before s ≡ false
 
-pub all_kept : (place before : ℕ) (s : List ℕ) → first_refusal (structure_rules place before s) ≡ Sound → Kept before s
+pub all_kept : (place before : ℕ) (s : List ℕ) → first_refusal (structure_rules place before s) ≡ Ok tt → Kept before s
 unfolding structure_rules
 all_kept place before s h =
     let r32 = first_sound _ _ _ _ h in
@@ -262,17 +297,17 @@ all_kept place before s h =
 
 -- its fields are in their ranges
 module _ {before : ℕ} {s : List ℕ} (k : Kept before s) where
-  pub fits-lio : byte_at s 0 ≡ 18 → eqb (lio_field (lio_of s)) 0 ≡ true
+  pub fits-lio : byte_at s 0 ≡ 18 → is_none (lio_field (lio_of s)) ≡ true
   unfolding is_type wrong_cascade lio_field if
   fits-lio t =
       let r71 = rw t at k.r71 in
       rw (not-false (halves_fit (lio_of s)) (neither_left (not (halves_fit (lio_of s))) false r71))
 
-  pub fits-ht : byte_at s 0 ≡ 19 → eqb (ht_field (ht_of s)) 0 ≡ true
+  pub fits-ht : byte_at s 0 ≡ 19 → is_none (ht_field (ht_of s)) ≡ true
   unfolding is_type wrong_byte ht_field if
   fits-ht t = rw (not-false (every byte_fits (ht_of s).bytes) (rw t at k.r78))
 
-  pub fits-eio : byte_at s 0 ≡ 20 → eqb (eio_field (eio_of s)) 0 ≡ true
+  pub fits-eio : byte_at s 0 ≡ 20 → is_none (eio_field (eio_of s)) ≡ true
   unfolding is_type wrong_cascade wrong_node wrong_nodes eio_field if
   fits-eio t =
       let e = eio_of s in
@@ -281,7 +316,7 @@ module _ {before : ℕ} {s : List ℕ} (k : Kept before s) where
       let r73 = not-false (nodes_fit e.nodes) (rw t at k.r73) in
       rw (r71, r72, r73)
 
-  pub fits-msi : byte_at s 0 ≡ 21 → eqb (msi_field (msi_of s)) 0 ≡ true
+  pub fits-msi : byte_at s 0 ≡ 21 → is_none (msi_field (msi_of s)) ≡ true
   unfolding is_type wrong_count wrong_end msi_field if
   fits-msi t =
       let m = msi_of s in
@@ -289,7 +324,7 @@ module _ {before : ℕ} {s : List ℕ} (k : Kept before s) where
       let r75 = not-false (end_fits m.start m.count) (rw t at k.r75) in
       rw (r74, r75)
 
-  pub fits-bio : byte_at s 0 ≡ 22 → eqb (bio_field (bio_of s)) 0 ≡ true
+  pub fits-bio : byte_at s 0 ≡ 22 → is_none (bio_field (bio_of s)) ≡ true
   unfolding is_type wrong_node wrong_base bio_field if
   fits-bio t =
       let b = bio_of s in
@@ -297,15 +332,15 @@ module _ {before : ℕ} {s : List ℕ} (k : Kept before s) where
       let r76 = not-false (base_fits b.base) (rw t at k.r76) in
       rw (r72, r76)
 
-  pub fits-lpc : byte_at s 0 ≡ 23 → eqb (lpc_field (lpc_of s)) 0 ≡ true
+  pub fits-lpc : byte_at s 0 ≡ 23 → is_none (lpc_field (lpc_of s)) ≡ true
   unfolding is_type wrong_input lpc_field if
   fits-lpc t = rw (not-false (input_fits (lpc_of s).cascade) (rw t at k.r77))
 
 -- the structure is not one too many of its kind
 module _ {before : ℕ} {s : List ℕ} (k : Kept before s) where
   pub length_core : byte_at s 0 ≡ 17 → byte_at s 1 ≡ 15
-  unfolding wrong_length is_known length_of
-  length_core t = eqb-true _ _ (not-false _ (rw (of_core s _ _ _ _ _ _ _ _ t, t) at k.r32))
+  unfolding wrong_length length_of
+  length_core t = eqb-true _ _ (not-false _ (rw (of_core s _ _ _ _ _ _ _ _ t) at k.r32))
 
   pub room_core : byte_at s 0 ≡ 17 → before < 256
   unfolding one_too_many

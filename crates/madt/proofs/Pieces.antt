@@ -1,13 +1,15 @@
 -- The three laws of `pieces`, by which every loop over a table's structures is proved: at the table's end, where a structure
--- is cut, and behind a whole one. Loops go by the size of the structure at an offset, 0 for none.
+-- is cut, and behind a whole one. Loops go by the size of the structure at an offset, if there is one.
 use mathlib.Core.Path.{◌≡◌, refl, sym, ap, ◌∙◌}
 use mathlib.Core.Bool.{Bool, true, false, ◌||◌}
 use mathlib.Core.List.{List, [], ◌∷◌}
-use Prim.Native.Nat.{ℕ, zero, suc, ◌+◌, ◌-◌, ◌≤◌, ◌<◌}
+use Prim.Native.Nat.{ℕ, zero, suc, ◌+◌, ◌≤◌, ◌<◌}
 use native.Mathlib.Omega.{arith}
 use lib.Dec.{ltb}
 use lib.ListN.{length}
 use borrow.Author.Tests.{leb-false, ltb-false, lt-leb}
+use Rattle.std.specs.Prelude.{Option, Some, None}
+use Rattle.std.proofs.lemmas.Option.{none-some}
 use Rattle.words.specs.Bytes.{byte_at, part_at}
 use Rattle.words.specs.Choice.{if}
 use Rattle.words.proofs.Choices.{passed, no_if}
@@ -19,7 +21,7 @@ use Rattle.tables.proofs.Steps.{step_end}
 use Rattle.madt.specs.Pieces.{Piece, whole, cut, piece_at, pieces_from, pieces}
 use Rattle.madt.specs.Sizes.{size_of}
 
-abbrev pub size_at : List ℕ → ℕ → ℕ
+abbrev pub size_at : List ℕ → ℕ → Option ℕ
 size_at table at = size_of (step_at table at)
 
 not_end : {size : ℕ} → ◌≡◌ {A = Step} End (Structure size) → ⊥
@@ -89,46 +91,36 @@ not_over false size e = let o : ◌≡◌ {A = ℕ} 0 1 = cc in omega arith
 
 module _ (table : List ℕ) (at : ℕ) where
   -- the step that a size tells of
-  size_broken : at < length table → size_at table at ≡ 0 → step_at table at ≡ Broken
+  size_broken : at < length table → size_at table at ≡ None → step_at table at ≡ Broken
   unfolding size_of step_at
   size_broken more h = go (step_at table at) refl h
     where
-      go : (step : Step) → step_at table at ≡ step → size_of step ≡ 0 → step_at table at ≡ Broken
+      go : (step : Step) → step_at table at ≡ step → size_of step ≡ None → step_at table at ≡ Broken
       go End e z = absurd (not_over _ _ (sym (no_if _ _ _ (lt-leb (length table) at more) refl) ∙ e))
       go Broken e z = e
-      go (Structure size) e z = let low = (step_inside table at size e).1 in absurd (omega arith)
+      go (Structure size) e z = absurd (none-some size (sym z))
 
-  size_structure : (size_at table at ≡ 0 → ⊥) → step_at table at ≡ Structure (size_at table at)
+  size_structure : {size : ℕ} → size_at table at ≡ Some size → step_at table at ≡ Structure size
   unfolding size_of
-  size_structure h = go (step_at table at) refl h
+  size_structure {size} h = go (step_at table at) refl h
     where
-      go : (step : Step) → step_at table at ≡ step → (size_of step ≡ 0 → ⊥) → step_at table at ≡ Structure (size_of step)
-      go End e z = absurd (z refl)
-      go Broken e z = absurd (z refl)
-      go (Structure size) e z = e
+      go : (step : Step) → step_at table at ≡ step → size_of step ≡ Some size → step_at table at ≡ Structure size
+      go End e z = absurd (none-some size z)
+      go Broken e z = absurd (none-some size z)
+      go (Structure n) e z = let o : n ≡ size = cc in rw (← o) e
 
-  -- the size that a step tells, which lies inside the table
-  pub size_whole : {size : ℕ} → step_at table at ≡ Structure size → (size ≡ size_at table at) × (size ≤ length table - at)
-  unfolding size_of
-  size_whole {size} h = let fits = (step_inside table at size h).2 in (rw h, omega arith)
-
-  pub size_cut : step_at table at ≡ Broken → 0 ≡ size_at table at
-  unfolding size_of
-  size_cut h = rw h
-
-  pub size_end : step_at table at ≡ End → 0 ≡ size_at table at
-  unfolding size_of
-  size_end h = rw h
+  -- a size lies inside the table, and is not 0
+  pub size_inside : {size : ℕ} → size_at table at ≡ Some size → (2 ≤ size) × (at + size ≤ length table)
+  size_inside {size} h = let inside = step_inside table at size (size_structure h) in (inside.1, inside.2)
 
   pub pieces_end : length table ≤ at → pieces table at ≡ []
   unfolding pieces
   pieces_end h = none_left (length table) table at h
 
-  pub pieces_cut : at < length table → size_at table at ≡ 0 → pieces table at ≡ cut at ∷ []
+  pub pieces_cut : at < length table → size_at table at ≡ None → pieces table at ≡ cut at ∷ []
   unfolding piece_at
   pieces_cut more h = rw (size_broken more h) at (pieces_step table at)
 
-  pub pieces_next : (size_at table at ≡ 0 → ⊥)
-      → pieces table at ≡ whole at (part_at table at (size_at table at)) ∷ pieces table (at + size_at table at)
+  pub pieces_next : {size : ℕ} → size_at table at ≡ Some size → pieces table at ≡ whole at (part_at table at size) ∷ pieces table (at + size)
   unfolding piece_at
   pieces_next h = rw (size_structure h) at (pieces_step table at)

@@ -4,3 +4,4 @@ pub mod Rules
 pub mod Contents
 pub mod Walk
 pub mod Noting
+pub mod Taken

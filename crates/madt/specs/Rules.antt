@@ -1,11 +1,11 @@
 -- Document 01, "MADT structures" and "Refusals in order", 32 to 38, with 36 split into 71 to 78 by W-202 of document 02, and 34 moved
 -- behind all of them by W-201: the rules for one structure, whose own bytes are s.
-use Rattle.std.specs.Prelude.{ℕ, Bool, false, not, ◌&&◌, ◌||◌, List, [], ◌∷◌, eqb, leb}
+use Rattle.std.specs.Prelude.{ℕ, Bool, false, not, ◌&&◌, ◌||◌, List, [], ◌∷◌, eqb, leb, Option, None, Some, Ok, Err}
+use Rattle.std.specs.Option.{option_map_or}
 use Rattle.words.specs.Bytes.{byte_at}
 use Rattle.words.specs.Choice.{if}
 use Rattle.words.specs.Lists.{every}
-use Rattle.words.specs.Refusals.{rule}
-use Rattle.words.specs.declared.Verdict.{Verdict}
+use Rattle.words.specs.Refusals.{Verdict, refused, rule}
 use Rattle.kinds.specs.Makers.{reserved_flags, core_of, lio_of, ht_of, eio_of, msi_of, bio_of, lpc_of}
 use Rattle.kinds.specs.Ranges.{cascade_fits, node_fits, nodes_fit, count_fits, end_fits, base_fits, input_fits, byte_fits, halves_fit, bit_in_both}
 
@@ -29,13 +29,13 @@ by_type s core lio ht eio msi bio lpc other =
 unfoldable pub is_known : List ℕ → Bool
 is_known s = leb 17 (byte_at s 0) && leb (byte_at s 0) 23
 
--- the length of each kind
-unfoldable pub length_of : List ℕ → ℕ
-length_of s = by_type s 15 23 21 13 19 17 15 0
+-- the length of each kind; none for a type that is passed over
+unfoldable pub length_of : List ℕ → Option ℕ
+length_of s = by_type s (Some 15) (Some 23) (Some 21) (Some 13) (Some 19) (Some 17) (Some 15) None
 
 -- 32: "length of a known type", at 1
 unfoldable pub wrong_length : List ℕ → Bool
-wrong_length s = is_known s && not (eqb (byte_at s 1) (length_of s))
+wrong_length s = option_map_or (λ length. not (eqb (byte_at s 1) length)) (length_of s) false
 
 -- 33: "version at 2, which is 1"
 unfoldable pub wrong_version : List ℕ → Bool
@@ -105,3 +105,8 @@ structure_rules place before s =
     ∷ rule (shared_bit s) 37 place
     ∷ rule (one_too_many before s) 38 place
     ∷ []
+
+-- the same by the number of the rule that is broken, or none
+abbrev pub refused_by : Option ℕ → ℕ → Verdict
+refused_by None place = Ok tt
+refused_by (Some number) place = Err (refused number place)

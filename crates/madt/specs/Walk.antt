@@ -1,15 +1,13 @@
 -- Document 01, "structures in turn, each through 31 to 38" (71 to 78 stand in 36's place), and 34, which W-201 of document 02 has "after the
 -- walk and before 39": the map of a MADT, given by its own bytes, or its first refusal.
-use Rattle.std.specs.Prelude.{ℕ, ◌+◌, Bool, true, ◌&&◌, ◌||◌, List, [], ◌∷◌, ◌++◌, leb}
+use Rattle.std.specs.Prelude.{ℕ, ◌+◌, Bool, true, ◌&&◌, ◌||◌, List, [], ◌∷◌, ◌++◌, leb, Result, Ok, Err}
 use Rattle.words.specs.Bytes.{byte_at}
-use Rattle.words.specs.Refusals.{rule, unless, first_refusal}
+use Rattle.words.specs.Refusals.{Verdict, rule, unless, first_refusal}
 use Rattle.words.specs.declared.Refusal.{Refusal}
-use Rattle.words.specs.declared.Verdict.{Verdict}
-use Rattle.words.specs.declared.Verdict.TheVariants.{Sound, Refused}
 use Rattle.madt.specs.Pieces.{Piece, whole, cut, Whole, pieces, structures}
 use Rattle.madt.specs.Rules.{is_type, structure_rules}
 use Rattle.madt.specs.Contents.{how_many, found_in, nothing}
-use Rattle.madt.specs.declared.Walked.{Walked}
+use Rattle.madt.specs.declared.Found.{Found}
 
 -- the rules of some pieces in turn, after the structures before them: 31 of one that is cut, `structure_rules` of a whole one. The MADT
 -- stands at `base`.
@@ -34,13 +32,22 @@ kind_rules base before (x ∷ later) = rule (gives_both before x.bytes) 34 (base
 unfoldable pub walk_rules : List ℕ → ℕ → List Verdict
 walk_rules table base = rules_in_turn base [] (pieces table 44) ++ kind_rules base [] (structures (pieces table 44))
 
+-- what the walk tells of every capture: its verdict, and what is found
+pub record Walked : Type 0 where
+  pub verdict : Verdict
+  pub found : Found
+
 -- a refusal comes with the fixed empty map and without processors
 unfoldable pub turned_away : Refusal → Walked
-turned_away refusal = record { verdict = Refused refusal; found = nothing 0 }
+turned_away refusal = record { verdict = Err refusal; found = nothing 0 }
 
 -- what is found in the MADT with some bytes, at a place, with the SCI number of the map, where `pins` tells how many inputs the
 -- bridges with a hardware ID have
 unfoldable pub walked : List ℕ → ℕ → ℕ → (ℕ → ℕ) → Walked
 walked table base sci pins =
     unless turned_away (first_refusal (walk_rules table base))
-    (record { verdict = Sound; found = found_in base sci pins (structures (pieces table 44)) })
+    (record { verdict = Ok tt; found = found_in base sci pins (structures (pieces table 44)) })
+
+-- the same as the program answers it: what is found, or the refusal alone (proofs/Accepted has the law that ties the two)
+unfoldable pub walk : List ℕ → ℕ → ℕ → (ℕ → ℕ) → Result Found Refusal
+walk table base sci pins = unless Err (first_refusal (walk_rules table base)) (Ok (found_in base sci pins (structures (pieces table 44))))

@@ -3,7 +3,6 @@
 #![tactic(auto)]
 
 use lines::{Map, Places};
-use words::Verdict;
 
 pub mod steps; // from structure to structure
 pub mod walk; // the structures in turn
@@ -21,11 +20,4 @@ pub struct Found {
     pub map: Map,
     pub places: Places,
     pub enabled: u16,
-}
-
-// All structures taken: what was found, or the refusal and nothing.
-#[derive(Clone, Copy)]
-pub struct Walked {
-    pub verdict: Verdict,
-    pub found: Found,
 }

@@ -8,6 +8,7 @@ use mathlib.Core.List.{List}
 use borrow.Author.Tests.{ltb-true}
 use lib.Dec.{eqb, leb, ltb}
 use lib.ListN.{length, get_or}
+use Rattle.std.specs.Prelude.{Ok}
 use Rattle.words.specs.Lists.{first}
 use Rattle.words.proofs.Choices.{if_cases}
 use Rattle.clashes.proofs.Logic.{and_left, and_right}
@@ -21,7 +22,9 @@ use Rattle.lines.specs.Rules.{ranges_kept, keeps_rules}
 use Rattle.lines.specs.declared.Map.{Map}
 use Rattle.lines.specs.declared.Owner.{Owner}
 use Rattle.lines.specs.declared.Owner.TheVariants.{BioInput as of_bio, Nobody}
+use Rattle.lines.specs.declared.Route.{Route}
 use Rattle.lines.specs.declared.Route.TheVariants.{NoOwner}
+use Rattle.lines.specs.declared.Trace.{Trace}
 use Rattle.lines.specs.declared.Trace.TheVariants.{Nothing, MsiSlot}
 use Rattle.kinds.specs.Used.{no_bio, no_msi}
 use Rattle.map_promises.specs.Sources.{no_hub, hub_at, bio_at, msi_at}
@@ -33,6 +36,13 @@ use Rattle.map_promises.proofs.Ranged.{eio-fits, bio-fits, msi-fits, low_used, h
 use Rattle.map_promises.proofs.Routing.{routed}
 use Rattle.map_promises.proofs.Tracing.{told}
 use Rattle.map_promises.proofs.Unused.{lio_said}
+
+-- a route, or a trace, that is answered
+abbrev FitsRoute : Route → Type 0
+FitsRoute route = RouteFits (Ok route)
+
+abbrev FitsTrace : Trace → Type 0
+FitsTrace trace = TraceFits (Ok trace)
 
 -- what holds of all that a search can find holds of what it finds
 found_holds : {A R : Type 0} (d : A) (P : R → Type 0) (test : A → Bool) (found : A → R) (none : R) (l : List A)
@@ -72,21 +82,21 @@ module _ (map : Map) (kept : keeps_rules map ≡ true) where
       (λ n e l. let f = eio-fits said ranged e l in ((λ v. f.2), omega arith, f.1))
 
   -- ---- routes
-  through-fits : (node v : ℕ) → v < 64 → RouteFits (through (hubs said) node v)
+  through-fits : (node v : ℕ) → v < 64 → FitsRoute (through (hubs said) node v)
   unfolding through
   through-fits node v small =
-      found_holds no_hub RouteFits (λ h. eqb h.node node) (λ h. enters h v) NoOwner (hubs said)
+      found_holds no_hub FitsRoute (λ h. eqb h.node node) (λ h. enters h v) NoOwner (hubs said)
       (λ i k t. let f = hub_fits i k in (omega (arith, f.0 v), omega (arith, f.1)))
       (omega arith)
 
-  lio_route_fits : (i : ℕ) → i < 32 → RouteFits (lio_arrival said.lio i)
+  lio_route_fits : (i : ℕ) → i < 32 → FitsRoute (lio_arrival said.lio i)
   unfolding lio_arrival
-  lio_route_fits i small = if_cases RouteFits _ _ _ (λ t. (omega (arith, core_small i), omega arith)) (λ t. omega arith)
+  lio_route_fits i small = if_cases FitsRoute _ _ _ (λ t. (omega (arith, core_small i), omega arith)) (λ t. omega arith)
 
-  bio_route_fits : (n : ℕ) → RouteFits (arrival_of said (bio_owner said.bios n))
+  bio_route_fits : (n : ℕ) → FitsRoute (arrival_of said (bio_owner said.bios n))
   unfolding bio_owner arrival_of
   bio_route_fits n =
-      found_holds no_bio (λ (o : Owner). RouteFits (arrival_of said o)) (owns n) (λ b. of_bio b.node (n - b.base)) Nobody said.bios
+      found_holds no_bio (λ (o : Owner). FitsRoute (arrival_of said o)) (owns n) (λ b. of_bio b.node (n - b.base)) Nobody said.bios
       (λ i k t.
       let base = (bio_at said i).base in
       let pins = (bio_at said i).pins in
@@ -94,47 +104,47 @@ module _ (map : Map) (kept : keeps_rules map ≡ true) where
       through-fits (bio_at said i).node (n - base) (omega (arith, (bio-fits said ranged i k).4)))
       (omega arith)
 
-  arrival-fits : (n : ℕ) → RouteFits (arrival_of said (owner said n))
+  arrival-fits : (n : ℕ) → FitsRoute (arrival_of said (owner said n))
   unfolding owner arrival_of
   arrival-fits n =
-      if_cases (λ (o : Owner). RouteFits (arrival_of said o)) _ _ _
-      (λ t. if_cases (λ (o : Owner). RouteFits (arrival_of said o)) _ _ _ (λ u. through-fits said.lpc.node said.lpc.cascade (omega (arith, lpc-fits said ranged))) (λ u. omega arith))
-      (λ t. if_cases (λ (o : Owner). RouteFits (arrival_of said o)) _ _ _
-      (λ u. if_cases (λ (o : Owner). RouteFits (arrival_of said o)) _ _ _ (λ w. omega arith) (λ w. lio_route_fits (n - 16) (let less = ltb-true n 48 u in omega arith)))
+      if_cases (λ (o : Owner). FitsRoute (arrival_of said o)) _ _ _
+      (λ t. if_cases (λ (o : Owner). FitsRoute (arrival_of said o)) _ _ _ (λ u. through-fits said.lpc.node said.lpc.cascade (omega (arith, lpc-fits said ranged))) (λ u. omega arith))
+      (λ t. if_cases (λ (o : Owner). FitsRoute (arrival_of said o)) _ _ _
+      (λ u. if_cases (λ (o : Owner). FitsRoute (arrival_of said o)) _ _ _ (λ w. omega arith) (λ w. lio_route_fits (n - 16) (let less = ltb-true n 48 u in omega arith)))
       (λ u. bio_route_fits n))
 
   -- ---- traces
-  slot_fits : (node k : ℕ) → node ≤ 63 → TraceFits (slot_told said.msis node k)
+  slot_fits : (node k : ℕ) → node ≤ 63 → FitsTrace (slot_told said.msis node k)
   unfolding slot_told
   slot_fits node k small =
-      found_holds no_msi TraceFits (has_slot k) (λ _. MsiSlot node k) Nothing said.msis
+      found_holds no_msi FitsTrace (has_slot k) (λ _. MsiSlot node k) Nothing said.msis
       (λ i l t.
       let m = msi_at said i in
       let high : k < m.start + m.count = ltb-true _ _ (and_right (leb m.start k) (ltb k (m.start + m.count)) t) in
       (omega arith, omega (arith, (msi-fits said ranged i l).1)))
       (omega arith)
 
-  landed-fits : (node k : ℕ) → node ≤ 63 → TraceFits (landed said node k)
+  landed-fits : (node k : ℕ) → node ≤ 63 → FitsTrace (landed said node k)
   unfolding landed pin_told
   landed-fits node k small =
-      found_holds no_bio TraceFits (has_pin node k) (pin_told said.lpc k) (slot_told said.msis node k) said.bios
+      found_holds no_bio FitsTrace (has_pin node k) (pin_told said.lpc k) (slot_told said.msis node k) said.bios
       (λ i l t.
       let few = pin_small node k (bio_at said i) t in
       let fits : (bio_at said i).base + k < 2 ^ 32 = (let fit = bio-fits said ranged i l in omega (arith, fit.2, fit.4)) in
-      if_cases TraceFits _ _ _ (λ u. fits) (λ u. fits))
+      if_cases FitsTrace _ _ _ (λ u. fits) (λ u. fits))
       (slot_fits node k small)
 
-  hub_trace_fits : (v n : ℕ) → TraceFits (hub_traced said v n)
+  hub_trace_fits : (v n : ℕ) → FitsTrace (hub_traced said v n)
   unfolding hub_traced
   hub_trace_fits v n =
-      found_holds no_hub TraceFits (comes_by v n) (λ h. landed said h.node (n - h.above)) Nothing (hubs said)
+      found_holds no_hub FitsTrace (comes_by v n) (λ h. landed said h.node (n - h.above)) Nothing (hubs said)
       (λ i l t. landed-fits (hub_at said i).node (n - (hub_at said i).above) (hub_fits i l).2)
       (omega arith)
 
-  traced-fits : (v k : ℕ) → TraceFits (traced said v k)
+  traced-fits : (v k : ℕ) → FitsTrace (traced said v k)
   unfolding traced led_by_lio
   traced-fits v k =
-      if_cases TraceFits _ _ _
+      if_cases FitsTrace _ _ _
       (λ t.
       let led = leads said.lio.low v k || leads said.lio.high v k in
       let small = leads_small said.lio.low said.lio.high v k (and_left led _ t) in

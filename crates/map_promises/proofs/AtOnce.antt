@@ -14,31 +14,34 @@ use Rattle.words.specs.Lists.{in_each}
 use Rattle.words.specs.Refusals.{refused}
 use Rattle.words.specs.Rooms.{written}
 use Rattle.words.specs.declared.Refusal.{Refusal}
-use Rattle.words.specs.declared.Verdict.TheVariants as verdicts
 use Rattle.words.proofs.TwoRules.{none_due, one_of_two}
 use Rattle.lines.specs.Rules.{keeps_rules}
-use Rattle.lines.specs.Answers.{in_numbers, route_of, coded, route_code}
+use Rattle.lines.specs.Answers.{in_numbers, coded, route_code}
+use Rattle.lines.specs.Routes.{arrival}
+use Rattle.lines.specs.Says.{says}
 use Rattle.lines.specs.AtOnce.{triple_of, triples_of, at_once_rules, at_once, answers_after}
 use Rattle.lines.specs.declared.Map.{Map}
 use Rattle.lines.specs.declared.Route.{Route}
-use Rattle.lines.specs.declared.Route.TheVariants.{Arrives, Unwired, NoOwner, Refused}
-use Rattle.lines.proofs.AtOnce.{three, three_each, left_alone, all_written}
+use Rattle.lines.specs.declared.Route.TheVariants.{Arrives, Unwired, NoOwner}
+use Rattle.lines.proofs.AtOnce.{told_of, single, single-told, told_three, three_each, left_alone, all_written}
 use Rattle.map_promises.specs.AtOnce.{SixtyOneExactly, SixtyTwoExactly, TellRoute, Answered, AtOnceAnswers, NoneIsFine, RefusedLeavesAnswers, SameAtOnce}
-use Rattle.map_promises.proofs.RefusedExactly.{refused-exactly}
 use Rattle.map_promises.proofs.TwoRules.{rephrased, first-exactly, second_exactly}
 use Rattle.map_promises.proofs.SameAnswers.{same_answers}
+use Rattle.std.specs.Option.{option_map_or}
+use Rattle.std.specs.Prelude.{Result, Ok, Err}
+use Rattle.std.specs.Result.{result_ok}
 
 -- ---- 61 and 62
 module _ (map : Map) (numbers answers : List ℕ) where
   abbrev too_short : Bool
   too_short = ltb (length answers) (3 * length numbers)
 
-  room_for_all : keeps_rules map ≡ true → 3 * length numbers ≤ length answers → at_once map numbers answers ≡ verdicts.Sound
+  room_for_all : keeps_rules map ≡ true → 3 * length numbers ≤ length answers → at_once map numbers answers ≡ Ok tt
   unfolding at_once at_once_rules
   room_for_all kept enough = none_due (not (keeps_rules map)) too_short 61 62 (ap not kept) (le-ltb _ _ enough)
 
   -- there are no others
-  pub two_refusals : (r : Refusal) → at_once map numbers answers ≡ verdicts.Refused r → (r ≡ refused 61 0) ⊎ (r ≡ refused 62 0)
+  pub two_refusals : (r : Refusal) → at_once map numbers answers ≡ Err r → (r ≡ refused 61 0) ⊎ (r ≡ refused 62 0)
   unfolding at_once at_once_rules
   two_refusals r h = ⊎_elim (λ x. inl (sym x.1)) (λ x. inr (sym x.2)) (one_of_two (not (keeps_rules map)) too_short 61 62 r h)
 
@@ -86,30 +89,22 @@ whole : (entries list : List ℕ) → length entries ≤ length list → length 
 unfolding written
 whole entries list l = rw (length-append, length-drop) (omega arith)
 
--- the three numbers of an answer that is no refusal
-abbrev Never : Route → Type 0
-Never route = (r : Refusal) → route ≡ Refused r → ⊥
-
-tells : (route : Route) → Never route → TellRoute (get_or (triple_of route) 0 0) (get_or (triple_of route) 1 0) (get_or (triple_of route) 2 0) route
+-- the three numbers of an answer
+tells : (route : Route) → TellRoute (get_or (triple_of route) 0 0) (get_or (triple_of route) 1 0) (get_or (triple_of route) 2 0) (Ok route)
 unfolding triple_of in_numbers
-tells (Arrives v n) never = (refl, refl, refl)
-tells Unwired never = (refl, refl, refl)
-tells NoOwner never = (refl, refl, refl)
-tells (Refused r) never = absurd (never r refl)
+tells (Arrives v n) = (refl, refl, refl)
+tells Unwired = (refl, refl, refl)
+tells NoOwner = (refl, refl, refl)
 
-coded_so : (route : Route) → Never route → coded (get_or (triple_of route) 0 0) (get_or (triple_of route) 1 0) (get_or (triple_of route) 2 0) ≡ route_code route
+coded_so : (route : Route) → coded (get_or (triple_of route) 0 0) (get_or (triple_of route) 1 0) (get_or (triple_of route) 2 0) ≡ route_code (Ok route)
 unfolding triple_of route_code in_numbers
-coded_so (Arrives v n) never = refl
-coded_so Unwired never = refl
-coded_so NoOwner never = refl
-coded_so (Refused r) never = absurd (never r refl)
+coded_so (Arrives v n) = refl
+coded_so Unwired = refl
+coded_so NoOwner = refl
 
 module _ (map : Map) (kept : keeps_rules map ≡ true) where
-  never : (n : ℕ) → Never (route_of map n)
-  never = ((refused-exactly map).1 kept).0
-
   module _ (numbers answers : List ℕ) (enough : 3 * length numbers ≤ length answers) where
-    fine : at_once map numbers answers ≡ verdicts.Sound
+    fine : at_once map numbers answers ≡ Ok tt
     fine = room_for_all map numbers answers kept enough
 
     after : answers_after map numbers answers ≡ written (triples_of map numbers) answers
@@ -119,19 +114,20 @@ module _ (map : Map) (kept : keeps_rules map ≡ true) where
     many = three_each map kept numbers
 
     -- number j of the answer to number i
-    at : (i j : ℕ) → i < length numbers → j < 3 → get_or (answers_after map numbers answers) (3 * i + j) 0 ≡ get_or (triple_of (route_of map (get_or numbers i 0))) j 0
+    at : (i j : ℕ) → i < length numbers → j < 3 → get_or (answers_after map numbers answers) (3 * i + j) 0 ≡ get_or (triple_of (arrival (says map) (get_or numbers i 0))) j 0
     unfolding triples_of
     at i j l k =
-        rw after (front (triples_of map numbers) answers (3 * i + j) (omega (arith, many)) ∙ each_at (λ number. triple_of (route_of map number)) (three map kept) 0 numbers i j l k)
+        rw after (front (triples_of map numbers) answers (3 * i + j) (omega (arith, many)) ∙ each_at (told_of map) (told_three map kept) 0 numbers i j l k)
+        ∙ ap (λ t. get_or t j 0) (single-told map kept (get_or numbers i 0))
 
-    first : (i : ℕ) → i < length numbers → get_or (answers_after map numbers answers) (3 * i) 0 ≡ get_or (triple_of (route_of map (get_or numbers i 0))) 0 0
+    first : (i : ℕ) → i < length numbers → get_or (answers_after map numbers answers) (3 * i) 0 ≡ get_or (triple_of (arrival (says map) (get_or numbers i 0))) 0 0
     first i l = let e : 3 * i + 0 ≡ 3 * i = omega arith in rw e at (at i 0 l (omega arith))
 
     answered : Answered map numbers answers (answers_after map numbers answers)
     answered =
         record {
-          told = λ i l. rw (first i l, at i 1 l (omega arith), at i 2 l (omega arith)) (tells (route_of map (get_or numbers i 0)) (never (get_or numbers i 0)));
-          codes = λ i l. rw (first i l, at i 1 l (omega arith), at i 2 l (omega arith)) (coded_so (route_of map (get_or numbers i 0)) (never (get_or numbers i 0)));
+          told = λ i l. rw (first i l, at i 1 l (omega arith), at i 2 l (omega arith), single map kept (get_or numbers i 0)) (tells (arrival (says map) (get_or numbers i 0)));
+          codes = λ i l. rw (first i l, at i 1 l (omega arith), at i 2 l (omega arith), single map kept (get_or numbers i 0)) (coded_so (arrival (says map) (get_or numbers i 0)));
           rest = λ j l. rw after (past (triples_of map numbers) answers j (omega (arith, many)));
           size = rw after (whole (triples_of map numbers) answers (omega (arith, many)));
         }
@@ -158,5 +154,5 @@ pub same_at_once : (map other : Map) → SameAtOnce map other
 unfolding at_once at_once_rules answers_after triples_of
 same_at_once map other s numbers answers =
     let same = same_answers map other s in
-    let triples = each_same (λ n. triple_of (route_of map n)) (λ n. triple_of (route_of other n)) (λ n. ap triple_of (same.1 n)) numbers in
+    let triples = each_same (told_of map) (told_of other) (λ n. ap (λ (a : Result Route Refusal). option_map_or triple_of (result_ok a) []) (same.1 n)) numbers in
     (rw same.0, rw (same.0, triples))

@@ -98,7 +98,6 @@ module _ (said : Said) where
   -- ---- where all bridges have the LPC's node, the first is the LPC's
   module _ (alike : (j : ℕ) → j < length said.bios → (bio_at said j).node ≡ said.lpc.node) where
     first_bridge : 0 < length said.bios → is_lpc_bridge said 0 ≡ true
-    unfolding every
     first_bridge some = both_true (is_bridge said.lpc (bio_at said 0)) _ (eq-eqb _ _ (alike 0 some)) refl
 
     -- and no other is

@@ -7,14 +7,11 @@ use mathlib.Core.List.{List, [], ◌∷◌}
 use mathlib.Core.Bool.{true, false}
 use lib.ListN.{get_or}
 use Rattle.words.specs.Choice.{if}
-use Rattle.words.specs.Refusals.{refused_with, rule, unless, first_refusal}
-use Rattle.words.specs.declared.Verdict.{Verdict}
-use Rattle.words.specs.declared.Verdict.TheVariants.{Sound, Refused}
+use Rattle.words.specs.Refusals.{Verdict, refused_with, rule, unless, first_refusal}
 use Rattle.words.proofs.Verdicts.{first_kept, first-told}
 use Rattle.clashes.specs.Search.{first_clash, first_lone}
 use Rattle.clashes.specs.Told.{at_later, at_both, spotted}
 use Rattle.clashes.specs.declared.Claim.{Claim}
-use Rattle.clashes.specs.declared.Pair.TheVariants.{None as NoPair}
 use Rattle.parts.specs.Inputs.{names_unwired}
 use Rattle.lines.specs.Says.{Said, says}
 use Rattle.lines.specs.Hubs.{nodes}
@@ -31,6 +28,7 @@ use Rattle.map_promises.proofs.Meetings.{Agrees, names, sharing, no_sharing, fin
 use Rattle.map_promises.proofs.Sharing.{node_agrees, number_agrees, vector_agrees, core_agrees, number_sharing, sharing_number, vector_sharing, sharing_vector}
 use Rattle.map_promises.proofs.Unused.{lio_said}
 use Rattle.map_promises.proofs.Verdicts.{hub_there, later_kept, both_kept, spotted_kept, later_told, both_told, spotted-told, rule_read, position, Second, own, told_at}
+use Rattle.std.specs.Prelude.{Ok, Err, None}
 
 module _ (map : Map) (places : Places) (madt fadt : ℕ) where
   abbrev said : Said
@@ -52,7 +50,7 @@ module _ (map : Map) (places : Places) (madt fadt : ℕ) where
 
   -- a number that is told is that of the first broken rule
   told : too_many map ≡ false → (n p q : ℕ) → Told n p q
-      → (get_or rules (position n) Sound ≡ Refused (refused_with n p q)) × ((i : ℕ) → i < position n → get_or rules i Sound ≡ Sound)
+      → (get_or rules (position n) (Ok tt) ≡ Err (refused_with n p q)) × ((i : ℕ) → i < position n → get_or rules i (Ok tt) ≡ Ok tt)
   told few n p q h = told_at said places madt fadt n p q (sym (from_40 few) ∙ h)
 
   -- ---- 43
@@ -153,7 +151,7 @@ module _ (map : Map) (places : Places) (madt fadt : ℕ) where
       cores = core_agrees said ranged (lio_said map.lio).0 (lio_said map.lio).1
 
       -- where a clash is told, two structures share, and both are named
-      clash-told : {n : ℕ} {Share : Structure → Structure → Type 0} → Agrees said n Share → get_or rules (position n) Sound ≡ rule_clash n all
+      clash-told : {n : ℕ} {Share : Structure → Structure → Type 0} → Agrees said n Share → get_or rules (position n) (Ok tt) ≡ rule_clash n all
           → (p q : ℕ) → Told n p q → Sharing said Share × Names said places Share p q
       clash-told {n} agrees own p q t =
           let w = both_told n n p q (first_clash n all) (sym own ∙ (told few n p q t).0) in
@@ -161,7 +159,7 @@ module _ (map : Map) (places : Places) (madt fadt : ℕ) where
           (sharing said places ok agrees p q named, named)
 
       -- the searches before it found nothing
-      clash_none : (k n m : ℕ) → get_or rules k Sound ≡ rule_clash n all → k < position m → (p q : ℕ) → Told m p q → first_clash n all ≡ NoPair
+      clash_none : (k n m : ℕ) → get_or rules k (Ok tt) ≡ rule_clash n all → k < position m → (p q : ℕ) → Told m p q → first_clash n all ≡ None
       clash_none k n m own l p q t = both_kept n (first_clash n all) (sym own ∙ (told few m p q t).1 k l)
 
       -- with the rules below 51 kept, the verdict is that of the rest
@@ -169,16 +167,16 @@ module _ (map : Map) (places : Places) (madt fadt : ℕ) where
       unfolding map_rules rules_to_45 rules_from_51 first_refusal unless
       from_51 = from_40 few ∙ rw (to42.to40.r40, to42.r41, to42.r42, h.to44.to43.r43, h.to44.r44, h.r45)
 
-      no_number : (TwoNumber said → ⊥) → first_clash 51 all ≡ NoPair
+      no_number : (TwoNumber said → ⊥) → first_clash 51 all ≡ None
       no_number never = finds_nothing said places ok numbers (λ w. never (sharing_number said w))
 
-      number_none : first_clash 51 all ≡ NoPair → TwoNumber said → ⊥
+      number_none : first_clash 51 all ≡ None → TwoNumber said → ⊥
       number_none e w = no_sharing said places ok numbers e (number_sharing said w)
 
-      no_vector : (TwoVector said → ⊥) → first_clash 52 all ≡ NoPair
+      no_vector : (TwoVector said → ⊥) → first_clash 52 all ≡ None
       no_vector never = finds_nothing said places ok vectors (λ w. never (sharing_vector said w))
 
-      vector_none : first_clash 52 all ≡ NoPair → TwoVector said → ⊥
+      vector_none : first_clash 52 all ≡ None → TwoVector said → ⊥
       vector_none e w = no_sharing said places ok vectors e (vector_sharing said w)
 
       number_told : (p q : ℕ) → Told 51 p q → TwoNumber said × Names said places (ShareNumber said) p q
@@ -223,7 +221,7 @@ module _ (map : Map) (places : Places) (madt fadt : ℕ) where
 
 -- 38 tells the MADT alone; then the rules from 40 on
 second_told : (map : Map) (places : Places) (madt fadt k n p q : ℕ)
-    → get_or (rule (too_many map) 38 madt ∷ map_rules (says map) places madt fadt) k Sound ≡ Refused (refused_with n p q) → Second n q
+    → get_or (rule (too_many map) 38 madt ∷ map_rules (says map) places madt fadt) k (Ok tt) ≡ Err (refused_with n p q) → Second n q
 second_told map places madt fadt zero n p q h = inr (rule_read (too_many map) 38 madt n p q h).1
 second_told map places madt fadt (suc k) n p q h = (own (says map) places madt fadt k n p q h).1
 

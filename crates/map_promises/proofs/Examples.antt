@@ -2,7 +2,7 @@
 use mathlib.Core.Path.{refl}
 use Rattle.words.specs.Choice.{if}
 use Rattle.words.specs.Refusals.{unless, first_refusal, is_sound}
-use Rattle.words.specs.Lists.{first, every, in_each, numbers_from, numbers_below}
+use Rattle.words.specs.Lists.{first, in_each, numbers_from, numbers_below}
 use Rattle.words.specs.Rooms.{written}
 use Rattle.kinds.specs.Ranges.{lio_field, ht_field, eio_field, msi_field, bio_field, lpc_field}
 use Rattle.kinds.specs.Used.{used_half, said_lio, said_ht, said_lpc}
@@ -19,13 +19,13 @@ use Rattle.lines.specs.Routes.{lio_arrival, through, bio_owner, owner, arrival_o
 use Rattle.lines.specs.Rules.{eios_fit, bios_fit, msis_fit, ranges_kept, no_bridge, no_input, lost, rules_to_45, rules_from_51, map_rules, first_broken, keeps_rules}
 use Rattle.lines.specs.Traces.{slot_told, is_lpc_pin, pin_told, landed, comes_by, hub_traced, led_by_lio, traced}
 use Rattle.lines.specs.declared.Map.{Map}
-use Rattle.owners.specs.Table.{table_of, empty_table, owner_in, in_parts, same_owner, same_table}
+use Rattle.owners.specs.Table.{table_of, empty_table, owner_in, same_owner, same_table}
 use Rattle.owners.specs.Lookups.{filling_of, lookup_rules, owner_by, lookup_of}
 use Rattle.map_promises.specs.Examples.{Question, Told, told, broken_alone, fewer_pins, right_bridge, many_at_once, beside_the_map, on_the_ht, unused_places, first_named, MapExamples}
 
 -- what is told, with all that it is computed by
 unfoldable computed : Map → Question → Told
-unfolding if first every in_each numbers_from numbers_below written fold lio_field ht_field eio_field msi_field bio_field lpc_field used_half said_lio said_ht said_lpc clash sooner nearer partner better first_clash lonelier first_lone has_bit core_vector is_named names_unwired has_pin in_numbers route_of trace_of triple_of triples_of at_once_rules at_once answers_after placed claims hubs_of nodes_of lio_arrival through bio_owner owner arrival_of arrival at_later at_both spotted eios_fit bios_fit msis_fit ranges_kept no_bridge no_input lost rules_to_45 rules_from_51 map_rules first_broken unless first_refusal is_sound keeps_rules slot_told is_lpc_pin pin_told landed comes_by hub_traced led_by_lio traced table_of empty_table owner_in in_parts same_owner same_table filling_of lookup_rules owner_by lookup_of told
+unfolding if first in_each numbers_from numbers_below written fold lio_field ht_field eio_field msi_field bio_field lpc_field used_half said_lio said_ht said_lpc clash sooner nearer partner better first_clash lonelier first_lone has_bit core_vector is_named names_unwired has_pin in_numbers route_of trace_of triple_of triples_of at_once_rules at_once answers_after placed claims hubs_of nodes_of lio_arrival through bio_owner owner arrival_of arrival at_later at_both spotted eios_fit bios_fit msis_fit ranges_kept no_bridge no_input lost rules_to_45 rules_from_51 map_rules first_broken unless first_refusal is_sound keeps_rules slot_told is_lpc_pin pin_told landed comes_by hub_traced led_by_lio traced table_of empty_table owner_in same_owner same_table filling_of lookup_rules owner_by lookup_of told
 computed map question = told map question
 
 -- THE PROMISES

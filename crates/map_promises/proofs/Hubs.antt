@@ -13,8 +13,6 @@ use Rattle.kinds.specs.Used.{no_eio}
 use Rattle.clashes.specs.Rules.{no_node, is_missing, lone}
 use Rattle.clashes.specs.Search.{first_lone}
 use Rattle.clashes.specs.declared.Claim.{Claim}
-use Rattle.clashes.specs.declared.Spot.{Spot}
-use Rattle.clashes.specs.declared.Spot.TheVariants.{At, Nowhere}
 use Rattle.clashes.proofs.Searched.{none_lone}
 use Rattle.lines.specs.Says.{Said}
 use Rattle.lines.specs.Hubs.{Hub, eio_hub, ht_hub, hubs, hubs_of, nodes, nodes_of}
@@ -31,6 +29,7 @@ use Rattle.map_promises.proofs.Meetings.{member, of_member}
 use Rattle.map_promises.proofs.Ranged.{bio-fits}
 use Rattle.map_promises.proofs.SearchNames.{search_lone}
 use Rattle.map_promises.proofs.Shelves.{map_at}
+use Rattle.std.specs.Prelude.{Option, Some, None}
 
 module _ (said : Said) where
   -- what holds of the HT alone, where there is one, and of each EIO, where there is none, holds of each hub at its place
@@ -96,7 +95,7 @@ module _ (said : Said) (ranged : ranges_kept said ≡ true) (p : Places) (ok : P
   lone_is : (j : ℕ) → j < length said.bios → lone (nodes said) (claim_of said p (bio j)) ≡ is_missing (bio_at said j).node (nodes said)
   lone_is j k = let l = (bio-fits said ranged j k).0 in rw (ne_eqb (bio_at said j).node no_node (omega arith))
 
-  pub bio_hub : first_lone (nodes said) (claims said p) ≡ Nowhere → (j : ℕ) → j < length said.bios → OwnHub said j
+  pub bio_hub : first_lone (nodes said) (claims said p) ≡ None → (j : ℕ) → j < length said.bios → OwnHub said j
   bio_hub kept j k =
       ⊎_elim
       (λ none.
@@ -118,7 +117,7 @@ module _ (said : Said) (ranged : ranges_kept said ≡ true) (p : Places) (ok : P
   one_lone : (j : ℕ) → IsLone said j → lone (nodes said) (claim_of said p (bio j)) ≡ true
   one_lone j w = lone_is j w.0 ∙ ⊎_elim (λ none. none) (λ h. absurd (w.1 h.0 h.1 h.2)) (hub_or_none j w.0)
 
-  pub names-lone : (q : ℕ) → first_lone (nodes said) (claims said p) ≡ At q → NamesLone said p q
+  pub names-lone : (q : ℕ) → first_lone (nodes said) (claims said p) ≡ Some q → NamesLone said p q
   names-lone q h =
       let f = search_lone (nodes said) (claims said p) q h in
       let x = of_member said p f.0.0 f.0.1 in
@@ -130,9 +129,9 @@ module _ (said : Said) (ranged : ranges_kept said ≡ true) (p : Places) (ok : P
         first = λ i l. f.1 (claim_of said p (bio i)) (member said p ok (bio i) l.0) (one_lone i l);
       }
 
-  pub finds_lone : LoneBio said → (q : ℕ) × (first_lone (nodes said) (claims said p) ≡ At q)
+  pub finds_lone : LoneBio said → (q : ℕ) × (first_lone (nodes said) (claims said p) ≡ Some q)
   finds_lone w = go (first_lone (nodes said) (claims said p)) refl
     where
-      go : (s : Spot) → first_lone (nodes said) (claims said p) ≡ s → (q : ℕ) × (first_lone (nodes said) (claims said p) ≡ At q)
-      go (At q) e = (q, e)
-      go Nowhere e = let h = bio_hub e w.0 w.1.0 in absurd (w.1.1 h.0 h.1 h.2)
+      go : (s : Option ℕ) → first_lone (nodes said) (claims said p) ≡ s → (q : ℕ) × (first_lone (nodes said) (claims said p) ≡ Some q)
+      go (Some q) e = (q, e)
+      go None e = let h = bio_hub e w.0 w.1.0 in absurd (w.1.1 h.0 h.1 h.2)

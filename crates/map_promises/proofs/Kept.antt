@@ -11,11 +11,9 @@ use lib.Dec.{eqb}
 use lib.ListN.{length, get_or}
 use Rattle.words.specs.Lists.{every}
 use Rattle.words.specs.Refusals.{rule, is_sound}
-use Rattle.words.specs.declared.Verdict.TheVariants.{Sound}
 use Rattle.words.proofs.Verdicts.{is_sound_lem, rule_kept, each_sound}
 use Rattle.kinds.specs.Ranges.{bit_in_both}
 use Rattle.clashes.specs.Search.{first_clash, first_lone}
-use Rattle.clashes.specs.declared.Pair.TheVariants.{None as NoPair}
 use Rattle.clashes.proofs.Logic.{and_left, and_right, is_false}
 use Rattle.parts.specs.Inputs.{wired, core_vector, input_for, is_named, names_unwired}
 use Rattle.lines.specs.Says.{Said, says}
@@ -37,6 +35,7 @@ use Rattle.map_promises.proofs.Sharing.{node_agrees, number_agrees, vector_agree
 use Rattle.map_promises.proofs.Slots.{slots_placed}
 use Rattle.map_promises.proofs.Unused.{lio_said}
 use Rattle.map_promises.proofs.Verdicts.{hub_there, later_kept, both_kept, spotted_kept}
+use Rattle.std.specs.Prelude.{Ok, None}
 
 -- ---- the bytes of an HT
 -- a byte names an input that is not wired
@@ -90,7 +89,7 @@ good map h =
     let hub = bio_hub said ranged slot_places ok (spotted_kept 42 (first_lone (nodes said) (claims said slot_places)) (f 3)) in
     let low0 = (lio_said map.lio).0 in
     let high0 = (lio_said map.lio).1 in
-    let none : (n : ℕ) → rule_clash n (claims said slot_places) ≡ Sound → first_clash n (claims said slot_places) ≡ NoPair =
+    let none : (n : ℕ) → rule_clash n (claims said slot_places) ≡ Ok tt → first_clash n (claims said slot_places) ≡ None =
     λ n. both_kept n (first_clash n (claims said slot_places)) in
     record {
       ranged = ranged;

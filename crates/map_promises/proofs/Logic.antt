@@ -8,10 +8,22 @@ use mathlib.Core.Bool.{Bool, true, false, not}
 use borrow.Author.Tests.{eqb-true, eqb-false, not-true}
 use lib.Bits.{bit_and, and_shr, and_mod}
 use lib.Dec.{eqb, ltb}
+use Rattle.std.specs.Prelude.{Result, Ok, Err}
+use Rattle.words.specs.declared.Refusal.{Refusal}
 use Rattle.kinds.specs.declared.Lio.{Lio}
 use Rattle.clashes.proofs.Logic.{and_right, or_cases}
 use Rattle.parts.specs.Inputs.{has_bit, wired}
 use Rattle.parts.proofs.Inputs.{bit_small}
+
+-- what is answered is not refused; equal refusals and equal answers hold the same
+pub answered_not : {A : Type 0} {x : A} {r : Refusal} → ◌≡◌ {A = Result A Refusal} (Ok x) (Err r) → ⊥
+answered_not e = let o : ◌≡◌ {A = ℕ} 0 1 = cc in omega arith
+
+pub same_refused : {A : Type 0} {q r : Refusal} → ◌≡◌ {A = Result A Refusal} (Err q) (Err r) → q ≡ r
+same_refused e = cc
+
+pub same_answer : {A : Type 0} {x y : A} → ◌≡◌ {A = Result A Refusal} (Ok x) (Ok y) → x ≡ y
+same_answer e = cc
 
 pub is_bool : (t : Bool) → (t ≡ false) ⊎ (t ≡ true)
 is_bool true = inr refl

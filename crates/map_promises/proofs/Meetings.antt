@@ -11,8 +11,6 @@ use borrow.Author.Tests.{lt-ltb}
 use Rattle.clashes.specs.Rules.{clash}
 use Rattle.clashes.specs.Search.{first_clash}
 use Rattle.clashes.specs.declared.Claim.{Claim}
-use Rattle.clashes.specs.declared.Pair.{Pair}
-use Rattle.clashes.specs.declared.Pair.TheVariants.{Two, None}
 use Rattle.clashes.proofs.Searched.{hits, clear}
 use Rattle.clashes.proofs.Symmetric.{clash_back}
 use Rattle.parts.specs.Claims.{lio_claim, eio_claim, bio_claim, msi_claim}
@@ -26,6 +24,7 @@ use Rattle.map_promises.specs.Clashing.{Sharing, Names}
 use Rattle.map_promises.proofs.Logic.{order}
 use Rattle.map_promises.proofs.Members.{placed_at, placed_of}
 use Rattle.map_promises.proofs.SearchNames.{FirstClash, search_names}
+use Rattle.std.specs.Prelude.{Option, Some, None}
 
 -- two structures clash by a rule, wherever they stand
 abbrev pub Clash : Said → ℕ → Structure → Structure → Type 0
@@ -152,7 +151,7 @@ module _ (said : Said) (places : Places) (ok : Placed said places) {rule : ℕ} 
       ∙ a.clashes s t ks kt (λ e. let z : place_of places s ≡ place_of places t = ap (place_of places) e in omega arith) w
 
   -- what the search names is the first structure that shares with an earlier one
-  pub names : (p q : ℕ) → first_clash rule (claims said places) ≡ Two p q → Names said places Share p q
+  pub names : (p q : ℕ) → first_clash rule (claims said places) ≡ Some (p, q) → Names said places Share p q
   names p q h =
       let f = search_names rule (claims said places) p q h in
       let x = of_member said places f.x f.x_listed in
@@ -206,16 +205,16 @@ module _ (said : Said) (places : Places) (ok : Placed said places) {rule : ℕ} 
         share = n.share;
       }
 
-  pub finds_two : Sharing said Share → (p : ℕ) × (q : ℕ) × (first_clash rule (claims said places) ≡ Two p q)
+  pub finds_two : Sharing said Share → (p : ℕ) × (q : ℕ) × (first_clash rule (claims said places) ≡ Some (p, q))
   finds_two w = go (first_clash rule (claims said places)) refl
     where
-      go : (c : Pair) → first_clash rule (claims said places) ≡ c → (p : ℕ) × (q : ℕ) × (first_clash rule (claims said places) ≡ Two p q)
+      go : (c : Option (ℕ × ℕ)) → first_clash rule (claims said places) ≡ c → (p : ℕ) × (q : ℕ) × (first_clash rule (claims said places) ≡ Some (p, q))
       go None e = absurd (no_sharing e w)
-      go (Two p q) e = (p, q, e)
+      go (Some (p, q)) e = (p, q, e)
 
   pub finds_nothing : (Sharing said Share → ⊥) → first_clash rule (claims said places) ≡ None
   finds_nothing never = go (first_clash rule (claims said places)) refl
     where
-      go : (c : Pair) → first_clash rule (claims said places) ≡ c → first_clash rule (claims said places) ≡ None
+      go : (c : Option (ℕ × ℕ)) → first_clash rule (claims said places) ≡ c → first_clash rule (claims said places) ≡ None
       go None e = e
-      go (Two p q) e = absurd (never (sharing p q (names p q e)))
+      go (Some (p, q)) e = absurd (never (sharing p q (names p q e)))

@@ -2,7 +2,7 @@
 use Prim.Native.Nat.{ℕ, zero, suc, ◌<◌, ◌≤◌}
 use native.Mathlib.Nat.{le_of_suc-le-suc, not-suc-le-zero}
 use native.Mathlib.Omega.{arith}
-use mathlib.Core.Path.{◌≡◌, refl, sym, ◌∙◌, ap}
+use mathlib.Core.Path.{◌≡◌, refl, sym, ◌∙◌}
 use mathlib.Core.Logic.{◌⊎◌, inl, inr, ⊎_elim}
 use mathlib.Core.List.Memᴰ
 use mathlib.Core.List.{List, [], ◌∷◌, Memᴰ}
@@ -14,30 +14,6 @@ use Rattle.words.specs.Lists.{first, every}
 use Rattle.clashes.specs.declared.Claim.{Claim}
 use Rattle.clashes.proofs.Logic.{and_left, and_right}
 use Rattle.lines.specs.Claims.{placed}
-
--- each element is of one sort, or one is of the other
-pub each_or_one : {A : Type 0} (P Q : A → Type 0) → ((x : A) → P x ⊎ Q x) → (l : List A)
-    → ((x : A) → Memᴰ x l → P x) ⊎ ((x : A) × Memᴰ x l × Q x)
-each_or_one P Q d [] = inl (λ x m. absurd (Memᴰ.not-nil m))
-each_or_one {A} P Q d (y ∷ ys) = go (d y) (each_or_one P Q d ys)
-  where
-    go : P y ⊎ Q y → ((x : A) → Memᴰ x ys → P x) ⊎ ((x : A) × Memᴰ x ys × Q x)
-        → ((x : A) → Memᴰ x (y ∷ ys) → P x) ⊎ ((x : A) × Memᴰ x (y ∷ ys) × Q x)
-    go (inr q) r = inr (y, Memᴰ.head refl, q)
-    go (inl p) (inr r) = inr (r.0, Memᴰ.tail r.1, r.2)
-    go (inl p) (inl r) = inl (λ x m. ⊎_elim (λ e. rw e p) (r x) (Memᴰ.cases_cons m))
-
--- a test of every element
-pub every_mem : {A : Type 0} (f : A → Bool) (l : List A) → every f l ≡ true → (x : A) → Memᴰ x l → f x ≡ true
-unfolding every
-every_mem f [] h x m = absurd (Memᴰ.not-nil m)
-every_mem f (y ∷ ys) h x m =
-    ⊎_elim (λ e. ap f e ∙ and_left (f y) (every f ys) h) (every_mem f ys (and_right (f y) (every f ys) h) x) (Memᴰ.cases_cons m)
-
-pub mem_every : {A : Type 0} (f : A → Bool) (l : List A) → ((x : A) → Memᴰ x l → f x ≡ true) → every f l ≡ true
-unfolding every
-mem_every f [] h = refl
-mem_every f (y ∷ ys) h = rw (h y (Memᴰ.head refl)) (mem_every f ys (λ x m. h x (Memᴰ.tail m)))
 
 module _ {A : Type 0} (claim : A → ℕ → Claim) (d : A) where
   pub placed_at : (xs : List A) (ps : List ℕ) → length xs ≤ length ps → (i : ℕ) → i < length xs
@@ -59,19 +35,16 @@ module _ {A : Type 0} (claim : A → ℕ → Claim) (d : A) where
 module _ {A : Type 0} (d : A) where
   -- a test of every element, at a place
   pub every-at : (f : A → Bool) (l : List A) → every f l ≡ true → (i : ℕ) → i < length l → f (get_or l i d) ≡ true
-  unfolding every
   every-at f [] h i k = absurd (not-suc-le-zero k)
   every-at f (x ∷ xs) h zero k = and_left (f x) (every f xs) h
   every-at f (x ∷ xs) h (suc i) k = every-at f xs (and_right (f x) (every f xs) h) i (le_of_suc-le-suc k)
 
   pub at_every : (f : A → Bool) (l : List A) → ((i : ℕ) → i < length l → f (get_or l i d) ≡ true) → every f l ≡ true
-  unfolding every
   at_every f [] h = refl
   at_every f (x ∷ xs) h = rw (h 0 (omega arith)) (at_every f xs (λ i k. h (suc i) (omega arith)))
 
   -- a test that not every element passes fails at a place
   pub not-every : (f : A → Bool) (l : List A) → every f l ≡ false → (i : ℕ) × (i < length l) × (f (get_or l i d) ≡ false)
-  unfolding every
   not-every f [] h = absurd (true≢false h)
   not-every f (x ∷ xs) h = go (f x) refl h (λ k. not-every f xs k)
     where
@@ -116,7 +89,7 @@ module _ {A : Type 0} (d : A) where
   -- a search answers by it
   pub finds_first : {R : Type 0} (test : A → Bool) (found : A → R) (none : R) (l : List A) (j : ℕ) → IsFirst test l j
       → first test found none l ≡ found (get_or l j d)
-  unfolding first every if
+  unfolding first if
   finds_first test found none [] j h = absurd (not-suc-le-zero h.0)
   finds_first test found none (x ∷ xs) zero h = rw h.1
   finds_first test found none (x ∷ xs) (suc j) h =
@@ -126,7 +99,6 @@ module _ {A : Type 0} (d : A) where
 
   -- and there is one, or the test takes none
   pub first_or_none : (test : A → Bool) (l : List A) → ((j : ℕ) × IsFirst test l j) ⊎ (every (λ x. not (test x)) l ≡ true)
-  unfolding every
   first_or_none test [] = inr refl
   first_or_none test (x ∷ xs) = go (test x) refl (first_or_none test xs)
     where

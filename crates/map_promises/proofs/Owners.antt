@@ -3,21 +3,19 @@ use Prim.Native.Nat.{ℕ, ◌<◌}
 use native.Mathlib.Omega.{arith}
 use mathlib.Core.Bool.{Bool, true, false, not, true≢false}
 use mathlib.Core.Logic.{◌⊎◌, inl, inr, ⊎_elim}
-use mathlib.Core.Path.{◌≡◌, refl, sym, ap, ◌∙◌}
+use mathlib.Core.Path.{◌≡◌, refl, sym, ap, subst, ◌∙◌}
 use borrow.Author.Tests.{ltb-true, not-true, not-false}
 use lib.Dec.{ltb}
-use Rattle.words.specs.Refusals.{refused, rule, unless, first_refusal}
+use Rattle.std.specs.Prelude.{Result, Ok, Err}
+use Rattle.words.specs.Refusals.{Verdict, refused, rule, unless, first_refusal}
 use Rattle.words.specs.declared.Refusal.{Refusal}
-use Rattle.words.specs.declared.Verdict.{Verdict}
-use Rattle.words.specs.declared.Verdict.TheVariants as verdicts
 use Rattle.words.proofs.Choices.{if_cases}
 use Rattle.words.proofs.Tests.{fails}
 use Rattle.words.proofs.TwoRules.{one_of_two}
-use Rattle.words.proofs.Verdicts.{not_sound, same_refusal, rule_told, unless-refused, unless-told}
+use Rattle.words.proofs.Verdicts.{rule_told, unless-refused, unless-told}
 use Rattle.lines.specs.Says.{says}
 use Rattle.lines.specs.Routes.{owner}
 use Rattle.lines.specs.Rules.{keeps_rules}
-use Rattle.lines.specs.Answers.{route_of}
 use Rattle.lines.specs.declared.Map.{Map}
 use Rattle.lines.specs.declared.Owner.{Owner}
 use Rattle.lines.specs.declared.Route.{Route}
@@ -25,14 +23,13 @@ use Rattle.owners.specs.Table.{table_of, empty_table, owner_in, same_table}
 use Rattle.owners.specs.Lookups.{filling_of, lookup_rules, owner_by, lookup_of}
 use Rattle.owners.specs.declared.OwnerTable.{OwnerTable}
 use Rattle.owners.specs.declared.Filling.{Filling}
-use Rattle.owners.specs.declared.Lookup.{Lookup}
-use Rattle.owners.specs.declared.Lookup.TheVariants.{Told, Refused}
 use Rattle.owners.proofs.Entries.{its_own, own_size, same_each, each_same, same_table_lem}
 use Rattle.owners.proofs.Calls.{filled, refused_61, refused_63, told_so}
+use Rattle.map_promises.proofs.Logic.{answered_not, same_refused}
 use Rattle.map_promises.proofs.Routing.{routed}
 use Rattle.map_promises.proofs.SameAnswers.{same_answers}
 use Rattle.map_promises.proofs.TwoRules.{rephrased, one_exactly, first-exactly, second_exactly}
-use Rattle.map_promises.specs.Owners.{FillExactly, BrokenMapExactly, SixtyThreeExactly, OneEntryIsEnough, FilledIsTaken, BothWaysAgree, TakenIsTrue, SameTables}
+use Rattle.map_promises.specs.Owners.{FillExactly, BrokenMapExactly, SixtyThreeExactly, OneEntryIsEnough, FilledIsTaken, ByTheMap, BothWaysAgree, TakenIsTrue, SameTables}
 
 -- ---- the map's own table
 own_table : (map : Map) → same_table (table_of map) (table_of map) ≡ true
@@ -43,30 +40,24 @@ as_by_map : (map : Map) (table : OwnerTable) → same_table table (table_of map)
 as_by_map map table own k l = same_each table (table_of map) own k l ∙ its_own map k l
 
 -- ---- a lookup tells what the two rules say
-abbrev says_of : Lookup → Verdict
-says_of (Told whose route) = verdicts.Sound
-says_of (Refused refusal) = verdicts.Refused refusal
-
-same_refused : {r t : Refusal} → ◌≡◌ {A = Lookup} (Refused r) (Refused t) → r ≡ t
-same_refused e = same_refusal (ap says_of e)
-
-never_told : {o : Owner} {route : Route} {r : Refusal} → ◌≡◌ {A = Lookup} (Told o route) (Refused r) → ⊥
-never_told e = not_sound (sym (ap says_of e))
+abbrev says_of : Result (Owner × Route) Refusal → Verdict
+says_of (Ok told) = Ok tt
+says_of (Err refusal) = Err refusal
 
 module _ (map : Map) (table : OwnerTable) (number : ℕ) where
   rules_tell : says_of (lookup_of map table number) ≡ first_refusal (lookup_rules map table)
   unfolding lookup_of
-  rules_tell = unless-told Refused says_of (λ r. refl) (first_refusal (lookup_rules map table)) _ refl
+  rules_tell = unless-told Err says_of (λ r. refl) (first_refusal (lookup_rules map table)) _ refl
 
-  told_by_rules : {r : Refusal} → lookup_of map table number ≡ Refused r → first_refusal (lookup_rules map table) ≡ verdicts.Refused r
+  told_by_rules : {r : Refusal} → lookup_of map table number ≡ Err r → first_refusal (lookup_rules map table) ≡ Err r
   told_by_rules h = sym rules_tell ∙ ap says_of h
 
-  rules-told : {r : Refusal} → first_refusal (lookup_rules map table) ≡ verdicts.Refused r → lookup_of map table number ≡ Refused r
+  rules-told : {r : Refusal} → first_refusal (lookup_rules map table) ≡ Err r → lookup_of map table number ≡ Err r
   unfolding lookup_of unless
   rules-told h = rw h
 
   -- there are no others, and each is due
-  pub two_refusals : (r : Refusal) → lookup_of map table number ≡ Refused r → ((keeps_rules map ≡ false) × (r ≡ refused 61 0)) ⊎ ((same_table table (table_of map) ≡ false) × (r ≡ refused 63 0))
+  pub two_refusals : (r : Refusal) → lookup_of map table number ≡ Err r → ((keeps_rules map ≡ false) × (r ≡ refused 61 0)) ⊎ ((same_table table (table_of map) ≡ false) × (r ≡ refused 63 0))
   unfolding lookup_rules
   two_refusals r h =
       ⊎_elim
@@ -98,13 +89,13 @@ module _ (map : Map) where
   unfolding filling_of
   its_verdict = refl
 
-  fills : keeps_rules map ≡ true → ((filling_of map).verdict ≡ verdicts.Sound) × ((filling_of map).table ≡ table_of map)
+  fills : keeps_rules map ≡ true → ((filling_of map).verdict ≡ Ok tt) × ((filling_of map).table ≡ table_of map)
   fills kept =
       let e = sym (filled map kept refl) in
       (ap (λ (f : Filling). f.verdict) e, ap (λ (f : Filling). f.table) e)
 
   -- beside a refusal nobody owns a number
-  pub refused-filling : (r : Refusal) → (filling_of map).verdict ≡ verdicts.Refused r → (r ≡ refused 61 0) × ((filling_of map).table ≡ empty_table)
+  pub refused-filling : (r : Refusal) → (filling_of map).verdict ≡ Err r → (r ≡ refused 61 0) × ((filling_of map).table ≡ empty_table)
   unfolding filling_of
   refused-filling r h = (sym (rule_told (not (keeps_rules map)) 61 0 h), unless-refused (λ refusal. empty_table) _ _ h)
 
@@ -121,9 +112,9 @@ module _ (map : Map) where
       (λ less. as_by_map map table own number (ltb-true _ _ less)) (λ more. refl)
 
   told_by_map : keeps_rules map ≡ true → (table : OwnerTable) → same_table table (table_of map) ≡ true → (number : ℕ)
-      → lookup_of map table number ≡ Told (owner (says map) number) (route_of map number)
+      → ByTheMap map table number
   told_by_map kept table own number =
-      sym (told_so map table number kept own (sym (whose table own number)) (routed map kept number))
+      (_, routed map kept number, sym (told_so map table number kept own (sym (whose table own number)) refl))
 
   -- THE PROMISES
   pub one_entry_is_enough : OneEntryIsEnough map
@@ -132,19 +123,19 @@ module _ (map : Map) where
 
   pub both_ways_agree : BothWaysAgree map
   both_ways_agree kept number =
-      ap (λ t. lookup_of map t number) (fills kept).1 ∙ told_by_map kept (table_of map) (own_table map) number
+      subst (λ t. ByTheMap map t number) (sym (fills kept).1) (told_by_map kept (table_of map) (own_table map) number)
 
   pub filled-is-taken : FilledIsTaken map
   filled-is-taken number r h = go (keeps_rules map) refl
     where
       go : (b : Bool) → keeps_rules map ≡ b → (keeps_rules map ≡ false) × (r ≡ refused 61 0)
       go false broken = (broken, sym (same_refused (refused_61 map _ number broken refl ∙ h)))
-      go true kept = absurd (never_told (sym (both_ways_agree kept number) ∙ h))
+      go true kept = absurd (answered_not (sym (both_ways_agree kept number).2 ∙ h))
 
   pub taken-is-true : (table : OwnerTable) (number : ℕ) → TakenIsTrue map table number
   taken-is-true table number never = go (keeps_rules map) (same_table table (table_of map)) refl refl
     where
-      go : (b f : Bool) → keeps_rules map ≡ b → same_table table (table_of map) ≡ f → lookup_of map table number ≡ Told (owner (says map) number) (route_of map number)
+      go : (b f : Bool) → keeps_rules map ≡ b → same_table table (table_of map) ≡ f → ByTheMap map table number
       go false f broken own = absurd (never _ (sym (refused_61 map table number broken refl)))
       go true false kept other = absurd (never _ (sym (refused_63 map table number kept other refl)))
       go true true kept own = told_by_map kept table own number

@@ -6,13 +6,10 @@ use mathlib.Core.List.{◌∷◌}
 use lib.Dec.{eqb}
 use lib.ListN.{length}
 use Rattle.words.specs.Refusals.{rule, unless, first_refusal, is_sound}
-use Rattle.words.specs.declared.Verdict.TheVariants.{Sound}
 use Rattle.words.proofs.Verdicts.{is_sound_lem, rule_sound, rule_kept, each_sound}
 use Rattle.kinds.specs.Ranges.{bit_in_both}
 use Rattle.clashes.specs.Rules.{lone}
 use Rattle.clashes.specs.Search.{first_clash, first_lone}
-use Rattle.clashes.specs.declared.Spot.TheVariants.{Nowhere}
-use Rattle.clashes.specs.declared.Pair.TheVariants.{None}
 use Rattle.clashes.proofs.Logic.{and_right}
 use Rattle.clashes.proofs.Searched.{none_lone, lone_none}
 use Rattle.parts.specs.Inputs.{names_unwired}
@@ -29,6 +26,7 @@ use Rattle.map_promises.specs.Statements.{PlacesDoNotMatter}
 use Rattle.map_promises.proofs.Meetings.{same_claim, member, of_member, itself, no_sharing, finds_nothing}
 use Rattle.map_promises.proofs.Slots.{slots_placed}
 use Rattle.map_promises.proofs.Verdicts.{later_kept, kept_later, both_kept, kept_both, spotted_kept, kept_spotted}
+use Rattle.std.specs.Prelude.{Ok, None}
 
 module _ (said : Said) (p q : Places) (op : Placed said p) (oq : Placed said q) where
   -- no clash here, no clash there
@@ -37,7 +35,7 @@ module _ (said : Said) (p q : Places) (op : Placed said p) (oq : Placed said q) 
       finds_nothing said q oq (itself said rule) (no_sharing said p op (itself said rule) h)
 
 module _ (said : Said) (p q : Places) (op : Placed said p) where
-  lone_moves : first_lone (nodes said) (claims said p) ≡ Nowhere → first_lone (nodes said) (claims said q) ≡ Nowhere
+  lone_moves : first_lone (nodes said) (claims said p) ≡ None → first_lone (nodes said) (claims said q) ≡ None
   lone_moves h =
       lone_none (nodes said) (claims said q)
       (λ x mx.
@@ -46,12 +44,12 @@ module _ (said : Said) (p q : Places) (op : Placed said p) where
       ∙ none_lone (nodes said) (claims said p) h (claim_of said p v.0) (member said p op v.0 v.1))
 
 -- a rule with a known place is kept wherever that is
-known : (bad : Bool) (n here there : ℕ) → rule bad n here ≡ Sound → rule bad n there ≡ Sound
+known : (bad : Bool) (n here there : ℕ) → rule bad n here ≡ Ok tt → rule bad n there ≡ Ok tt
 known bad n here there h = rule_sound bad n there (rule_kept bad n here h)
 
 -- no rule is broken here, none there
 moves : (map : Map) (p q : Places) → Placed (says map) p → Placed (says map) q → (a b c d : ℕ)
-    → first_broken map p a b ≡ Sound → first_broken map q c d ≡ Sound
+    → first_broken map p a b ≡ Ok tt → first_broken map q c d ≡ Ok tt
 unfolding first_broken map_rules rules_to_45 rules_from_51 first_refusal unless
 moves map p q op oq a b c d h =
     let said = says map in
@@ -61,7 +59,7 @@ moves map p q op oq a b c d h =
     let bad44 = names_unwired said.lio said.ht in
     let bad45 = no_input said.lpc said.bios in
     let bad54 = lost (arrival said said.sci) in
-    let clash : (n : ℕ) → rule_clash n (claims said p) ≡ Sound → rule_clash n (claims said q) ≡ Sound =
+    let clash : (n : ℕ) → rule_clash n (claims said p) ≡ Ok tt → rule_clash n (claims said q) ≡ Ok tt =
     λ n k. kept_both n (first_clash n (claims said q)) (clash_moves said p q op oq n (both_kept n (first_clash n (claims said p)) k)) in
     let e38 = known (too_many map) 38 a c (f 0) in
     let e40 = known bad40 40 a c (f 1) in
@@ -76,13 +74,13 @@ moves map p q op oq a b c d h =
     let e54 = known bad54 54 b d (f 10) in
     rw (e38, e40, e41, e42, e43, e44, e45, e51, e52, e53, e54)
 
-few_of_first : (map : Map) (places : Places) (madt fadt : ℕ) → first_broken map places madt fadt ≡ Sound → too_many map ≡ false
+few_of_first : (map : Map) (places : Places) (madt fadt : ℕ) → first_broken map places madt fadt ≡ Ok tt → too_many map ≡ false
 unfolding first_broken
 few_of_first map places madt fadt h =
     rule_kept (too_many map) 38 madt (each_sound (rule (too_many map) 38 madt ∷ map_rules (says map) places madt fadt) h 0)
 
 to_kept : (map : Map) (places : Places) (madt fadt : ℕ) → Placed (says map) places → ranges_kept (says map) ≡ true
-    → bit_in_both (says map).lio ≡ false → both_kinds (says map) ≡ false → first_broken map places madt fadt ≡ Sound → keeps_rules map ≡ true
+    → bit_in_both (says map).lio ≡ false → both_kinds (says map) ≡ false → first_broken map places madt fadt ≡ Ok tt → keeps_rules map ≡ true
 unfolding keeps_rules is_sound
 to_kept map places madt fadt ok ranged apart one h =
     rw (ranged, apart, one, moves map places slot_places ok (slots_placed map (counts map few)) madt fadt 0 0 h)
@@ -90,7 +88,7 @@ to_kept map places madt fadt ok ranged apart one h =
     few : too_many map ≡ false
     few = few_of_first map places madt fadt h
 
-kept_to : (map : Map) (places : Places) (madt fadt : ℕ) → Placed (says map) places → keeps_rules map ≡ true → first_broken map places madt fadt ≡ Sound
+kept_to : (map : Map) (places : Places) (madt fadt : ℕ) → Placed (says map) places → keeps_rules map ≡ true → first_broken map places madt fadt ≡ Ok tt
 unfolding keeps_rules
 kept_to map places madt fadt ok h =
     let w = ranges_kept (says map) && not (bit_in_both (says map).lio) && not (both_kinds (says map)) in

@@ -9,6 +9,7 @@ use mathlib.Core.Bool.{true, false, true≢false}
 use borrow.Author.Tests.{leb-true, ltb-true, le-leb, lt-ltb, le-ltb}
 use lib.Dec.{leb, ltb}
 use lib.ListN.{length}
+use Rattle.std.specs.Prelude.{Ok}
 use Rattle.words.specs.Choice.{if}
 use Rattle.words.proofs.Choices.{yes_if}
 use Rattle.clashes.proofs.Logic.{and_left, and_right, both_true, is_false}
@@ -28,7 +29,7 @@ use Rattle.map_promises.specs.Sources.{input, pin, slot, bio_at, IsBehind}
 use Rattle.map_promises.specs.Routing.{IsSourced, IsUnwired, IsLpcLine, Rest, RouteIsSources, UnwiredExactly, NoOwnerExactly, Owns, OwnerExactly}
 use Rattle.map_promises.proofs.Bridges.{bridge_node}
 use Rattle.map_promises.proofs.Kept.{Good, good, named-wired, bio_number}
-use Rattle.map_promises.proofs.Logic.{order, is_bool, wired_small}
+use Rattle.map_promises.proofs.Logic.{same_answer, order, is_bool, wired_small}
 use Rattle.map_promises.proofs.Members.{finds, found_or_not}
 use Rattle.map_promises.proofs.NoTwoAlike.{pin_at, every_source_arrives}
 use Rattle.map_promises.proofs.Ranged.{bio-fits}
@@ -57,7 +58,7 @@ module _ (said : Said) where
   owner-bio n l = rw (le-ltb n 16 (omega arith), le-ltb n 48 l)
 
 -- a map that keeps the rules is routed as it says
-pub routed : (map : Map) → keeps_rules map ≡ true → (n : ℕ) → route_of map n ≡ arrival_of (says map) (owner (says map) n)
+pub routed : (map : Map) → keeps_rules map ≡ true → (n : ℕ) → route_of map n ≡ Ok (arrival_of (says map) (owner (says map) n))
 unfolding route_of arrival
 routed map h n = yes_if _ _ _ h
 
@@ -89,54 +90,54 @@ module _ (map : Map) (kept : keeps_rules map ≡ true) where
   -- ---- where each kind of number is routed
   -- the LPC lines go where the pin of its bridge does
   pub lpc-line : (n : ℕ) → n < 16 → said.lpc.present ≡ true → (j : ℕ) → IsBehind said j
-      → route_of map n ≡ through (hubs said) (bio_at said j).node said.lpc.cascade
+      → route_of map n ≡ Ok (through (hubs said) (bio_at said j).node said.lpc.cascade)
   unfolding arrival_of
   lpc-line n l p j b =
-      routed map kept n ∙ ap (arrival_of said) (owner-lpc said n l p) ∙ ap (λ node. through (hubs said) node said.lpc.cascade) (sym (bridge_node said j b.1))
+      routed map kept n ∙ ap Ok (ap (arrival_of said) (owner-lpc said n l p) ∙ ap (λ node. through (hubs said) node said.lpc.cascade) (sym (bridge_node said j b.1)))
 
-  input_routed : (i : ℕ) → i < 32 → is_named said.ht i ≡ false → route_of map (16 + i) ≡ lio_arrival said.lio i
+  input_routed : (i : ℕ) → i < 32 → is_named said.ht i ≡ false → route_of map (16 + i) ≡ Ok (lio_arrival said.lio i)
   unfolding arrival_of
   input_routed i l free =
       let same : 16 + i - 16 ≡ i = add-sub_cancel_left 16 i in
       routed map kept (16 + i) ∙ rw (owner-lio said (16 + i) (omega arith) (omega arith) (rw same free), same)
 
   pin_routed : (j v : ℕ) → j < length said.bios → v < (bio_at said j).pins
-      → route_of map ((bio_at said j).base + v) ≡ through (hubs said) (bio_at said j).node v
+      → route_of map ((bio_at said j).base + v) ≡ Ok (through (hubs said) (bio_at said j).node v)
   unfolding arrival_of
   pin_routed j v k l =
       let base = (bio_at said j).base in
       let f = bio-fits said g.ranged j k in
       let o = owner-bio said (base + v) (omega arith) ∙ owned j (base + v) k (omega arith) (omega arith) in
-      routed map kept (base + v) ∙ ap (arrival_of said) o ∙ ap (through (hubs said) (bio_at said j).node) (add-sub_cancel_left base v)
+      routed map kept (base + v) ∙ ap Ok (ap (arrival_of said) o ∙ ap (through (hubs said) (bio_at said j).node) (add-sub_cancel_left base v))
 
   route_is_source : RouteIsSources map
   route_is_source (input i) n p e = ap (route_of map) (sym e) ∙ input_routed i (wired_small said.lio i p.0) p.1
   route_is_source (pin j v) n p e = ap (route_of map) (sym e) ∙ pin_routed j v p.0 p.1
   route_is_source (slot m s f) n p e = absurd e
 
-  unwired_routed : (n : ℕ) → IsUnwired said n → route_of map n ≡ Unwired
+  unwired_routed : (n : ℕ) → IsUnwired said n → route_of map n ≡ Ok Unwired
   unwired_routed n u =
       let free = is_false (is_named said.ht u.0) (λ t. true≢false (sym (named-wired said g u.0 t) ∙ u.2)) in
-      ap (route_of map) (sym u.3) ∙ input_routed u.0 u.1 free ∙ not-wired said u.0 u.2
+      ap (route_of map) (sym u.3) ∙ input_routed u.0 u.1 free ∙ ap Ok (not-wired said u.0 u.2)
 
   -- ---- every number is of one kind
   -- it arrives somewhere
   abbrev Lands : ℕ → Type 0
-  Lands n = (vector : ℕ) × (number : ℕ) × (route_of map n ≡ Arrives vector number)
+  Lands n = (vector : ℕ) × (number : ℕ) × (route_of map n ≡ Ok (Arrives vector number))
 
   lpc_lands : (n : ℕ) → IsLpcLine said n → Lands n
   lpc_lands n l =
       let w = g.behind l.1 in
       let a = pin_at said g w.0 said.lpc.cascade w.1.0.0 in
-      (_, _, lpc-line n l.0 l.1 w.0 w.1 ∙ a.3)
+      (_, _, lpc-line n l.0 l.1 w.0 w.1 ∙ ap Ok a.3)
 
   source_lands : (n : ℕ) → IsSourced said n → Lands n
   source_lands n s =
       let a = every_source_arrives said g s.0 s.1 in
-      (a.0, a.1, route_is_source s.0 n s.1 s.2 ∙ a.2)
+      (a.0, a.1, route_is_source s.0 n s.1 s.2 ∙ ap Ok a.2)
 
   abbrev Kinds : ℕ → Type 0
-  Kinds n = IsLpcLine said n ⊎ (IsSourced said n ⊎ (IsUnwired said n ⊎ (route_of map n ≡ NoOwner)))
+  Kinds n = IsLpcLine said n ⊎ (IsSourced said n ⊎ (IsUnwired said n ⊎ (route_of map n ≡ Ok NoOwner)))
 
   -- what owns it, but for nobody
   abbrev Holds : Owner → ℕ → Type 0
@@ -189,33 +190,26 @@ module _ (map : Map) (kept : keeps_rules map ≡ true) where
       go (LioInput i) e h =
           ⊎_elim (λ no. inr (inr (inl (i, h.0, no, h.2)))) (λ yes. inr (inl (input i, (yes, h.1), h.2))) (is_bool (wired said.lio i))
       go (BioInput node v) e h = inr (inl (pin h.0 v, h.1, h.2))
-      go Nobody e h = inr (inr (inr (routed map kept n ∙ ap (arrival_of said) e)))
-
-  pub answered : (n : ℕ) → Lands n ⊎ ((route_of map n ≡ Unwired) ⊎ (route_of map n ≡ NoOwner))
-  answered n =
-      ⊎_elim
-      (λ l. inl (lpc_lands n l))
-      (⊎_elim (λ s. inl (source_lands n s)) (⊎_elim (λ u. inr (inl (unwired_routed n u))) (λ o. inr (inr o))))
-      (kind n)
+      go Nobody e h = inr (inr (inr (routed map kept n ∙ ap (λ (o : Owner). Ok (arrival_of said o)) e)))
 
   -- ---- the three answers are told apart
-  lands_unwired : (n : ℕ) → Lands n → route_of map n ≡ Unwired → ⊥
-  lands_unwired n a e = let z : Arrives a.0 a.1 ≡ Unwired = sym a.2 ∙ e in let o : ◌≡◌ {A = ℕ} 0 1 = cc in omega arith
+  lands_unwired : (n : ℕ) → Lands n → route_of map n ≡ Ok Unwired → ⊥
+  lands_unwired n a e = let z : Arrives a.0 a.1 ≡ Unwired = same_answer (sym a.2 ∙ e) in let o : ◌≡◌ {A = ℕ} 0 1 = cc in omega arith
 
-  lands_unowned : (n : ℕ) → Lands n → route_of map n ≡ NoOwner → ⊥
-  lands_unowned n a e = let z : Arrives a.0 a.1 ≡ NoOwner = sym a.2 ∙ e in let o : ◌≡◌ {A = ℕ} 0 1 = cc in omega arith
+  lands_unowned : (n : ℕ) → Lands n → route_of map n ≡ Ok NoOwner → ⊥
+  lands_unowned n a e = let z : Arrives a.0 a.1 ≡ NoOwner = same_answer (sym a.2 ∙ e) in let o : ◌≡◌ {A = ℕ} 0 1 = cc in omega arith
 
-  unwired_unowned : (n : ℕ) → route_of map n ≡ Unwired → route_of map n ≡ NoOwner → ⊥
-  unwired_unowned n d e = let z : ◌≡◌ {A = Route} Unwired NoOwner = sym d ∙ e in let o : ◌≡◌ {A = ℕ} 0 1 = cc in omega arith
+  unwired_unowned : (n : ℕ) → route_of map n ≡ Ok Unwired → route_of map n ≡ Ok NoOwner → ⊥
+  unwired_unowned n d e = let z : ◌≡◌ {A = Route} Unwired NoOwner = same_answer (sym d ∙ e) in let o : ◌≡◌ {A = ℕ} 0 1 = cc in omega arith
 
-  of_unwired : (n : ℕ) → route_of map n ≡ Unwired → IsUnwired said n
+  of_unwired : (n : ℕ) → route_of map n ≡ Ok Unwired → IsUnwired said n
   of_unwired n e =
       ⊎_elim
       (λ l. absurd (lands_unwired n (lpc_lands n l) e))
       (⊎_elim (λ s. absurd (lands_unwired n (source_lands n s) e)) (⊎_elim (λ u. u) (λ o. absurd (unwired_unowned n e o))))
       (kind n)
 
-  of_unowned : (n : ℕ) → route_of map n ≡ NoOwner → Rest said n
+  of_unowned : (n : ℕ) → route_of map n ≡ Ok NoOwner → Rest said n
   of_unowned n e =
       record {
         sourced = λ s. lands_unowned n (source_lands n s) e;
@@ -223,7 +217,7 @@ module _ (map : Map) (kept : keeps_rules map ≡ true) where
         lpc = λ l. lands_unowned n (lpc_lands n l) e;
       }
 
-  unowned : (n : ℕ) → Rest said n → route_of map n ≡ NoOwner
+  unowned : (n : ℕ) → Rest said n → route_of map n ≡ Ok NoOwner
   unowned n r =
       ⊎_elim
       (λ l. absurd (r.lpc l))
@@ -239,7 +233,7 @@ module _ (map : Map) (kept : keeps_rules map ≡ true) where
       go LpcInput e h = h
       go (LioInput i) e h = h
       go (BioInput node v) e h = h
-      go Nobody e h = of_unowned n (routed map kept n ∙ ap (arrival_of said) e)
+      go Nobody e h = of_unowned n (routed map kept n ∙ ap (λ (o : Owner). Ok (arrival_of said o)) e)
 
   -- where nothing else has the number, nobody owns it
   nobody_owns : (n : ℕ) → Rest said n → owner said n ≡ Nobody

@@ -4,8 +4,10 @@ use mathlib.Core.Path.{◌≡◌, refl, sym, ◌∙◌, ap, ap₂}
 use mathlib.Core.Bool.{Bool, not, ◌&&◌, ◌||◌}
 use mathlib.Core.List.{◌∷◌}
 use lib.Dec.{ltb}
+use Rattle.std.specs.Prelude.{Result, Ok, Err}
 use Rattle.words.specs.Choice.{if}
 use Rattle.words.specs.Refusals.{rule, first_refusal, is_sound}
+use Rattle.words.specs.declared.Refusal.{Refusal}
 use Rattle.kinds.specs.Ranges.{bit_in_both}
 use Rattle.lines.specs.Says.{Said, says, Same}
 use Rattle.lines.specs.Routes.{arrival}
@@ -13,8 +15,8 @@ use Rattle.lines.specs.Traces.{traced}
 use Rattle.lines.specs.Rules.{too_many, both_kinds, ranges_kept, map_rules, first_broken, keeps_rules, slot_places}
 use Rattle.lines.specs.Answers.{route_of, trace_of, bad_map}
 use Rattle.lines.specs.declared.Map.{Map}
-use Rattle.lines.specs.declared.Route.TheVariants.{Refused}
-use Rattle.lines.specs.declared.Trace.TheVariants.{Refused as NoTrace}
+use Rattle.lines.specs.declared.Route.{Route}
+use Rattle.lines.specs.declared.Trace.{Trace}
 use Rattle.map_promises.specs.Statements.{SameAnswers}
 
 -- the rules look at the counts and at what is said
@@ -37,12 +39,12 @@ keeps_same map other s = keeps_is map ∙ ap₂ keeps (many_same map other s) s.
 route_same : (map other : Map) → Same map other → (n : ℕ) → route_of map n ≡ route_of other n
 unfolding route_of
 route_same map other s n =
-    ap₂ (λ (b : Bool) (said : Said). if b (arrival said n) (Refused bad_map)) (keeps_same map other s) s.said
+    ap₂ (λ (b : Bool) (said : Said). if {A = Result Route Refusal} b (Ok (arrival said n)) (Err bad_map)) (keeps_same map other s) s.said
 
 trace_same : (map other : Map) → Same map other → (vector number : ℕ) → trace_of map vector number ≡ trace_of other vector number
 unfolding trace_of
 trace_same map other s v k =
-    ap₂ (λ (b : Bool) (said : Said). if b (traced said v k) (NoTrace bad_map)) (keeps_same map other s) s.said
+    ap₂ (λ (b : Bool) (said : Said). if {A = Result Trace Refusal} b (Ok (traced said v k)) (Err bad_map)) (keeps_same map other s) s.said
 
 -- THE PROMISE
 pub same_answers : (map other : Map) → SameAnswers map other

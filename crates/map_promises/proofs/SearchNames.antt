@@ -14,12 +14,9 @@ use Rattle.clashes.specs.Folds.{fold}
 use Rattle.clashes.specs.Rules.{clash, lone}
 use Rattle.clashes.specs.Search.{sooner, nearer, partner, better, first_clash, lonelier, first_lone}
 use Rattle.clashes.specs.declared.Claim.{Claim}
-use Rattle.clashes.specs.declared.Spot.{Spot}
-use Rattle.clashes.specs.declared.Spot.TheVariants.{At, Nowhere}
-use Rattle.clashes.specs.declared.Pair.{Pair}
-use Rattle.clashes.specs.declared.Pair.TheVariants.{Two, None}
 use Rattle.clashes.proofs.Logic.{and_left, and_right}
-use Rattle.clashes.proofs.Searched.{at-nowhere, two_none, hits, step, turn, spot_none}
+use Rattle.clashes.proofs.Searched.{at-nowhere, two_none, same_two, hits, step, turn, spot_none}
+use Rattle.std.specs.Prelude.{Option, Some, None}
 
 -- "the first structure that clashes with an earlier": x at p clashes with y at q, which stands before it; no structure before
 -- x clashes with an earlier one; and x clashes with none that stands before y
@@ -36,49 +33,49 @@ pub record FirstClash (rule : ℕ) (all : List Claim) (p q : ℕ) : Type 0 where
   pub earliest : (w : Claim) → Memᴰ w all → w.place < p → clash rule x w ≡ true → q ≤ w.place
 
 -- q is no later than the best so far
-abbrev Under : ℕ → Spot → Type 0
-Under q Nowhere = 0 < 1
-Under q (At b) = q ≤ b
+abbrev Under : ℕ → Option ℕ → Type 0
+Under q None = 0 < 1
+Under q (Some b) = q ≤ b
 
-abbrev UnderPair : ℕ → Pair → Type 0
+abbrev UnderPair : ℕ → Option (ℕ × ℕ) → Type 0
 UnderPair p None = 0 < 1
-UnderPair p (Two o w) = p ≤ o
+UnderPair p (Some (o, w)) = p ≤ o
 
-sooner-at : (best : Spot) (p q : ℕ) → sooner best p ≡ At q → (best ≡ At q) ⊎ (p ≡ q)
+sooner-at : (best : Option ℕ) (p q : ℕ) → sooner best p ≡ Some q → (best ≡ Some q) ⊎ (p ≡ q)
 unfolding sooner if
-sooner-at Nowhere p q h = inr cc
-sooner-at (At b) p q h = go (ltb p b) h
+sooner-at None p q h = inr cc
+sooner-at (Some b) p q h = go (ltb p b) h
   where
-    go : (t : Bool) → if t (At p) (At b) ≡ At q → (At b ≡ At q) ⊎ (p ≡ q)
+    go : (t : Bool) → if t (Some p) (Some b) ≡ Some q → (Some b ≡ Some q) ⊎ (p ≡ q)
     go true h = inr cc
     go false h = inl h
 
-sooner_under : (best : Spot) (p q : ℕ) → Under q (sooner best p) → Under q best × (q ≤ p)
+sooner_under : (best : Option ℕ) (p q : ℕ) → Under q (sooner best p) → Under q best × (q ≤ p)
 unfolding sooner if
-sooner_under Nowhere p q h = (omega arith, h)
-sooner_under (At b) p q h = go (ltb p b) refl h
+sooner_under None p q h = (omega arith, h)
+sooner_under (Some b) p q h = go (ltb p b) refl h
   where
-    go : (t : Bool) → ltb p b ≡ t → Under q (if t (At p) (At b)) → (q ≤ b) × (q ≤ p)
+    go : (t : Bool) → ltb p b ≡ t → Under q (if t (Some p) (Some b)) → (q ≤ b) × (q ≤ p)
     go true e h = (omega (arith, ltb-true p b e), h)
     go false e h = (h, omega (arith, ltb-false p b e))
 
-under_self : (best : Spot) (q : ℕ) → best ≡ At q → Under q best
+under_self : (best : Option ℕ) (q : ℕ) → best ≡ Some q → Under q best
 under_self best q h = rw h (let z : q ≤ q = omega arith in z)
 
 abbrev pub Least : (Claim → Bool) → List Claim → ℕ → Type 0
 Least t l q = (y : Claim) × Memᴰ y l × (t y ≡ true) × (y.place ≡ q)
 
 -- the least place of those that a test takes is taken, and no other that is taken is before it
-fold_at : (t : Claim → Bool) (l : List Claim) (best : Spot) (q : ℕ) → fold (step t) best l ≡ At q
-    → ((best ≡ At q) ⊎ Least t l q) × Under q best × ((z : Claim) → Memᴰ z l → t z ≡ true → q ≤ z.place)
+fold_at : (t : Claim → Bool) (l : List Claim) (best : Option ℕ) (q : ℕ) → fold (step t) best l ≡ Some q
+    → ((best ≡ Some q) ⊎ Least t l q) × Under q best × ((z : Claim) → Memᴰ z l → t z ≡ true → q ≤ z.place)
 unfolding fold if
 fold_at t [] best q h = (inl h, under_self best q h, λ z m. absurd (Memᴰ.not-nil m))
 fold_at t (y ∷ ys) best q h = go (t y) refl (fold_at t ys (step t best y) q h)
   where
     go : (b : Bool) → t y ≡ b
-        → ((if b (sooner best y.place) best ≡ At q) ⊎ Least t ys q) × Under q (if b (sooner best y.place) best)
+        → ((if b (sooner best y.place) best ≡ Some q) ⊎ Least t ys q) × Under q (if b (sooner best y.place) best)
         × ((z : Claim) → Memᴰ z ys → t z ≡ true → q ≤ z.place)
-        → ((best ≡ At q) ⊎ Least t (y ∷ ys) q) × Under q best × ((z : Claim) → Memᴰ z (y ∷ ys) → t z ≡ true → q ≤ z.place)
+        → ((best ≡ Some q) ⊎ Least t (y ∷ ys) q) × Under q best × ((z : Claim) → Memᴰ z (y ∷ ys) → t z ≡ true → q ≤ z.place)
     go true e r =
         let u = sooner_under best y.place q r.1 in (
           ⊎_elim
@@ -94,32 +91,33 @@ fold_at t (y ∷ ys) best q h = go (t y) refl (fold_at t ys (step t best y) q h)
       λ z m k. ⊎_elim (λ s. absurd (true≢false (sym k ∙ ap t s ∙ e))) (λ n. r.2 z n k) (Memᴰ.cases_cons m),
     )
 
-better-at : (best : Pair) (x p q : ℕ) (s : Spot) → better best x s ≡ Two p q → (best ≡ Two p q) ⊎ ((x ≡ p) × (s ≡ At q))
+better-at : (best : Option (ℕ × ℕ)) (x p q : ℕ) (s : Option ℕ) → better best x s ≡ Some (p, q) → (best ≡ Some (p, q)) ⊎ ((x ≡ p) × (s ≡ Some q))
 unfolding better if
-better-at best x p q Nowhere h = inl h
-better-at None x p q (At o) h = inr (cc, cc)
-better-at (Two a b) x p q (At o) h = go (ltb x a) h
+better-at best x p q None h = inl h
+better-at None x p q (Some o) h = let same = same_two h in inr (same.0, ap Some same.1)
+better-at (Some (a, b)) x p q (Some o) h = go (ltb x a) h
   where
-    go : (t : Bool) → if t (Two x o) (Two a b) ≡ Two p q → (Two a b ≡ Two p q) ⊎ ((x ≡ p) × (At o ≡ At q))
-    go true h = inr (cc, cc)
+    go : (t : Bool) → ◌≡◌ {A = Option (ℕ × ℕ)} (if {A = Option (ℕ × ℕ)} t (Some (x, o)) (Some (a, b))) (Some (p, q))
+        → ◌≡◌ {A = Option (ℕ × ℕ)} (Some (a, b)) (Some (p, q)) ⊎ ((x ≡ p) × (Some o ≡ Some q))
+    go true h = let same = same_two h in inr (same.0, ap Some same.1)
     go false h = inl h
 
-better_under : (best : Pair) (x p : ℕ) (s : Spot) → UnderPair p (better best x s) → UnderPair p best × ((o : ℕ) → s ≡ At o → p ≤ x)
+better_under : (best : Option (ℕ × ℕ)) (x p : ℕ) (s : Option ℕ) → UnderPair p (better best x s) → UnderPair p best × ((o : ℕ) → s ≡ Some o → p ≤ x)
 unfolding better if
-better_under best x p Nowhere h = (h, λ o e. absurd (at-nowhere o (sym e)))
-better_under None x p (At q) h = (omega arith, λ o e. h)
-better_under (Two a b) x p (At q) h = go (ltb x a) refl h
+better_under best x p None h = (h, λ o e. absurd (at-nowhere o (sym e)))
+better_under None x p (Some q) h = (omega arith, λ o e. h)
+better_under (Some (a, b)) x p (Some q) h = go (ltb x a) refl h
   where
-    go : (t : Bool) → ltb x a ≡ t → UnderPair p (if t (Two x q) (Two a b)) → (p ≤ a) × ((o : ℕ) → At q ≡ At o → p ≤ x)
+    go : (t : Bool) → ltb x a ≡ t → UnderPair p (if t (Some (x, q)) (Some (a, b))) → (p ≤ a) × ((o : ℕ) → Some q ≡ Some o → p ≤ x)
     go true e h = (omega (arith, ltb-true x a e), λ o k. h)
     go false e h = (h, λ o k. omega (arith, ltb-false x a e))
 
-under_pair_self : (best : Pair) (p q : ℕ) → best ≡ Two p q → UnderPair p best
+under_pair_self : (best : Option (ℕ × ℕ)) (p q : ℕ) → best ≡ Some (p, q) → UnderPair p best
 under_pair_self best p q h = rw h (let z : p ≤ p = omega arith in z)
 
-fold_two : (g : Claim → Spot) (l : List Claim) (best : Pair) (p q : ℕ) → fold (turn g) best l ≡ Two p q
-    → ((best ≡ Two p q) ⊎ ((x : Claim) × Memᴰ x l × (x.place ≡ p) × (g x ≡ At q))) × UnderPair p best
-    × ((z : Claim) → Memᴰ z l → (o : ℕ) → g z ≡ At o → p ≤ z.place)
+fold_two : (g : Claim → Option ℕ) (l : List Claim) (best : Option (ℕ × ℕ)) (p q : ℕ) → fold (turn g) best l ≡ Some (p, q)
+    → ((best ≡ Some (p, q)) ⊎ ((x : Claim) × Memᴰ x l × (x.place ≡ p) × (g x ≡ Some q))) × UnderPair p best
+    × ((z : Claim) → Memᴰ z l → (o : ℕ) → g z ≡ Some o → p ≤ z.place)
 unfolding fold
 fold_two g [] best p q h = (inl h, under_pair_self best p q h, λ z m. absurd (Memᴰ.not-nil m))
 fold_two g (y ∷ ys) best p q h =
@@ -139,7 +137,7 @@ hit_true : (rule : ℕ) (x y : Claim) → y.place < x.place → clash rule x y �
 hit_true rule x y l c = rw (lt-ltb y.place x.place l, c)
 
 -- a partner, or none, by the least place
-partner-is : (rule : ℕ) (x : Claim) (l : List Claim) → partner rule x l ≡ fold (step (hits rule x)) Nowhere l
+partner-is : (rule : ℕ) (x : Claim) (l : List Claim) → partner rule x l ≡ fold (step (hits rule x)) None l
 unfolding partner nearer
 partner-is rule x l = refl
 
@@ -148,21 +146,21 @@ unfolding first_clash
 first-is rule l = refl
 
 -- what the search names is the first clash
-pub search_names : (rule : ℕ) (l : List Claim) (p q : ℕ) → first_clash rule l ≡ Two p q → FirstClash rule l p q
+pub search_names : (rule : ℕ) (l : List Claim) (p q : ℕ) → first_clash rule l ≡ Some (p, q) → FirstClash rule l p q
 search_names rule l p q h =
     let r = fold_two (λ x. partner rule x l) l None p q (sym (first-is rule l) ∙ h) in
     ⊎_elim (λ e. absurd (two_none p q (sym e))) (λ w. named w.0 w.1 w.2 w.3 r.2) r.0
   where
-    go : (z v : Claim) → Memᴰ v l → hits rule z v ≡ true → (s : Spot) → partner rule z l ≡ s
-        → ((o : ℕ) → partner rule z l ≡ At o → p ≤ z.place) → p ≤ z.place
-    go z v mv k (At o) n g = g o n
-    go z v mv k Nowhere n g =
-        absurd (true≢false (sym k ∙ (spot_none (hits rule z) l Nowhere (sym (partner-is rule z l) ∙ n)).1 v mv))
+    go : (z v : Claim) → Memᴰ v l → hits rule z v ≡ true → (s : Option ℕ) → partner rule z l ≡ s
+        → ((o : ℕ) → partner rule z l ≡ Some o → p ≤ z.place) → p ≤ z.place
+    go z v mv k (Some o) n g = g o n
+    go z v mv k None n g =
+        absurd (true≢false (sym k ∙ (spot_none (hits rule z) l None (sym (partner-is rule z l) ∙ n)).1 v mv))
 
-    named : (x : Claim) → Memᴰ x l → x.place ≡ p → partner rule x l ≡ At q
-        → ((z : Claim) → Memᴰ z l → (o : ℕ) → partner rule z l ≡ At o → p ≤ z.place) → FirstClash rule l p q
+    named : (x : Claim) → Memᴰ x l → x.place ≡ p → partner rule x l ≡ Some q
+        → ((z : Claim) → Memᴰ z l → (o : ℕ) → partner rule z l ≡ Some o → p ≤ z.place) → FirstClash rule l p q
     named x mx e s f =
-        let a = fold_at (hits rule x) l Nowhere q (sym (partner-is rule x l) ∙ s) in
+        let a = fold_at (hits rule x) l None q (sym (partner-is rule x l) ∙ s) in
         ⊎_elim
         (λ n. absurd (at-nowhere q (sym n)))
         (λ w.
@@ -183,9 +181,9 @@ search_names rule l p q h =
         a.0
 
 -- 42: a claim that stands alone is named, and none before it does
-pub search_lone : (nodes : List ℕ) (l : List Claim) (p : ℕ) → first_lone nodes l ≡ At p
+pub search_lone : (nodes : List ℕ) (l : List Claim) (p : ℕ) → first_lone nodes l ≡ Some p
     → Least (lone nodes) l p × ((z : Claim) → Memᴰ z l → lone nodes z ≡ true → p ≤ z.place)
 unfolding first_lone lonelier
 search_lone nodes l p h =
-    let r = fold_at (lone nodes) l Nowhere p h in
+    let r = fold_at (lone nodes) l None p h in
     (⊎_elim (λ e. absurd (at-nowhere p (sym e))) (λ w. w) r.0, r.2)

@@ -41,7 +41,6 @@ module _ {A : Type 0} (none : A) where
 
 -- a test that holds at every place holds of every element
 pub at_every : {A : Type 0} (d : A) (f : A → Bool) (l : List A) → ((i : ℕ) → i < length l → f (get_or l i d) ≡ true) → every f l ≡ true
-unfolding every
 at_every d f [] h = refl
 at_every d f (x ∷ xs) h = rw (h 0 (omega arith)) (at_every d f xs (λ i k. h (suc i) (omega arith)))
 

@@ -7,6 +7,7 @@ use mathlib.Core.Bool.{Bool, true, false}
 use borrow.Author.Tests.{eq-eqb, leb-true, ltb-true}
 use lib.Dec.{leb, ltb}
 use lib.ListN.{length}
+use Rattle.std.specs.Prelude.{Ok}
 use Rattle.words.specs.Choice.{if}
 use Rattle.words.specs.Refusals.{rule}
 use Rattle.words.proofs.Choices.{yes_if}
@@ -15,7 +16,7 @@ use Rattle.clashes.proofs.Logic.{and_left, and_right}
 use Rattle.parts.specs.Inputs.{wired, core_vector, is_named, owns}
 use Rattle.lines.specs.Says.{Said, says}
 use Rattle.lines.specs.Hubs.{hubs}
-use Rattle.lines.specs.Routes.{lio_arrival, bio_owner, arrival_of, through}
+use Rattle.lines.specs.Routes.{lio_arrival, bio_owner, owner, arrival_of, through}
 use Rattle.lines.specs.Rules.{keeps_rules}
 use Rattle.lines.specs.Answers.{route_of, trace_of}
 use Rattle.lines.specs.declared.Map.{Map}
@@ -26,7 +27,7 @@ use Rattle.map_promises.specs.Sources.{input, pin, bio_at, is_shared, IsBehind, 
 use Rattle.map_promises.specs.Statements.{LpcLinesShare, Tells, ThereAndBack, OneNodeAsBefore}
 use Rattle.map_promises.proofs.Bridges.{only_first, none_as_before, input_as_before}
 use Rattle.map_promises.proofs.Kept.{Good, good}
-use Rattle.map_promises.proofs.Logic.{order, is_bool}
+use Rattle.map_promises.proofs.Logic.{same_answer, order, is_bool}
 use Rattle.map_promises.proofs.Members.{found_or_not}
 use Rattle.map_promises.proofs.Routing.{owner_nobody, owner-lio, owner-named, owner-bio, routed, lpc-line}
 use Rattle.map_promises.proofs.Tracing.{tracing_names}
@@ -55,16 +56,20 @@ module _ (map : Map) (kept : keeps_rules map ≡ true) where
   lines_share p = let w = g.behind p in (w.0, w.1, λ n l. lpc-line map kept n l p w.0 w.1)
 
   -- ---- there and back
-  back_lio : (n v k : ℕ) → 16 ≤ n → n < 48 → route_of map n ≡ Arrives v k → Tells n (trace_of map v k)
+  -- where an answer arrives
+  landing : (n v k : ℕ) → route_of map n ≡ Ok (Arrives v k) → arrival_of said (owner said n) ≡ Arrives v k
+  landing n v k q = same_answer (sym (routed map kept n) ∙ q)
+
+  back_lio : (n v k : ℕ) → 16 ≤ n → n < 48 → route_of map n ≡ Ok (Arrives v k) → Tells n (trace_of map v k)
   unfolding arrival_of
   back_lio n v k a b q =
       ⊎_elim
       (λ free.
-      let r : lio_arrival said.lio (n - 16) ≡ Arrives v k = rw (routed map kept n, owner-lio said n a b free) at q in
+      let r : lio_arrival said.lio (n - 16) ≡ Arrives v k = rw (owner-lio said n a b free) at (landing n v k q) in
       let t = (tracing_names map kept (input (n - 16)) v k (wired_of said (n - 16) v k r, free)).0 r in
       let e : 16 + (n - 16) ≡ n = omega arith in
-      inl (t ∙ ap LioTold e))
-      (λ named. absurd (not-arrived v k (rw (routed map kept n, owner-named said n a b named) at q)))
+      inl (t ∙ ap (λ (m : ℕ). Ok (LioTold m)) e))
+      (λ named. absurd (not-arrived v k (rw (owner-named said n a b named) at (landing n v k q))))
       (is_bool (is_named said.ht (n - 16)))
 
   told_as : (j v n : ℕ) → (bio_at said j).base + v ≡ n → (name said (pin j v) ≡ BioTold n) ⊎ (name said (pin j v) ≡ LpcCascade n)
@@ -77,7 +82,7 @@ module _ (map : Map) (kept : keeps_rules map ≡ true) where
       go true = inr (ap LpcCascade e)
       go false = inl (ap BioTold e)
 
-  back_bio : (n v k : ℕ) → 48 ≤ n → route_of map n ≡ Arrives v k → Tells n (trace_of map v k)
+  back_bio : (n v k : ℕ) → 48 ≤ n → route_of map n ≡ Ok (Arrives v k) → Tells n (trace_of map v k)
   unfolding arrival_of bio_owner
   back_bio n v k a q =
       ⊎_elim
@@ -87,23 +92,23 @@ module _ (map : Map) (kept : keeps_rules map ≡ true) where
       let low : (bio_at said j).base ≤ n = leb-true _ _ (and_left (leb (bio_at said j).base n) (ltb n end) w.2) in
       let high : n < end = ltb-true _ _ (and_right (leb (bio_at said j).base n) (ltb n end) w.2) in
       let r : through (hubs said) (bio_at said j).node (n - (bio_at said j).base) ≡ Arrives v k =
-      rw (routed map kept n, owner-bio said n a, w.3) at q in
+      rw (owner-bio said n a, w.3) at (landing n v k q) in
       let t = (tracing_names map kept (pin j (n - (bio_at said j).base)) v k (w.1, omega arith)).0 r in
       let e : (bio_at said j).base + (n - (bio_at said j).base) ≡ n = omega arith in
-      ⊎_elim (λ u. inr (inl (t ∙ u))) (λ u. inr (inr (t ∙ u))) (told_as j (n - (bio_at said j).base) n e))
-      (λ w. absurd (not-arrived v k (rw (routed map kept n, owner-bio said n a, w.1) at q)))
+      ⊎_elim (λ u. inr (inl (t ∙ ap Ok u))) (λ u. inr (inr (t ∙ ap Ok u))) (told_as j (n - (bio_at said j).base) n e))
+      (λ w. absurd (not-arrived v k (rw (owner-bio said n a, w.1) at (landing n v k q))))
       (found_or_not no_bio (owns n) (λ b. BioInput b.node (n - b.base)) Nobody said.bios)
 
-  back_lpc : (n v k : ℕ) → n < 16 → route_of map n ≡ Arrives v k
-      → (j : ℕ) × IsBehind said j × (trace_of map v k ≡ LpcCascade ((bio_at said j).base + said.lpc.cascade))
+  back_lpc : (n v k : ℕ) → n < 16 → route_of map n ≡ Ok (Arrives v k)
+      → (j : ℕ) × IsBehind said j × (trace_of map v k ≡ Ok (LpcCascade ((bio_at said j).base + said.lpc.cascade)))
   unfolding arrival_of
   back_lpc n v k l q =
       ⊎_elim
-      (λ p. absurd (not-arrived v k (rw (routed map kept n, owner_nobody said n l p) at q)))
+      (λ p. absurd (not-arrived v k (rw (owner_nobody said n l p) at (landing n v k q))))
       (λ p.
       let w = g.behind p in
-      let t = (tracing_names map kept (pin w.0 said.lpc.cascade) v k w.1.0).0 (sym (lpc-line map kept n l p w.0 w.1) ∙ q) in
-      (w.0, w.1, t ∙ yes_if _ _ _ (rw (p, eq-eqb said.lpc.cascade said.lpc.cascade refl) w.1.1)))
+      let t = (tracing_names map kept (pin w.0 said.lpc.cascade) v k w.1.0).0 (same_answer (sym (lpc-line map kept n l p w.0 w.1) ∙ q)) in
+      (w.0, w.1, t ∙ ap Ok (yes_if _ _ _ (rw (p, eq-eqb said.lpc.cascade said.lpc.cascade refl) w.1.1))))
       (is_bool said.lpc.present)
 
   pub there_back : ThereAndBack map
@@ -140,5 +145,5 @@ one_node_as_before map alike =
       tracing = λ h p v k q.
           let pinned = first_shared map h alike p in
           (tracing_names map h (pin 0 said.lpc.cascade) v k pinned.0).0 q
-          ∙ yes_if _ _ _ (rw (p, eq-eqb said.lpc.cascade said.lpc.cascade refl) pinned.1);
+          ∙ ap Ok (yes_if _ _ _ (rw (p, eq-eqb said.lpc.cascade said.lpc.cascade refl) pinned.1));
     }

@@ -9,6 +9,7 @@ use borrow.Author.Tests.{eqb-true, eq-eqb, ne_eqb, not-true, leb-true, ltb-true,
 use lib.Dec.{eqb, leb, ltb}
 use lib.ListN.{length, get_or, take, length-take}
 use lib.Seq.{get_or-take}
+use Rattle.std.specs.Prelude.{Ok}
 use Rattle.words.specs.Choice.{if}
 use Rattle.words.proofs.Choices.{yes_if, no_if}
 use Rattle.kinds.specs.Used.{no_bio, no_msi}
@@ -26,7 +27,7 @@ use Rattle.lines.specs.declared.Trace.TheVariants.{Nothing, LioInput, BioInput, 
 use Rattle.map_promises.specs.Sources.{Source, input, pin, slot, no_hub, hub_at, bio_at, msi_at, IsSource, arrives, is_lpc_bridge, is_shared, name}
 use Rattle.map_promises.specs.Statements.{TracingNames, Arrived, NothingExactly}
 use Rattle.map_promises.proofs.Kept.{Good, good, hub_node, hub_core, hub_not_lio, bio_node, bio_number, bio-msi, msi_slot}
-use Rattle.map_promises.proofs.Logic.{is_bool, same_bool, both_bits, wired_small}
+use Rattle.map_promises.proofs.Logic.{same_answer, is_bool, same_bool, both_bits, wired_small}
 use Rattle.map_promises.proofs.Members.{at_every, finds, finds_none, found_or_not}
 use Rattle.map_promises.proofs.NoTwoAlike.{core_at, input_at, of_arrives, input_enters, through-at, pin_at}
 
@@ -132,7 +133,7 @@ module _ (said : Said) (g : Good said) where
       (λ j h t. bio-msi said g j m s h k (ltb-true s (bio_at said j).pins (and_right (eqb (bio_at said j).node node) (ltb s (bio_at said j).pins) t)) p q)
       ∙ slot_at m s node k p q
 
-  pub names : (x : Source) (v k : ℕ) → IsSource said x → arrives said x ≡ Arrives v k → traced said v k ≡ name said x
+  names : (x : Source) (v k : ℕ) → IsSource said x → arrives said x ≡ Arrives v k → traced said v k ≡ name said x
   unfolding traced led_by_lio
   names (input i) v k p q =
       let r = of_arrives (sym (input_at said.lio i p.0) ∙ q) in
@@ -209,7 +210,7 @@ module _ (said : Said) (g : Good said) where
       let number : h.above + (n - h.above) ≡ n = omega arith in
       ap₂ Arrives core number
 
-  pub source_or_nothing : (v n : ℕ) → Arrived said v n ⊎ (traced said v n ≡ Nothing)
+  source_or_nothing : (v n : ℕ) → Arrived said v n ⊎ (traced said v n ≡ Nothing)
   unfolding traced hub_traced
   source_or_nothing v n =
       ⊎_elim
@@ -233,7 +234,7 @@ module _ (said : Said) (g : Good said) where
   named (slot m s n) e = let o : ◌≡◌ {A = ℕ} 0 1 = cc in omega arith
 
 -- a map that keeps the rules is told as it is
-pub told : (map : Map) → keeps_rules map ≡ true → (v k : ℕ) → trace_of map v k ≡ traced (says map) v k
+pub told : (map : Map) → keeps_rules map ≡ true → (v k : ℕ) → trace_of map v k ≡ Ok (traced (says map) v k)
 unfolding trace_of
 told map h v k = yes_if _ _ _ h
 
@@ -301,15 +302,15 @@ module _ (said : Said) (g : Good said) where
 -- THE PROMISES
 pub tracing_names : (map : Map) → keeps_rules map ≡ true → TracingNames map
 tracing_names map h x v k p = (
-  (λ q. told map h v k ∙ names (says map) (good map h) x v k p q),
-  λ q. named-arrives (says map) (good map h) x v k p (sym (told map h v k) ∙ q),
+  (λ q. told map h v k ∙ ap Ok (names (says map) (good map h) x v k p q)),
+  λ q. named-arrives (says map) (good map h) x v k p (same_answer (sym (told map h v k) ∙ q)),
 )
 
 pub nothing-exactly : (map : Map) → keeps_rules map ≡ true → NothingExactly map
 nothing-exactly map h v k =
     ⊎_elim
-    (λ a. inl (a, λ z. named said g a.0 (sym ((tracing_names map h a.0 v k a.1).0 a.2) ∙ z)))
-    (λ z. inr ((λ a. named said g a.0 (sym (names said g a.0 v k a.1 a.2) ∙ z)), told map h v k ∙ z))
+    (λ a. inl (a, λ z. named said g a.0 (same_answer (sym ((tracing_names map h a.0 v k a.1).0 a.2) ∙ z))))
+    (λ z. inr ((λ a. named said g a.0 (sym (names said g a.0 v k a.1 a.2) ∙ z)), told map h v k ∙ ap Ok z))
     (source_or_nothing said g v k)
   where
     said : Said

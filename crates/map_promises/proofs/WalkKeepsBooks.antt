@@ -10,11 +10,11 @@ use mathlib.Core.Bool.{Bool, true, false, not, ◌&&◌, true≢false}
 use borrow.Author.Tests.{eqb-true, eq-eqb, le-ltb, le-leb, leb-true}
 use lib.Dec.{eqb, leb}
 use lib.ListN.{length, get_or}
+use Rattle.std.specs.Prelude.{Option, None, Some, is_none, Ok}
 use Rattle.words.specs.Bytes.{byte_at}
 use Rattle.words.specs.Choice.{if}
 use Rattle.words.specs.Lists.{every}
 use Rattle.words.specs.Refusals.{first_refusal}
-use Rattle.words.specs.declared.Verdict.TheVariants.{Sound}
 use Rattle.words.proofs.Choices.{if_cases}
 use Rattle.clashes.proofs.Logic.{and_left, and_right, both_true}
 use Rattle.kinds.specs.Makers.{lio_of, ht_of, eio_of, msi_of, bio_of, lpc_of}
@@ -57,7 +57,7 @@ pub record Good (until : ℕ) (all : List Whole) : Type 0 where
   pub first : 44 ≤ until
 
 -- those of a MADT that is not refused
-pub good : (table : List ℕ) (base until : ℕ) → first_refusal (walk_rules table base) ≡ Sound → 44 ≤ until → length table ≤ until
+pub good : (table : List ℕ) (base until : ℕ) → first_refusal (walk_rules table base) ≡ Ok tt → 44 ≤ until → length table ≤ until
     → Good until (structures (pieces table 44))
 good table base until h first all =
     record {
@@ -268,7 +268,7 @@ module _ {until : ℕ} {all : List Whole} (g : Good until all) (base sci : ℕ) 
 -- ---- 71 to 78, 37, 38 and 34
 -- the LIO, without the bytes of its unused halves
 pub record LioKept (x : Lio) : Type 0 where
-  pub fits : eqb (lio_field x) 0 ≡ true
+  pub fits : is_none (lio_field x) ≡ true
   pub masks : bit_in_both x ≡ false
   pub normal : said_lio x ≡ x
 
@@ -276,12 +276,12 @@ no_lio_lem : LioKept no_lio
 unfolding lio_field said_lio used_half if
 no_lio_lem = record { fits = refl; masks = refl; normal = refl }
 
-lio_kept : (x : Lio) → x.present ≡ true → eqb (lio_field x) 0 ≡ true → bit_in_both x ≡ false → LioKept (said_lio x)
+lio_kept : (x : Lio) → x.present ≡ true → is_none (lio_field x) ≡ true → bit_in_both x ≡ false → LioKept (said_lio x)
 unfolding lio_field said_lio if
 lio_kept x present field masks =
     let halves : (half_fits x.low && half_fits x.high) ≡ true =
-    if_cases (λ (n : ℕ). eqb n 0 ≡ true → (half_fits x.low && half_fits x.high) ≡ true) (half_fits x.low && half_fits x.high) 0 71
-    (λ t e. t) (λ t e. absurd (let o : ◌≡◌ {A = ℕ} 71 0 = eqb-true 71 0 e in omega arith)) field in
+    if_cases (λ (n : Option ℕ). is_none n ≡ true → (half_fits x.low && half_fits x.high) ≡ true) (half_fits x.low && half_fits x.high) None (Some 71)
+    (λ t e. t) (λ t e. absurd (true≢false (sym e))) field in
     let low = half_fits_lem x.low (and_left (half_fits x.low) (half_fits x.high) halves) in
     let high = half_fits_lem x.high (and_right (half_fits x.low) (half_fits x.high) halves) in
     rw present
@@ -310,10 +310,10 @@ module _ {until : ℕ} {all : List Whole} (g : Good until all) (sci : ℕ) (pins
 
   -- an HT says all that it has
   abbrev HtKept : Ht → Type 0
-  HtKept x = (eqb (ht_field x) 0 ≡ true) × (said_ht x ≡ x)
+  HtKept x = (is_none (ht_field x) ≡ true) × (said_ht x ≡ x)
 
   the_ht : HtKept (map_of sci pins all).ht
-  unfolding map_of ht_field said_ht ht_of if every
+  unfolding map_of ht_field said_ht ht_of if
   the_ht =
       ⊎_elim
       (λ l. rw (the_makes g 19 g.kinds.0 l ht_of no_ht) (fits-ht (kept g 19 0 l).1 (typed g 19 0 l), refl))
@@ -322,7 +322,7 @@ module _ {until : ℕ} {all : List Whole} (g : Good until all) (sci : ℕ) (pins
 
   -- an LPC says all that it has
   abbrev LpcKept : Lpc → Type 0
-  LpcKept x = (eqb (lpc_field x) 0 ≡ true) × (said_lpc x ≡ x)
+  LpcKept x = (is_none (lpc_field x) ≡ true) × (said_lpc x ≡ x)
 
   the_lpc : LpcKept (map_of sci pins all).lpc
   unfolding map_of lpc_field said_lpc lpc_of if
@@ -343,7 +343,7 @@ module _ {until : ℕ} {all : List Whole} (g : Good until all) (sci : ℕ) (pins
       rw (makes g number i here maker none) (fits k.0 (whole_at number all i).bytes k.1 (typed g number i here)))
 
   -- a bridge: 7 has looked at its number of inputs
-  bridge_fits : PinsInRange pins → (n : ℕ) (s : List ℕ) → Kept n s → byte_at s 0 ≡ 22 → (eqb (bio_field (bridge_of pins s)) 0 && pins_fit (bridge_of pins s).pins) ≡ true
+  bridge_fits : PinsInRange pins → (n : ℕ) (s : List ℕ) → Kept n s → byte_at s 0 ≡ 22 → (is_none (bio_field (bridge_of pins s)) && pins_fit (bridge_of pins s).pins) ≡ true
   unfolding bridge_of bio_field
   bridge_fits in-range n s k t =
       let few = in-range (bio_of s).node in
@@ -358,11 +358,11 @@ module _ {until : ℕ} {all : List Whole} (g : Good until all) (sci : ℕ) (pins
         the_ht.1,
         the_ht.0,
         said_eios g sci pins,
-        fit_all 20 eio_of no_eio (λ e. eqb (eio_field e) 0) (λ n s k t. fits-eio k t),
+        fit_all 20 eio_of no_eio (λ e. is_none (eio_field e)) (λ n s k t. fits-eio k t),
         said_bios g sci pins,
-        fit_all 22 (bridge_of pins) no_bio (λ b. eqb (bio_field b) 0 && pins_fit b.pins) (bridge_fits in-range),
+        fit_all 22 (bridge_of pins) no_bio (λ b. is_none (bio_field b) && pins_fit b.pins) (bridge_fits in-range),
         said_msis g sci pins,
-        fit_all 21 msi_of no_msi (λ m. eqb (msi_field m) 0) (λ n s k t. fits-msi k t),
+        fit_all 21 msi_of no_msi (λ m. is_none (msi_field m)) (λ n s k t. fits-msi k t),
         the_lpc.1,
         the_lpc.0,
       )
@@ -424,20 +424,20 @@ module _ {until : ℕ} {all : List Whole} (g : Good until all) (sci : ℕ) (pins
       record { placed = placed g base sci pins; ranges = ranges in-range; r37 = rw the_lio.normal the_lio.masks; r38 = few; r34 = one_of_kinds; normal = normal }
 
 -- the walk of a MADT, from its first structure to the end
-pub walk_stands : (table : List ℕ) (base sci : ℕ) (pins : ℕ → ℕ) (until : ℕ) → 44 ≤ until → length table ≤ until → (walked table base sci pins).verdict ≡ Sound
+pub walk_stands : (table : List ℕ) (base sci : ℕ) (pins : ℕ → ℕ) (until : ℕ) → 44 ≤ until → length table ≤ until → (walked table base sci pins).verdict ≡ Ok tt
     → Standing (base + until) (walked table base sci pins).found.map (walked table base sci pins).found.places
 unfolding found_in
 walk_stands table base sci pins until first all h =
     rw (found_is table base sci pins h) (standing_well (good table base until (rules_sound table base sci pins h) first all) base sci pins)
 
 -- no kind has too many, whatever is told of bridges
-pub walk_few : (table : List ℕ) (base sci : ℕ) (pins : ℕ → ℕ) → (walked table base sci pins).verdict ≡ Sound → too_many (walked table base sci pins).found.map ≡ false
+pub walk_few : (table : List ℕ) (base sci : ℕ) (pins : ℕ → ℕ) → (walked table base sci pins).verdict ≡ Ok tt → too_many (walked table base sci pins).found.map ≡ false
 unfolding found_in
 walk_few table base sci pins h =
     rw (found_is table base sci pins h) (few (good table base (44 + length table) (rules_sound table base sci pins h) (omega arith) (omega arith)) sci pins)
 
 -- and each BIO has as many inputs as is told of it
-pub walk_counts : (table : List ℕ) (base sci : ℕ) (pins : ℕ → ℕ) → (walked table base sci pins).verdict ≡ Sound
+pub walk_counts : (table : List ℕ) (base sci : ℕ) (pins : ℕ → ℕ) → (walked table base sci pins).verdict ≡ Ok tt
     → (j : ℕ) → let said = says (walked table base sci pins).found.map in
     j < length said.bios → (bio_at said j).pins ≡ pins (bio_at said j).node
 unfolding found_in

@@ -1,9 +1,8 @@
 -- What two structures may not share, and what is told of it: document 01, "Refusals in order", 41 to 43 and 51 to 53, each by
 -- itself, with 44 of W-201 of document 02, 45 of W-212, and the second place that W-202 gives to 51 to 53. The sharing is said of sources and controllers, not of
 -- claims. Each statement at the end stands alone; proofs/Clashing.antt has a theorem for it.
-use Rattle.std.specs.Prelude.{ℕ, ◌<◌, ◌≤◌, true, false, ◌⊎◌, ◌≡◌, length, get_or}
+use Rattle.std.specs.Prelude.{ℕ, ◌<◌, ◌≤◌, true, false, ◌⊎◌, ◌≡◌, length, get_or, Ok, Err}
 use Rattle.words.specs.Refusals.{refused_with}
-use Rattle.words.specs.declared.Verdict.TheVariants.{Sound, Refused}
 use Rattle.kinds.specs.Ranges.{bit_in_both}
 use Rattle.parts.specs.Inputs.{wired}
 use Rattle.lines.specs.Says.{Said, says}
@@ -151,33 +150,33 @@ pub record KeepsTo40 (map : Map) (madt : ℕ) : Type 0 where
   pub r37 : bit_in_both (says map).lio ≡ false
   pub r38 : too_many map ≡ false
   pub r34 : both_kinds (says map) ≡ false
-  pub r40 : rule40 (says map) madt ≡ Sound
+  pub r40 : rule40 (says map) madt ≡ Ok tt
 
 -- no rule below 43 is broken
 pub record KeepsTo42 (map : Map) (places : Places) (madt : ℕ) : Type 0 where
   pub to40 : KeepsTo40 map madt
-  pub r41 : rule41 (claims (says map) places) ≡ Sound
-  pub r42 : rule42 (says map) (claims (says map) places) ≡ Sound
+  pub r41 : rule41 (claims (says map) places) ≡ Ok tt
+  pub r42 : rule42 (says map) (claims (says map) places) ≡ Ok tt
 
 -- no rule below 44 is broken
 pub record KeepsTo43 (map : Map) (places : Places) (madt : ℕ) : Type 0 where
   pub to42 : KeepsTo42 map places madt
-  pub r43 : rule43 (says map) places.lpc ≡ Sound
+  pub r43 : rule43 (says map) places.lpc ≡ Ok tt
 
 -- no rule below 45 is broken
 pub record KeepsTo44 (map : Map) (places : Places) (madt : ℕ) : Type 0 where
   pub to43 : KeepsTo43 map places madt
-  pub r44 : rule44 (says map) places.ht ≡ Sound
+  pub r44 : rule44 (says map) places.ht ≡ Ok tt
 
 -- no rule below 51 is broken
 pub record KeepsTo45 (map : Map) (places : Places) (madt : ℕ) : Type 0 where
   pub to44 : KeepsTo44 map places madt
-  pub r45 : rule45 (says map) places.lpc ≡ Sound
+  pub r45 : rule45 (says map) places.lpc ≡ Ok tt
 
 -- ---- demand 3, its last sentence: the statements
 -- the map is refused with n, at p, with the second place q
 abbrev pub RefusedWith : Map → Places → ℕ → ℕ → ℕ → ℕ → ℕ → Type 0
-RefusedWith map places madt fadt n p q = first_broken map places madt fadt ≡ Refused (refused_with n p q)
+RefusedWith map places madt fadt n p q = first_broken map places madt fadt ≡ Err (refused_with n p q)
 
 -- a number is told exactly when its rule is the first that is broken, and then with the two places that are named so
 abbrev pub Exactly : (ℕ → ℕ → Type 0) → Type 0 → (ℕ → ℕ → Type 0) → Type 0

@@ -1,10 +1,9 @@
 -- "any map may be asked about": maps that no capture gives. Each rule of 61 is broken alone, counts go past the arrays, and
 -- unused places hold garbage; what a board with an HT answers; what numbers get that are asked at once, and with an owner table; and of a clash the earliest partner is told. All of it is computed by the definitions that the
 -- contracts cite.
-use Rattle.std.specs.Prelude.{ℕ, true, false, List, [], ◌∷◌, ◌++◌, map, ◌≡◌, length, take, set, replicate}
-use Rattle.words.specs.Refusals.{refused, refused_with}
-use Rattle.words.specs.declared.Verdict.{Verdict}
-use Rattle.words.specs.declared.Verdict.TheVariants as verdicts
+use Rattle.std.specs.Prelude.{ℕ, true, false, List, [], ◌∷◌, ◌++◌, map, ◌≡◌, length, take, set, replicate, Result, Ok, Err}
+use Rattle.words.specs.Refusals.{Verdict, refused, refused_with}
+use Rattle.words.specs.declared.Refusal.{Refusal}
 use Rattle.kinds.specs.Used.{no_ht, no_eio, no_bio, no_msi}
 use Rattle.kinds.specs.declared.Lio.{Lio}
 use Rattle.kinds.specs.declared.Ht.{Ht}
@@ -20,15 +19,13 @@ use Rattle.lines.specs.declared.Owner.{Owner}
 use Rattle.lines.specs.declared.Owner.TheVariants.{LpcInput as OwnedByLpc, LioInput as OwnedByLio, BioInput as OwnedByBio, Nobody}
 use Rattle.lines.specs.declared.Places.{Places}
 use Rattle.lines.specs.declared.Route.{Route}
-use Rattle.lines.specs.declared.Route.TheVariants.{Arrives, Unwired, NoOwner, Refused}
+use Rattle.lines.specs.declared.Route.TheVariants.{Arrives, Unwired, NoOwner}
 use Rattle.lines.specs.declared.Trace.{Trace}
-use Rattle.lines.specs.declared.Trace.TheVariants.{Nothing, LioInput, BioInput, LpcCascade, MsiSlot, Refused as NoTrace}
-use Rattle.owners.specs.Table.{entry_of, table_of, empty_table}
+use Rattle.lines.specs.declared.Trace.TheVariants.{Nothing, LioInput, BioInput, LpcCascade, MsiSlot}
+use Rattle.owners.specs.Table.{table_of, empty_table}
 use Rattle.owners.specs.Lookups.{filling_of, lookup_of}
 use Rattle.owners.specs.declared.OwnerTable.{OwnerTable}
 use Rattle.owners.specs.declared.Filling.{Filling}
-use Rattle.owners.specs.declared.Lookup.{Lookup}
-use Rattle.owners.specs.declared.Lookup.TheVariants as lookups
 
 -- ---- structures
 -- a LIO by its low and its high half, each by cascade and mask
@@ -196,12 +193,12 @@ pub data Question : Type 0 where
   beside : OwnerTable → ℕ → Question
 
 pub data Told : Type 0 where
-  routed : Route → Told
+  routed : Result Route Refusal → Told
   listed : Verdict → List ℕ → Told
-  traced : Trace → Told
+  traced : Result Trace Refusal → Told
   judged : Verdict → Told
   filled : Filling → Told
-  whose : Lookup → Told
+  whose : Result (Owner × Route) Refusal → Told
 
 unfoldable pub told : Map → Question → Told
 told map (number n) = routed (route_of map n)
@@ -222,10 +219,10 @@ expected (example map question answer) = answer
 
 -- 72 and 26 are asked, and refused with 61
 abbrev pub no72 : Map → Example
-no72 map = example map (number 72) (routed (Refused bad_map))
+no72 map = example map (number 72) (routed (Err bad_map))
 
 abbrev pub no26 : Map → Example
-no26 map = example map (number 26) (routed (Refused bad_map))
+no26 map = example map (number 26) (routed (Err bad_map))
 
 -- ---- each rule broken alone
 unfoldable pub broken_alone : List Example
@@ -250,11 +247,11 @@ broken_alone =
     ∷ no26 (with_pins 0 msis_a (absent_lpc 0) 26)
     ∷ no72 (with_pins 65 (msis (msi 65 191 ∷ [])) (lpc 19) 75)
     ∷ no72 (with_pins 65535 (msis []) (lpc 19) 75)
-    ∷ example (with_pins 1 msis_a (absent_lpc 0) 64) (number 64) (routed (Arrives 3 0))
+    ∷ example (with_pins 1 msis_a (absent_lpc 0) 64) (number 64) (routed (Ok (Arrives 3 0)))
     -- 37
     ∷ no72 (with_lio (lio 2 255 5 128))
     -- 38
-    ∷ example (counting 4 4 4) (number 72) (routed (Arrives 3 8))
+    ∷ example (counting 4 4 4) (number 72) (routed (Ok (Arrives 3 8)))
     ∷ no72 (counting 5 4 4)
     ∷ no72 (counting 4 5 4)
     ∷ no72 (counting 4 4 255)
@@ -277,14 +274,14 @@ broken_alone =
     -- 45
     ∷ no26 (with_pins 19 msis_a (lpc 19) 26)
     ∷ no26 (behind_either (bios (bio 0 64 ∷ short_bio 5 128 19 ∷ [])) (lpc_on 5 19) 26)
-    ∷ example (with_pins 20 msis_a (lpc 19) 26) (number 3) (routed (Arrives 3 19))
+    ∷ example (with_pins 20 msis_a (lpc 19) 26) (number 3) (routed (Ok (Arrives 3 19)))
     -- 51 to 54
     ∷ no72 (on_two (bios (bio 0 64 ∷ bio 5 127 ∷ [])) msis_a)
     ∷ no72 (with_msis (msis (msi 63 193 ∷ [])))
     ∷ no72 (with_eios (eios (eio 2 0 ∷ [])))
     ∷ no72 (with_sci 45)
     ∷ no72 (on_ht bytes_a bios_a msis_a (lpc 19) 17)
-    ∷ example (with_sci 45) (arrival 3 8) (traced (NoTrace bad_map))
+    ∷ example (with_sci 45) (arrival 3 8) (traced (Err bad_map))
     ∷ []
 
 -- ---- "A new bridge has 32 inputs": its numbers, its vectors, and what others may have behind it (W-212 of document 02)
@@ -296,49 +293,49 @@ behind32 = on_two (bios (short_bio 0 64 32 ∷ bio 5 96 ∷ [])) msis_a
 
 unfoldable pub fewer_pins : List Example
 fewer_pins =
-    example with32 (number 95) (routed (Arrives 3 31))
-    ∷ example with32 (number 96) (routed NoOwner)
-    ∷ example with32 (arrival 3 31) (traced (BioInput 95))
-    ∷ example with32 (arrival 3 32) (traced (MsiSlot 0 32))
-    ∷ example with32 (arrival 3 19) (traced (LpcCascade 83))
-    ∷ example (with_pins 32 msis_a (lpc 19) 75) (arrival 3 32) (traced Nothing)
-    ∷ example behind32 (number 95) (routed (Arrives 3 31))
-    ∷ example behind32 (number 96) (routed (Arrives 4 0))
-    ∷ example behind32 (number 160) (routed NoOwner)
-    ∷ example behind32 (arrival 4 0) (traced (BioInput 96))
+    example with32 (number 95) (routed (Ok (Arrives 3 31)))
+    ∷ example with32 (number 96) (routed (Ok NoOwner))
+    ∷ example with32 (arrival 3 31) (traced (Ok (BioInput 95)))
+    ∷ example with32 (arrival 3 32) (traced (Ok (MsiSlot 0 32)))
+    ∷ example with32 (arrival 3 19) (traced (Ok (LpcCascade 83)))
+    ∷ example (with_pins 32 msis_a (lpc 19) 75) (arrival 3 32) (traced (Ok Nothing))
+    ∷ example behind32 (number 95) (routed (Ok (Arrives 3 31)))
+    ∷ example behind32 (number 96) (routed (Ok (Arrives 4 0)))
+    ∷ example behind32 (number 160) (routed (Ok NoOwner))
+    ∷ example behind32 (arrival 4 0) (traced (Ok (BioInput 96)))
     ∷ []
 
 -- ---- "On a two-bridge server the LPC sat on node 5, and we showed it on node 0" (W-208 of document 02)
 unfoldable pub right_bridge : List Example
 right_bridge =
-    example (two_bridges (lpc_on 5 19) 75) (number 3) (routed (Arrives 4 19))
-    ∷ example (two_bridges (lpc_on 5 19) 75) (arrival 4 19) (traced (LpcCascade 147))
-    ∷ example (two_bridges (lpc_on 5 19) 75) (arrival 3 19) (traced (BioInput 83))
-    ∷ example (two_bridges (lpc_on 0 19) 75) (number 3) (routed (Arrives 3 19))
-    ∷ example (two_bridges (lpc_on 0 19) 75) (arrival 3 19) (traced (LpcCascade 83))
-    ∷ example (two_bridges (lpc_on 0 19) 75) (arrival 4 19) (traced (BioInput 147))
+    example (two_bridges (lpc_on 5 19) 75) (number 3) (routed (Ok (Arrives 4 19)))
+    ∷ example (two_bridges (lpc_on 5 19) 75) (arrival 4 19) (traced (Ok (LpcCascade 147)))
+    ∷ example (two_bridges (lpc_on 5 19) 75) (arrival 3 19) (traced (Ok (BioInput 83)))
+    ∷ example (two_bridges (lpc_on 0 19) 75) (number 3) (routed (Ok (Arrives 3 19)))
+    ∷ example (two_bridges (lpc_on 0 19) 75) (arrival 3 19) (traced (Ok (LpcCascade 83)))
+    ∷ example (two_bridges (lpc_on 0 19) 75) (arrival 4 19) (traced (Ok (BioInput 147)))
     -- the SCI is an LPC line
-    ∷ example (two_bridges (lpc_on 5 19) 3) (number 3) (routed (Arrives 4 19))
+    ∷ example (two_bridges (lpc_on 5 19) 3) (number 3) (routed (Ok (Arrives 4 19)))
     -- no base gives a node over 15, a map may hold it
-    ∷ example (holding lio_a (eios (eio 3 63 ∷ [])) (bios (bio 63 64 ∷ [])) msis_a (lpc_on 63 19) 75) (number 3) (routed (Arrives 3 19))
+    ∷ example (holding lio_a (eios (eio 3 63 ∷ [])) (bios (bio 63 64 ∷ [])) msis_a (lpc_on 63 19) 75) (number 3) (routed (Ok (Arrives 3 19)))
     -- the other bridge may be a short one
-    ∷ example (behind_either (bios (short_bio 0 64 10 ∷ bio 5 128 ∷ [])) (lpc_on 5 19) 26) (number 3) (routed (Arrives 4 19))
+    ∷ example (behind_either (bios (short_bio 0 64 10 ∷ bio 5 128 ∷ [])) (lpc_on 5 19) 26) (number 3) (routed (Ok (Arrives 4 19)))
     ∷ []
 
 -- ---- "Take a list of 32-bit global numbers and a list for the answers, three numbers each" (W-209 of document 02); 7 is what the list held
 unfoldable pub many_at_once : List Example
 many_at_once =
-    example (with_sci 75) (numbers (72 ∷ 44 ∷ 60 ∷ []) (replicate 10 7)) (listed verdicts.Sound (0 ∷ 3 ∷ 8 ∷ 1 ∷ 0 ∷ 0 ∷ 2 ∷ 0 ∷ 0 ∷ 7 ∷ []))
-    ∷ example ht_a (numbers (17 ∷ 72 ∷ []) (replicate 6 7)) (listed verdicts.Sound (2 ∷ 0 ∷ 0 ∷ 0 ∷ 3 ∷ 264 ∷ []))
-    ∷ example (two_bridges (lpc_on 5 19) 75) (numbers (147 ∷ 3 ∷ []) (replicate 9 7)) (listed verdicts.Sound (0 ∷ 4 ∷ 19 ∷ 0 ∷ 4 ∷ 19 ∷ 7 ∷ 7 ∷ 7 ∷ []))
-    ∷ example (with_sci 75) (numbers (0xFFFFFFFF ∷ []) (replicate 3 7)) (listed verdicts.Sound (2 ∷ 0 ∷ 0 ∷ []))
-    ∷ example (with_sci 75) (numbers [] []) (listed verdicts.Sound [])
-    ∷ example (with_sci 75) (numbers [] (7 ∷ [])) (listed verdicts.Sound (7 ∷ []))
-    ∷ example (with_sci 75) (numbers (72 ∷ []) (7 ∷ 7 ∷ [])) (listed (verdicts.Refused (refused 62 0)) (7 ∷ 7 ∷ []))
+    example (with_sci 75) (numbers (72 ∷ 44 ∷ 60 ∷ []) (replicate 10 7)) (listed (Ok tt) (0 ∷ 3 ∷ 8 ∷ 1 ∷ 0 ∷ 0 ∷ 2 ∷ 0 ∷ 0 ∷ 7 ∷ []))
+    ∷ example ht_a (numbers (17 ∷ 72 ∷ []) (replicate 6 7)) (listed (Ok tt) (2 ∷ 0 ∷ 0 ∷ 0 ∷ 3 ∷ 264 ∷ []))
+    ∷ example (two_bridges (lpc_on 5 19) 75) (numbers (147 ∷ 3 ∷ []) (replicate 9 7)) (listed (Ok tt) (0 ∷ 4 ∷ 19 ∷ 0 ∷ 4 ∷ 19 ∷ 7 ∷ 7 ∷ 7 ∷ []))
+    ∷ example (with_sci 75) (numbers (0xFFFFFFFF ∷ []) (replicate 3 7)) (listed (Ok tt) (2 ∷ 0 ∷ 0 ∷ []))
+    ∷ example (with_sci 75) (numbers [] []) (listed (Ok tt) [])
+    ∷ example (with_sci 75) (numbers [] (7 ∷ [])) (listed (Ok tt) (7 ∷ []))
+    ∷ example (with_sci 75) (numbers (72 ∷ []) (7 ∷ 7 ∷ [])) (listed (Err (refused 62 0)) (7 ∷ 7 ∷ []))
     -- 61 first, also for no numbers
-    ∷ example (with_sci 45) (numbers (72 ∷ []) (7 ∷ 7 ∷ [])) (listed (verdicts.Refused bad_map) (7 ∷ 7 ∷ []))
-    ∷ example (counting 5 4 4) (numbers (72 ∷ []) (7 ∷ 7 ∷ 7 ∷ [])) (listed (verdicts.Refused bad_map) (7 ∷ 7 ∷ 7 ∷ []))
-    ∷ example (with_sci 45) (numbers [] []) (listed (verdicts.Refused bad_map) [])
+    ∷ example (with_sci 45) (numbers (72 ∷ []) (7 ∷ 7 ∷ [])) (listed (Err bad_map) (7 ∷ 7 ∷ []))
+    ∷ example (counting 5 4 4) (numbers (72 ∷ []) (7 ∷ 7 ∷ 7 ∷ [])) (listed (Err bad_map) (7 ∷ 7 ∷ 7 ∷ []))
+    ∷ example (with_sci 45) (numbers [] []) (listed (Err bad_map) [])
     ∷ []
 
 -- ---- "Keep, beside the map, a table of owners for the numbers 0 to 319" (W-211 of document 02)
@@ -348,13 +345,13 @@ bridge_from base = on_two (bios (bio 0 64 ∷ bio 5 base ∷ [])) msis_a
 
 -- board A's table with the owner of one number changed
 abbrev pub changed : ℕ → Owner → OwnerTable
-changed n owner = record { entries = set (table_of (with_sci 75)).entries n (entry_of owner) }
+changed n owner = record { entries = set (table_of (with_sci 75)).entries n owner }
 
 abbrev pub looked : Map → OwnerTable → ℕ → Owner → Route → Example
-looked map owners n owner route = example map (beside owners n) (whose (lookups.Told owner route))
+looked map owners n owner route = example map (beside owners n) (whose (Ok (owner, route)))
 
 abbrev pub turned : Map → OwnerTable → ℕ → ℕ → Example
-turned map owners n refusal = example map (beside owners n) (whose (lookups.Refused (refused refusal 0)))
+turned map owners n refusal = example map (beside owners n) (whose (Err (refused refusal 0)))
 
 unfoldable pub beside_the_map : List Example
 beside_the_map =
@@ -386,70 +383,70 @@ beside_the_map =
     ∷ turned (with_sci 45) (table_of (with_sci 45)) 72 61
     ∷ turned (with_sci 45) empty_table 72 61
     ∷ turned (counting 5 4 4) (table_of (with_sci 75)) 72 61
-    ∷ example (with_sci 45) table (filled (record { verdict = verdicts.Refused bad_map; table = empty_table }))
+    ∷ example (with_sci 45) table (filled (record { verdict = Err bad_map; table = empty_table }))
     ∷ []
 
 -- ---- "Our older units have an HT controller in place of the EIO" (W-201 of document 02)
 unfoldable pub on_the_ht : List Example
 on_the_ht =
     -- bridge inputs and slots: at the core vector of the input that their byte names, with 256 above their vector
-    example ht_a (number 72) (routed (Arrives 3 264))
-    ∷ example ht_a (number 95) (routed (Arrives 3 287))
-    ∷ example ht_a (number 96) (routed (Arrives 2 288))
-    ∷ example ht_a (number 127) (routed (Arrives 2 319))
-    ∷ example ht_a (number 128) (routed NoOwner)
-    ∷ example ht_a (number 3) (routed (Arrives 3 275))
-    ∷ example ht_a (arrival 3 264) (traced (BioInput 72))
-    ∷ example ht_a (arrival 2 264) (traced Nothing)
-    ∷ example ht_a (arrival 2 319) (traced (BioInput 127))
-    ∷ example ht_a (arrival 3 319) (traced Nothing)
-    ∷ example ht_a (arrival 3 275) (traced (LpcCascade 83))
-    ∷ example ht_a (arrival 2 320) (traced (MsiSlot 0 64))
-    ∷ example ht_a (arrival 2 511) (traced (MsiSlot 0 255))
-    ∷ example ht_a (arrival 2 512) (traced Nothing)
-    ∷ example ht_a (arrival 3 255) (traced Nothing)
+    example ht_a (number 72) (routed (Ok (Arrives 3 264)))
+    ∷ example ht_a (number 95) (routed (Ok (Arrives 3 287)))
+    ∷ example ht_a (number 96) (routed (Ok (Arrives 2 288)))
+    ∷ example ht_a (number 127) (routed (Ok (Arrives 2 319)))
+    ∷ example ht_a (number 128) (routed (Ok NoOwner))
+    ∷ example ht_a (number 3) (routed (Ok (Arrives 3 275)))
+    ∷ example ht_a (arrival 3 264) (traced (Ok (BioInput 72)))
+    ∷ example ht_a (arrival 2 264) (traced (Ok Nothing))
+    ∷ example ht_a (arrival 2 319) (traced (Ok (BioInput 127)))
+    ∷ example ht_a (arrival 3 319) (traced (Ok Nothing))
+    ∷ example ht_a (arrival 3 275) (traced (Ok (LpcCascade 83)))
+    ∷ example ht_a (arrival 2 320) (traced (Ok (MsiSlot 0 64)))
+    ∷ example ht_a (arrival 2 511) (traced (Ok (MsiSlot 0 255)))
+    ∷ example ht_a (arrival 2 512) (traced (Ok Nothing))
+    ∷ example ht_a (arrival 3 255) (traced (Ok Nothing))
     -- LIO inputs: those that a byte names have no owner, and arrive nowhere
-    ∷ example ht_a (number 16) (routed (Arrives 2 0))
-    ∷ example ht_a (number 17) (routed NoOwner)
-    ∷ example ht_a (number 23) (routed NoOwner)
-    ∷ example ht_a (number 24) (routed (Arrives 2 8))
-    ∷ example ht_a (number 32) (routed NoOwner)
-    ∷ example ht_a (number 35) (routed (Arrives 3 19))
-    ∷ example ht_a (number 45) (routed Unwired)
-    ∷ example ht_a (arrival 2 1) (traced Nothing)
-    ∷ example ht_a (arrival 2 0) (traced (LioInput 16))
-    ∷ example ht_a (arrival 3 16) (traced Nothing)
-    ∷ example ht_a (arrival 3 19) (traced (LioInput 35))
+    ∷ example ht_a (number 16) (routed (Ok (Arrives 2 0)))
+    ∷ example ht_a (number 17) (routed (Ok NoOwner))
+    ∷ example ht_a (number 23) (routed (Ok NoOwner))
+    ∷ example ht_a (number 24) (routed (Ok (Arrives 2 8)))
+    ∷ example ht_a (number 32) (routed (Ok NoOwner))
+    ∷ example ht_a (number 35) (routed (Ok (Arrives 3 19)))
+    ∷ example ht_a (number 45) (routed (Ok Unwired))
+    ∷ example ht_a (arrival 2 1) (traced (Ok Nothing))
+    ∷ example ht_a (arrival 2 0) (traced (Ok (LioInput 16)))
+    ∷ example ht_a (arrival 3 16) (traced (Ok Nothing))
+    ∷ example ht_a (arrival 3 19) (traced (Ok (LioInput 35)))
     -- several bytes may name one input
-    ∷ example (on_ht (9 ∷ 9 ∷ 9 ∷ 9 ∷ 9 ∷ 9 ∷ 9 ∷ 9 ∷ []) bios_a msis_a (lpc 19) 75) (number 127) (routed (Arrives 2 319))
-    ∷ example (on_ht (9 ∷ 9 ∷ 9 ∷ 9 ∷ 9 ∷ 9 ∷ 9 ∷ 9 ∷ []) bios_a msis_a (lpc 19) 17) (number 17) (routed (Arrives 2 1))
-    ∷ example (on_ht (9 ∷ 9 ∷ 9 ∷ 9 ∷ 9 ∷ 9 ∷ 9 ∷ 9 ∷ []) bios_a msis_a (lpc 19) 17) (number 25) (routed NoOwner)
+    ∷ example (on_ht (9 ∷ 9 ∷ 9 ∷ 9 ∷ 9 ∷ 9 ∷ 9 ∷ 9 ∷ []) bios_a msis_a (lpc 19) 75) (number 127) (routed (Ok (Arrives 2 319)))
+    ∷ example (on_ht (9 ∷ 9 ∷ 9 ∷ 9 ∷ 9 ∷ 9 ∷ 9 ∷ 9 ∷ []) bios_a msis_a (lpc 19) 17) (number 17) (routed (Ok (Arrives 2 1)))
+    ∷ example (on_ht (9 ∷ 9 ∷ 9 ∷ 9 ∷ 9 ∷ 9 ∷ 9 ∷ 9 ∷ []) bios_a msis_a (lpc 19) 17) (number 25) (routed (Ok NoOwner))
     -- a bridge with 32 inputs, and slots behind them
-    ∷ example (on_ht bytes_a (bios (short_bio 0 64 32 ∷ [])) (msis (msi 32 224 ∷ [])) (lpc 19) 75) (arrival 2 288) (traced (MsiSlot 0 32))
+    ∷ example (on_ht bytes_a (bios (short_bio 0 64 32 ∷ [])) (msis (msi 32 224 ∷ [])) (lpc 19) 75) (arrival 2 288) (traced (Ok (MsiSlot 0 32)))
     ∷ []
 
 -- ---- "its unused places … hold 0, and 61 doesn't look at them": nor does any answer
 unfoldable pub unused_places : List Example
 unused_places =
-    example (with_lio (lio 2 0xFFFFFF 77 0)) (number 26) (routed (Arrives 2 10))
-    ∷ example (with_lio (lio 2 0xFFFFFF 3 0)) (number 72) (routed (Arrives 3 8))
-    ∷ example (with_eios (1, eio 3 0 ∷ eio 3 200 ∷ eio 3 0 ∷ eio 0 0 ∷ [])) (arrival 3 8) (traced (BioInput 72))
-    ∷ example (with_bios (1, bio 0 64 ∷ bio 0 1 ∷ bio 0 64 ∷ bio 9 9 ∷ [])) (number 72) (routed (Arrives 3 8))
-    ∷ example (with_msis (1, msi 64 192 ∷ msi 0 0xFFFFFFFF ∷ msi 64 192 ∷ msi 0 0 ∷ [])) (arrival 3 64) (traced (MsiSlot 0 64))
-    ∷ example (with_lpc (absent_lpc 999)) (number 72) (routed (Arrives 3 8))
-    ∷ example (with_lpc (absent_lpc 19)) (number 3) (routed NoOwner)
-    ∷ example (with_lpc (absent_lpc 19)) (arrival 3 19) (traced (BioInput 83))
-    ∷ example (holding_ht absent_ht lio_a eios_a bios_a msis_a (lpc 19) 75) (number 72) (routed (Arrives 3 8))
-    ∷ example (holding_ht absent_ht lio_a eios_a bios_a msis_a (lpc 19) 75) (number 17) (routed (Arrives 2 1))
+    example (with_lio (lio 2 0xFFFFFF 77 0)) (number 26) (routed (Ok (Arrives 2 10)))
+    ∷ example (with_lio (lio 2 0xFFFFFF 3 0)) (number 72) (routed (Ok (Arrives 3 8)))
+    ∷ example (with_eios (1, eio 3 0 ∷ eio 3 200 ∷ eio 3 0 ∷ eio 0 0 ∷ [])) (arrival 3 8) (traced (Ok (BioInput 72)))
+    ∷ example (with_bios (1, bio 0 64 ∷ bio 0 1 ∷ bio 0 64 ∷ bio 9 9 ∷ [])) (number 72) (routed (Ok (Arrives 3 8)))
+    ∷ example (with_msis (1, msi 64 192 ∷ msi 0 0xFFFFFFFF ∷ msi 64 192 ∷ msi 0 0 ∷ [])) (arrival 3 64) (traced (Ok (MsiSlot 0 64)))
+    ∷ example (with_lpc (absent_lpc 999)) (number 72) (routed (Ok (Arrives 3 8)))
+    ∷ example (with_lpc (absent_lpc 19)) (number 3) (routed (Ok NoOwner))
+    ∷ example (with_lpc (absent_lpc 19)) (arrival 3 19) (traced (Ok (BioInput 83)))
+    ∷ example (holding_ht absent_ht lio_a eios_a bios_a msis_a (lpc 19) 75) (number 72) (routed (Ok (Arrives 3 8)))
+    ∷ example (holding_ht absent_ht lio_a eios_a bios_a msis_a (lpc 19) 75) (number 17) (routed (Ok (Arrives 2 1)))
     ∷ []
 
 -- ---- the first broken rule, its place and the second one
 abbrev pub names : Map → Places → ℕ → ℕ → ℕ → Example
-names map places n place second = example map (rules places) (judged (verdicts.Refused (refused_with n place second)))
+names map places n place second = example map (rules places) (judged (Err (refused_with n place second)))
 
 unfoldable pub first_named : List Example
 first_named =
-    example (with_sci 75) (rules (at 207 230 243 262)) (judged verdicts.Sound)
+    example (with_sci 75) (rules (at 207 230 243 262)) (judged (Ok tt))
     ∷ names (counting 4 5 4) (at 207 230 243 262) 38 118 0
     ∷ names (with_eios (eios [])) (at 207 230 243 262) 40 118 0
     ∷ names (with_eios (eios (eio 3 0 ∷ eio 3 0 ∷ []))) (at 207 230 243 262) 41 294 0
@@ -467,15 +464,15 @@ first_named =
     ∷ names (with_bios (bios (short_bio 9 64 19 ∷ []))) (at 207 230 243 262) 42 262 0
     ∷ names (with_pins 19 msis_a (lpc 19) 26) (at 207 230 243 262) 45 279 0
     ∷ names (with_bios (bios (short_bio 0 64 19 ∷ short_bio 0 64 19 ∷ []))) (at 207 230 243 262) 45 279 0
-    ∷ example (on_two (bios (bio 0 64 ∷ short_bio 5 128 10 ∷ [])) msis_a) (rules (at 207 230 243 262)) (judged verdicts.Sound)
+    ∷ example (on_two (bios (bio 0 64 ∷ short_bio 5 128 10 ∷ [])) msis_a) (rules (at 207 230 243 262)) (judged (Ok tt))
     ∷ names (with_bios (bios (bio 0 64 ∷ bio 0 64 ∷ []))) (at 207 230 243 262) 51 314 262
     ∷ names (on_two (bios (bio 0 64 ∷ bio 5 127 ∷ [])) msis_a) (at 207 230 243 262) 51 314 262
     ∷ names (with_bios (bios (bio 0 64 ∷ bio 0 128 ∷ []))) (at 207 230 243 262) 52 314 262
     -- by the counts
     ∷ names (on_two (bios (short_bio 0 64 33 ∷ bio 5 96 ∷ [])) msis_a) (at 207 230 243 262) 51 314 262
-    ∷ example behind32 (rules (at 207 230 243 262)) (judged verdicts.Sound)
+    ∷ example behind32 (rules (at 207 230 243 262)) (judged (Ok tt))
     ∷ names (with_pins 33 (msis (msi 32 224 ∷ [])) (lpc 19) 75) (at 207 230 243 262) 52 262 243
-    ∷ example with32 (rules (at 207 230 243 262)) (judged verdicts.Sound)
+    ∷ example with32 (rules (at 207 230 243 262)) (judged (Ok tt))
     ∷ names (with_pins 32 msis_a (lpc 19) 96) (at 207 230 243 262) 54 400 0
     -- of slots and a bridge the later is named, and never the EIO
     ∷ names (with_msis (msis (msi 63 193 ∷ []))) (at 207 230 243 262) 52 262 243
@@ -491,7 +488,7 @@ first_named =
     ∷ names (with_lio (lio 2 255 3 0xFF00)) (at 207 230 243 262) 53 230 207
     ∷ names (with_sci 45) (at 207 230 243 262) 54 400 0
     -- with an HT: 42 of a hardware ID that is not 0; 44 behind 43 and before 45; 52 of HT vectors; 53 of none
-    ∷ example ht_a (rules (at 207 230 243 262)) (judged verdicts.Sound)
+    ∷ example ht_a (rules (at 207 230 243 262)) (judged (Ok tt))
     ∷ names (on_ht unwired (bios (bio 5 64 ∷ [])) msis_a (lpc_on 5 19) 75) (at 207 230 243 262) 42 262 0
     ∷ names (on_ht unwired bios_a msis_a (lpc_on 5 19) 75) (at 207 230 243 262) 43 279 0
     ∷ names (on_ht unwired bios_a msis_a (lpc 19) 75) (at 207 230 243 262) 44 230 0

@@ -1,10 +1,9 @@
 -- What a structure is refused with for a field out of its range: "71 cascade of EIO or LIO, 72 node or hardware ID, 73 node map, 74 MSI
 -- count, 75 MSI end, 76 GSI base, 77 LPC cascade, 78 HT byte" (document 02, W-202), each number by itself, in numbers and not by the tests that
 -- the rules are made of. proofs/Fields.antt has the theorem.
-use Rattle.std.specs.Prelude.{ℕ, ◌+◌, ◌<◌, ◌≤◌, true, false, List, ◌⊎◌, ◌≡◌, length, get_or}
+use Rattle.std.specs.Prelude.{ℕ, ◌+◌, ◌<◌, ◌≤◌, true, false, List, ◌⊎◌, ◌≡◌, length, get_or, Err}
 use Rattle.words.specs.Bytes.{byte_at}
 use Rattle.words.specs.Refusals.{refused, first_refusal}
-use Rattle.words.specs.declared.Verdict.TheVariants.{Refused}
 use Rattle.kinds.specs.Makers.{lio_of, ht_of, eio_of, msi_of, bio_of, lpc_of}
 use Rattle.kinds.specs.Ranges.{bit_in_both}
 use Rattle.kinds.specs.declared.Half.{Half}
@@ -81,7 +80,7 @@ pub record OfType (number : ℕ) (s : List ℕ) : Type 0 where
 
 -- it stands at a place, behind so many of its kind, and is refused with a number
 abbrev pub RefusedThere : ℕ → ℕ → List ℕ → ℕ → Type 0
-RefusedThere place before s n = first_refusal (structure_rules place before s) ≡ Refused (refused n place)
+RefusedThere place before s n = first_refusal (structure_rules place before s) ≡ Err (refused n place)
 
 pub record FieldsExactly (place before : ℕ) (s : List ℕ) : Type 0 where
   pub oftype : ToldOfType (RefusedThere place before s) (byte_at s 0)

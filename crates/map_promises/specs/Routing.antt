@@ -1,7 +1,7 @@
 -- A route is a source's: document 01, "Where a line arrives": "The answer to a global number is: arrives (vector, number),
 -- unwired, or no owner." Which of the three it is, said of the sources alone; and whose a number is. Each statement stands alone, and holds of
 -- every map that keeps the rules; proofs/Routing.antt has a theorem for it.
-use Rattle.std.specs.Prelude.{ℕ, ◌+◌, ◌<◌, true, false, ◌≡◌}
+use Rattle.std.specs.Prelude.{ℕ, ◌+◌, ◌<◌, true, false, ◌≡◌, Ok}
 use Rattle.parts.specs.Inputs.{wired, is_named}
 use Rattle.lines.specs.Says.{Said, says}
 use Rattle.lines.specs.Routes.{owner}
@@ -28,13 +28,13 @@ IsLpcLine said number = (number < 16) × (said.lpc.present ≡ true)
 -- a source's own number is answered with where the source arrives
 abbrev pub RouteIsSources : Map → Type 0
 RouteIsSources map =
-    (x : Source) (number : ℕ) → IsSource (says map) x → HasNumber (says map) x number → route_of map number ≡ arrives (says map) x
+    (x : Source) (number : ℕ) → IsSource (says map) x → HasNumber (says map) x number → route_of map number ≡ Ok (arrives (says map) x)
 
 -- "unwired" is told of the unwired inputs of the LIO, and of nothing else
 abbrev pub UnwiredExactly : Map → Type 0
 UnwiredExactly map =
     (number : ℕ)
-    → (route_of map number ≡ Unwired → IsUnwired (says map) number) × (IsUnwired (says map) number → route_of map number ≡ Unwired)
+    → (route_of map number ≡ Ok Unwired → IsUnwired (says map) number) × (IsUnwired (says map) number → route_of map number ≡ Ok Unwired)
 
 -- "The rest have no owner": no source has the number, and it is neither an unwired input's nor an LPC line's
 pub record Rest (said : Said) (number : ℕ) : Type 0 where
@@ -46,7 +46,7 @@ pub record Rest (said : Said) (number : ℕ) : Type 0 where
 abbrev pub NoOwnerExactly : Map → Type 0
 NoOwnerExactly map =
     (number : ℕ)
-    → (route_of map number ≡ NoOwner → Rest (says map) number) × (Rest (says map) number → route_of map number ≡ NoOwner)
+    → (route_of map number ≡ Ok NoOwner → Rest (says map) number) × (Rest (says map) number → route_of map number ≡ Ok NoOwner)
 
 -- whose a number is: "global numbers 0 to 15 are the LPC inputs if there is an LPC; 16 to 47 the LIO inputs 0 to 31", but for those that the HT
 -- names; "a BIO with base b owns b to b + 63, its inputs 0 to 63", as many as it has; "The rest have no owner."

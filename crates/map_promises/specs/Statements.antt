@@ -1,10 +1,9 @@
 -- What is promised of maps. Each statement stands alone; proofs/ has a theorem of the same name for it.
-use Rattle.std.specs.Prelude.{ℕ, ◌+◌, ◌-◌, ◌^◌, ◌<◌, ◌≤◌, true, false, not, ◌&&◌, ◌||◌, List, map as mapped, ◌⊎◌, ◌≡◌, eqb, leb, length}
+use Rattle.std.specs.Prelude.{ℕ, ◌+◌, ◌-◌, ◌^◌, ◌<◌, ◌≤◌, true, false, not, ◌&&◌, ◌||◌, List, map as mapped, ◌⊎◌, ◌≡◌, eqb, leb, length, Result, Ok, Err}
 use Rattle.words.specs.Choice.{if}
 use Rattle.words.specs.Lists.{first}
 use Rattle.words.specs.Refusals.{refused, rule}
 use Rattle.words.specs.declared.Refusal.{Refusal}
-use Rattle.words.specs.declared.Verdict.TheVariants.{Sound}
 use Rattle.kinds.specs.Ranges.{bit_in_both}
 use Rattle.clashes.specs.Search.{first_lone}
 use Rattle.clashes.specs.Told.{spotted}
@@ -20,9 +19,9 @@ use Rattle.lines.specs.declared.Map.{Map}
 use Rattle.lines.specs.declared.Owner.TheVariants.{LioInput as OwnedLio}
 use Rattle.lines.specs.declared.Places.{Places}
 use Rattle.lines.specs.declared.Route.{Route}
-use Rattle.lines.specs.declared.Route.TheVariants.{Arrives, Unwired, NoOwner, Refused}
+use Rattle.lines.specs.declared.Route.TheVariants.{Arrives, Unwired, NoOwner}
 use Rattle.lines.specs.declared.Trace.{Trace}
-use Rattle.lines.specs.declared.Trace.TheVariants.{Nothing, LioInput, BioInput, LpcCascade, MsiSlot, Refused as NoTrace}
+use Rattle.lines.specs.declared.Trace.TheVariants.{Nothing, LioInput, BioInput, LpcCascade, MsiSlot}
 use Rattle.map_promises.specs.Sources.{Source, pin, bio_at, IsSource, arrives, IsBehind, name}
 use Rattle.map_promises.specs.Structures.{Placed}
 
@@ -37,8 +36,8 @@ NoTwoAlike said =
 abbrev pub TracingNames : Map → Type 0
 TracingNames map =
     (x : Source) (vector number : ℕ) → IsSource (says map) x
-    → (arrives (says map) x ≡ Arrives vector number → trace_of map vector number ≡ name (says map) x)
-    × (trace_of map vector number ≡ name (says map) x → arrives (says map) x ≡ Arrives vector number)
+    → (arrives (says map) x ≡ Arrives vector number → trace_of map vector number ≡ Ok (name (says map) x))
+    × (trace_of map vector number ≡ Ok (name (says map) x) → arrives (says map) x ≡ Arrives vector number)
 
 -- a source arrives there
 abbrev pub Arrived : Said → ℕ → ℕ → Type 0
@@ -48,8 +47,8 @@ Arrived said vector number = (x : Source) × IsSource said x × (arrives said x 
 abbrev pub NothingExactly : Map → Type 0
 NothingExactly map =
     (vector number : ℕ)
-    → (Arrived (says map) vector number × (trace_of map vector number ≡ Nothing → ⊥))
-    ⊎ ((Arrived (says map) vector number → ⊥) × (trace_of map vector number ≡ Nothing))
+    → (Arrived (says map) vector number × (trace_of map vector number ≡ Ok Nothing → ⊥))
+    ⊎ ((Arrived (says map) vector number → ⊥) × (trace_of map vector number ≡ Ok Nothing))
 
 -- ---- places
 -- whether a rule is broken does not hang on the places: the reading, which knows them, accepts no map that 61 refuses, and
@@ -59,8 +58,8 @@ PlacesDoNotMatter map =
     (places : Places) (madt fadt : ℕ)
     → Placed (says map) places
     → (ranges_kept (says map) ≡ true → bit_in_both (says map).lio ≡ false → both_kinds (says map) ≡ false
-    → first_broken map places madt fadt ≡ Sound → keeps_rules map ≡ true)
-    × (keeps_rules map ≡ true → first_broken map places madt fadt ≡ Sound)
+    → first_broken map places madt fadt ≡ Ok tt → keeps_rules map ≡ true)
+    × (keeps_rules map ≡ true → first_broken map places madt fadt ≡ Ok tt)
 
 -- ---- the LPC lines, and there and back
 -- "The sixteen LPC lines count as the one pin that they share": it is one of the bridge of the LPC's node, and each line arrives where
@@ -69,7 +68,7 @@ abbrev pub LpcLinesShare : Map → Type 0
 LpcLinesShare map =
     let said = says map in
     said.lpc.present ≡ true
-    → (j : ℕ) × IsBehind said j × ((n : ℕ) → n < 16 → route_of map n ≡ arrives said (pin j said.lpc.cascade))
+    → (j : ℕ) × IsBehind said j × ((n : ℕ) → n < 16 → route_of map n ≡ Ok (arrives said (pin j said.lpc.cascade)))
 
 -- W-208 of document 02 changes nothing where all bridges have the LPC's node: the first of them is the LPC's, as it was before
 pub record AsBefore (map : Map) : Type 0 where
@@ -79,10 +78,10 @@ pub record AsBefore (map : Map) : Type 0 where
       → rule45 (says map) place ≡ rule ((says map).lpc.present && leb (bio_at (says map) 0).pins (says map).lpc.cascade) 45 place
   -- and of a map that keeps the rules, each LPC line arrives where the first bridge's input of the LPC's cascade does, and is traced to it
   pub arriving : keeps_rules map ≡ true → (says map).lpc.present ≡ true
-      → (n : ℕ) → n < 16 → route_of map n ≡ arrives (says map) (pin 0 (says map).lpc.cascade)
+      → (n : ℕ) → n < 16 → route_of map n ≡ Ok (arrives (says map) (pin 0 (says map).lpc.cascade))
   pub tracing : keeps_rules map ≡ true → (says map).lpc.present ≡ true
       → (vector number : ℕ) → arrives (says map) (pin 0 (says map).lpc.cascade) ≡ Arrives vector number
-      → trace_of map vector number ≡ LpcCascade ((bio_at (says map) 0).base + (says map).lpc.cascade)
+      → trace_of map vector number ≡ Ok (LpcCascade ((bio_at (says map) 0).base + (says map).lpc.cascade))
 
 abbrev pub OneNodeAsBefore : Map → Type 0
 OneNodeAsBefore map =
@@ -95,7 +94,7 @@ pub record AsWithoutHt (map : Map) : Type 0 where
   -- "no LIO or no EIO", "BIO without an EIO of its node", and no 44
   pub r40 : (madt : ℕ) → rule40 (says map) madt ≡ rule (not (says map).lio.present || eqb (length (says map).eios) 0) 40 madt
   pub r42 : (all : List Claim) → rule42 (says map) all ≡ spotted 42 (first_lone (mapped (λ e. e.node) (says map).eios) all)
-  pub r44 : (place : ℕ) → rule44 (says map) place ≡ Sound
+  pub r44 : (place : ℕ) → rule44 (says map) place ≡ Ok tt
   -- "16 to 47 the LIO inputs 0 to 31"
   pub owned : (n : ℕ) → 16 ≤ n → n < 48 → owner (says map) n ≡ OwnedLio (n - 16)
   -- "at that EIO's cascade, with number v"
@@ -111,24 +110,24 @@ abbrev pub WithoutHtAsBefore : Map → Type 0
 WithoutHtAsBefore map = (says map).ht.present ≡ false → AsWithoutHt map
 
 -- a trace tells the global number n
-abbrev pub Tells : ℕ → Trace → Type 0
-Tells n trace = (trace ≡ LioInput n) ⊎ ((trace ≡ BioInput n) ⊎ (trace ≡ LpcCascade n))
+abbrev pub Tells : ℕ → Result Trace Refusal → Type 0
+Tells n trace = (trace ≡ Ok (LioInput n)) ⊎ ((trace ≡ Ok (BioInput n)) ⊎ (trace ≡ Ok (LpcCascade n)))
 
 -- routing a number and tracing its arrival comes back to that number; from an LPC line, to the pin that it shares
 abbrev pub ThereAndBack : Map → Type 0
 ThereAndBack map =
-    (n vector number : ℕ) → route_of map n ≡ Arrives vector number
+    (n vector number : ℕ) → route_of map n ≡ Ok (Arrives vector number)
     → (16 ≤ n → Tells n (trace_of map vector number))
-    × (n < 16 → (j : ℕ) × IsBehind (says map) j × (trace_of map vector number ≡ LpcCascade ((bio_at (says map) j).base + (says map).lpc.cascade)))
+    × (n < 16 → (j : ℕ) × IsBehind (says map) j × (trace_of map vector number ≡ Ok (LpcCascade ((bio_at (says map) j).base + (says map).lpc.cascade))))
 
 -- ---- 61
 -- a map that breaks a rule is refused with 61 at place 0, whatever is asked; one that keeps them is never refused
 abbrev pub RefusedExactly : Map → Type 0
 RefusedExactly map =
     (keeps_rules map ≡ false
-    → ((n : ℕ) → route_of map n ≡ Refused bad_map) × ((vector number : ℕ) → trace_of map vector number ≡ NoTrace bad_map))
+    → ((n : ℕ) → route_of map n ≡ Err bad_map) × ((vector number : ℕ) → trace_of map vector number ≡ Err bad_map))
     × (keeps_rules map ≡ true
-    → ((n : ℕ) (r : Refusal) → route_of map n ≡ Refused r → ⊥) × ((vector number : ℕ) (r : Refusal) → trace_of map vector number ≡ NoTrace r → ⊥))
+    → ((n : ℕ) (r : Refusal) → route_of map n ≡ Err r → ⊥) × ((vector number : ℕ) (r : Refusal) → trace_of map vector number ≡ Err r → ⊥))
 
 -- ---- one map, one answer
 -- "maps that differ only there are the same map": they get the same answers
@@ -142,19 +141,19 @@ SameAnswers map other =
 -- ---- answers as numbers
 -- a route, or a trace, whose values fit the code: a core vector and a node take a byte, any other value 32 bits, and a
 -- refusal's number is not 0
-abbrev pub RouteFits : Route → Type 0
-RouteFits (Arrives vector number) = (vector < 2 ^ 8) × (number < 2 ^ 32)
-RouteFits Unwired = 0 < 1
-RouteFits NoOwner = 0 < 1
-RouteFits (Refused r) = (0 < r.number) × (r.place < 2 ^ 32)
+abbrev pub RouteFits : Result Route Refusal → Type 0
+RouteFits (Ok (Arrives vector number)) = (vector < 2 ^ 8) × (number < 2 ^ 32)
+RouteFits (Ok Unwired) = 0 < 1
+RouteFits (Ok NoOwner) = 0 < 1
+RouteFits (Err r) = (0 < r.number) × (r.place < 2 ^ 32)
 
-abbrev pub TraceFits : Trace → Type 0
-TraceFits Nothing = 0 < 1
-TraceFits (LioInput n) = n < 2 ^ 32
-TraceFits (BioInput n) = n < 2 ^ 32
-TraceFits (LpcCascade n) = n < 2 ^ 32
-TraceFits (MsiSlot node slot) = (node < 2 ^ 8) × (slot < 2 ^ 32)
-TraceFits (NoTrace r) = (0 < r.number) × (r.place < 2 ^ 32)
+abbrev pub TraceFits : Result Trace Refusal → Type 0
+TraceFits (Ok Nothing) = 0 < 1
+TraceFits (Ok (LioInput n)) = n < 2 ^ 32
+TraceFits (Ok (BioInput n)) = n < 2 ^ 32
+TraceFits (Ok (LpcCascade n)) = n < 2 ^ 32
+TraceFits (Ok (MsiSlot node slot)) = (node < 2 ^ 8) × (slot < 2 ^ 32)
+TraceFits (Err r) = (0 < r.number) × (r.place < 2 ^ 32)
 
 -- every answer of a map that keeps the rules fits its code
 abbrev pub AnswersFit : Map → Type 0
@@ -165,23 +164,13 @@ AnswersFit map =
 abbrev pub in_code : Refusal → Refusal
 in_code r = refused r.number r.place
 
-abbrev pub route_in_code : Route → Route
-route_in_code (Arrives vector number) = Arrives vector number
-route_in_code Unwired = Unwired
-route_in_code NoOwner = NoOwner
-route_in_code (Refused r) = Refused (in_code r)
-
-abbrev pub trace_in_code : Trace → Trace
-trace_in_code Nothing = Nothing
-trace_in_code (LioInput n) = LioInput n
-trace_in_code (BioInput n) = BioInput n
-trace_in_code (LpcCascade n) = LpcCascade n
-trace_in_code (MsiSlot node slot) = MsiSlot node slot
-trace_in_code (NoTrace r) = NoTrace (in_code r)
+abbrev pub answer_in_code : {A : Type 0} → Result A Refusal → Result A Refusal
+answer_in_code (Ok answer) = Ok answer
+answer_in_code (Err r) = Err (in_code r)
 
 -- no two answers have one code: two refusals with one code have equal numbers and equal places
 abbrev pub RouteCodesApart : Type 0
-RouteCodesApart = (r s : Route) → RouteFits r → RouteFits s → route_code r ≡ route_code s → route_in_code r ≡ route_in_code s
+RouteCodesApart = (r s : Result Route Refusal) → RouteFits r → RouteFits s → route_code r ≡ route_code s → answer_in_code r ≡ answer_in_code s
 
 abbrev pub TraceCodesApart : Type 0
-TraceCodesApart = (r s : Trace) → TraceFits r → TraceFits s → trace_code r ≡ trace_code s → trace_in_code r ≡ trace_in_code s
+TraceCodesApart = (r s : Result Trace Refusal) → TraceFits r → TraceFits s → trace_code r ≡ trace_code s → answer_in_code r ≡ answer_in_code s

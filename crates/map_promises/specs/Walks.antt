@@ -1,8 +1,7 @@
 -- What is promised of the walk of a MADT: what it finds is a map in good order. Each statement stands alone; proofs/ has a
 -- theorem of the same name for it.
-use Rattle.std.specs.Prelude.{ℕ, ◌+◌, ◌*◌, ◌/◌, ◌<◌, ◌≤◌, true, false, List, ◌∷◌, ◌++◌, ◌≡◌, length, get_or}
+use Rattle.std.specs.Prelude.{ℕ, ◌+◌, ◌*◌, ◌/◌, ◌<◌, ◌≤◌, true, false, List, ◌∷◌, ◌++◌, ◌≡◌, length, get_or, Ok}
 use Rattle.words.specs.Bytes.{AllBytes, byte_at}
-use Rattle.words.specs.declared.Verdict.TheVariants.{Sound}
 use Rattle.kinds.specs.Ranges.{bit_in_both}
 use Rattle.kinds.specs.Makers.{lio_of, ht_of, eio_of, msi_of, bio_of, lpc_of}
 use Rattle.kinds.specs.Used.{no_half, no_lio, no_ht, no_eio, no_bio, no_msi, no_lpc, said_lio}
@@ -42,7 +41,7 @@ pub record InTableOrder (base : ℕ) (pins : ℕ → ℕ) (all : List Whole) (ma
 -- what the walk of a MADT finds, if it refuses nothing, is that
 abbrev pub WalkInTableOrder : List ℕ → ℕ → ℕ → (ℕ → ℕ) → Type 0
 WalkInTableOrder table base sci pins =
-    (walked table base sci pins).verdict ≡ Sound
+    (walked table base sci pins).verdict ≡ Ok tt
     → InTableOrder base pins (structures (pieces table 44)) (walked table base sci pins).found.map (walked table base sci pins).found.places
 
 -- ---- "the node in address bits 44 to 47" (W-208 of document 02)
@@ -105,6 +104,6 @@ PinsInRange pins = (id : ℕ) → (1 ≤ pins id) × (pins id ≤ 64)
 -- the walk of a MADT that stands at `base`, if it refuses nothing, finds such a map, with the SCI number that it was given
 abbrev pub WalkKeepsBooks : List ℕ → ℕ → ℕ → (ℕ → ℕ) → Type 0
 WalkKeepsBooks table base sci pins =
-    PinsInRange pins → (walked table base sci pins).verdict ≡ Sound
+    PinsInRange pins → (walked table base sci pins).verdict ≡ Ok tt
     → WellKept (walked table base sci pins).found.map (walked table base sci pins).found.places
     × ((walked table base sci pins).found.map.sci ≡ sci)

@@ -1,77 +1,42 @@
--- Laws of the table's entries: what is left to write at each turn of the loop that fills it, what it has for each number, and when two tables
--- have the same.
-use mathlib.Core.Path.{◌≡◌, refl, sym, ap, ◌∙◌}
-use mathlib.Core.Bool.{true}
-use mathlib.Core.List.{List, [], ◌∷◌, ◌++◌, map as mapped, append-nil}
-use Prim.Native.Nat.{ℕ, zero, suc, ◌+◌, ◌-◌, ◌≤◌, ◌<◌}
+-- Laws of the table's entries: what a table has for each number, and when two tables have the same.
+use mathlib.Core.Path.{◌≡◌, sym, ap, ◌∙◌}
+use mathlib.Core.Bool.{Bool, true, not}
+use mathlib.Core.List.{List}
+use Prim.Native.Nat.{ℕ, ◌<◌}
 use native.Mathlib.Nat.{zero-add}
 use native.Mathlib.Omega.{arith}
-use lib.ListN.{length, get_or, length-replicate, drop_of_length-le}
+use lib.ListN.{length, get_or}
+use lib.Pointwise.{pointwise, pointwise_decides}
 use lib.Seq.{ext_get_or}
-use Rattle.words.specs.Lists.{numbers_from, numbers_below}
-use Rattle.words.specs.Rooms.{written}
+use Rattle.std.proofs.lemmas.Bool.Decides.{same_from_decides}
+use Rattle.words.specs.Lists.{numbers_below}
 use Rattle.words.proofs.Counted.{length-made, made_at, each-taken, all_taken}
-use Rattle.words.proofs.Rooms.{Next}
-use Rattle.words.proofs.Searches.{next_number, no_number}
 use Rattle.lines.specs.Says.{says}
 use Rattle.lines.specs.Routes.{owner}
+use Rattle.lines.specs.contracts.OwnerPartialEq.TheImpl as derived
 use Rattle.lines.specs.declared.Map.{Map}
+use Rattle.lines.specs.declared.Owner.{Owner}
 use Rattle.lines.specs.declared.Owner.TheVariants.{Nobody}
-use Rattle.owners.specs.Table.{entry_of, table_of, empty_table, owner_in, same_owner, same_table}
-use Rattle.owners.specs.declared.Entry.{Entry}
+use Rattle.owners.specs.Table.{table_of, owner_in, same_owner, same_table}
 use Rattle.owners.specs.declared.OwnerTable.{OwnerTable}
-use Rattle.owners.proofs.Same.{same_owner_lem, owner_same}
-
--- the table of some entries
-abbrev pub of : List Entry → OwnerTable
-of entries = record { entries = entries }
-
--- the entry of a number, by a map, and the entries from a number on
-abbrev pub entry_by : Map → ℕ → Entry
-entry_by map number = entry_of (owner (says map) number)
-
-abbrev pub entries_from : Map → ℕ → List Entry
-entries_from map i = mapped (entry_by map) (numbers_from i (320 - i))
-
--- ---- filling
-pub next_entry : (map : Map) (i : ℕ) → i < 320 → {entry : Entry} → entry ≡ entry_by map i → Next 1 (entries_from map i) (entry ∷ []) (entries_from map (i + 1))
-next_entry map i more e = record { split = rw e (ap (mapped (entry_by map)) (next_number 320 i more)); size = refl }
-
-pub no_entry : (map : Map) (i : ℕ) → 320 ≤ i → entries_from map i ≡ []
-no_entry map i over = ap (mapped (entry_by map)) (no_number 320 i over)
-
-pub all_entries : (map : Map) → length (entries_from map 0) ≡ 320
-all_entries map = length-made (entry_by map) 0 320
-
--- nothing of the array that is written over stays
-pub whole_table : (map : Map) (old : List Entry) → length old ≡ 320 → written (entries_from map 0) old ≡ (table_of map).entries
-unfolding written table_of numbers_below
-whole_table map old h =
-    ap (λ (rest : List Entry). entries_from map 0 ++ rest) (drop_of_length-le old {i = length (entries_from map 0)} (omega (arith, all_entries map))) ∙ append-nil (entries_from map 0)
-
--- the array that is written over has an entry for each number
-pub empty_size : {table : OwnerTable} → table ≡ empty_table → length table.entries ≡ 320
-unfolding empty_table
-empty_size e = ap (λ (t : OwnerTable). length t.entries) e ∙ length-replicate 320 (entry_of Nobody)
-
--- ---- reading: of a number that it has, a table's entry does not hang on what would stand past its end
-pub same_entry : (entries : List Entry) (i : ℕ) (none other : Entry) → i < length entries → get_or entries i none ≡ get_or entries i other
-same_entry [] i none other l = absurd (omega arith)
-same_entry (e ∷ es) zero none other l = refl
-same_entry (e ∷ es) (suc i) none other l = same_entry es i none other (omega arith)
-
-pub owner_at : (table : OwnerTable) (i : ℕ) (none : Entry) → i < length table.entries → (get_or table.entries i none).owner ≡ owner_in table i
-unfolding owner_in
-owner_at table i none l = ap (λ (e : Entry). e.owner) (same_entry table.entries i none (entry_of Nobody) l)
+use Rattle.owners.proofs.Same.{same_owner_lem, owner_same, as_derived}
 
 -- ---- the map's own table
 pub its_own : (map : Map) (k : ℕ) → k < 320 → owner_in (table_of map) k ≡ owner (says map) k
 unfolding owner_in table_of numbers_below
-its_own map k l = ap (λ (e : Entry). e.owner) (made_at (entry_by map) 0 320 k (entry_of Nobody) l) ∙ ap (owner (says map)) (zero-add k)
+its_own map k l = made_at (owner (says map)) 0 320 k Nobody l ∙ ap (owner (says map)) (zero-add k)
 
 pub own_size : (map : Map) → length (table_of map).entries ≡ 320
 unfolding table_of numbers_below
-own_size map = all_entries map
+own_size map = length-made (owner (says map)) 0 320
+
+-- a table that has for each number the owner that the map gives it is the map's own
+pub owned_so : (map : Map) (entries : List Owner) → length entries ≡ 320 → ((k : ℕ) → k < 320 → get_or entries k Nobody ≡ owner (says map) k)
+    → record { entries = entries } ≡ table_of map
+unfolding owner_in
+owned_so map entries size each =
+    ap (λ (l : List Owner). record { entries = l })
+    (ext_get_or Nobody entries (table_of map).entries (size ∙ sym (own_size map)) (λ k l. each k (omega (arith, size)) ∙ sym (its_own map k (omega (arith, size)))))
 
 -- ---- tables with the same content
 module _ (one other : OwnerTable) where
@@ -90,5 +55,17 @@ module _ (one other : OwnerTable) where
   pub same_table_lem : length one.entries ≡ 320 → length other.entries ≡ 320 → same_table one other ≡ true → one ≡ other
   unfolding owner_in
   same_table_lem size size' h =
-      ap (λ (entries : List Entry). record { entries = entries })
-      (ext_get_or (entry_of Nobody) one.entries other.entries (size ∙ sym size') (λ k l. ap entry_of (same_each h k (omega (arith, size)))))
+      ap (λ (entries : List Owner). record { entries = entries })
+      (ext_get_or Nobody one.entries other.entries (size ∙ sym size') (λ k l. same_each h k (omega (arith, size))))
+
+  -- which is what `==` tells of them
+  pub told_same : length one.entries ≡ 320 → length other.entries ≡ 320 → pointwise derived.eq-value.it one.entries other.entries ≡ same_table one other
+  told_same size size' =
+      same_from_decides _ _
+      (pointwise_decides (λ x y. (λ h. same_owner_lem x y (sym (as_derived x y) ∙ h), λ e. as_derived x y ∙ owner_same x y e)) one.entries other.entries)
+      (λ h. ap (λ (t : OwnerTable). t.entries) (same_table_lem size size' h), λ e. each_same (λ k l. ap (λ (es : List Owner). owner_in (record { entries = es }) k) e))
+
+-- `!=` beside a map's own table tells whether the content is another
+pub told_other : (table : OwnerTable) (map : Map) → length table.entries ≡ 320 → {own : OwnerTable} → own ≡ table_of map → {told : Bool}
+    → told ≡ not (pointwise derived.eq-value.it table.entries own.entries) → told ≡ not (same_table table (table_of map))
+told_other table map size e t = t ∙ (rw e (ap not (told_same table (table_of map) size (own_size map))))

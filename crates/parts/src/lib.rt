@@ -1,8 +1,9 @@
 // What each structure of a map has by itself: its inputs, pins or slots, the global numbers that it owns, and what it claims.
 #![tactic(auto)]
 
-ghost use Rattle.std.specs.Prelude.{◌≡◌, not, eqb};
+ghost use Rattle.std.specs.Prelude.{◌≡◌, ℕ, not, eqb};
 ghost use Rattle.words.specs.Lists.{every};
+ghost use Rattle.clashes.specs.declared.Claim.{Claim};
 ghost use Rattle.parts.specs.Inputs.{has_bit, wired, leads, core_vector, input_for, is_named, names_unwired, has_slot, owns, has_pin, is_bridge};
 ghost use Rattle.parts.specs.Claims.{lio_claim, eio_claim, bio_claim, msi_claim};
 
@@ -16,13 +17,11 @@ const LIO_INPUTS: u32 = 32;
 const BYTE_VECTORS: u32 = 32;
 
 // Bit i of a mask of 32 inputs.
+#[tactic(auto, unfolding(crate::specs::Inputs::has_bit))]
 pub fn bit(mask: u32, i: u32) -> bool
     ensures { result ≡ has_bit mask i }
 {
-    if i < LIO_INPUTS {
-        return (mask >> i) % 2 == 1;
-    }
-    false
+    i < LIO_INPUTS && (mask >> i) % 2 == 1
 }
 
 // Whether a half of the LIO leads an input to a core vector.
@@ -32,17 +31,15 @@ pub fn half_leads(half: Half, vector: u32, i: u32) -> bool
     (half.cascade as u32 == vector) & bit(half.mask, i)
 }
 
-// The core vector of an input of the LIO; 0 where it is not wired.
+// The core vector of an input of the LIO; 0 where it is not wired, and no Option: the call is public and has an answer for every input.
 pub fn core_vector(lio: Lio, i: u32) -> u8
     ensures { result ≡ core_vector lio i }
 {
-    let low = lio.low;
-    let high = lio.high;
-    if bit(low.mask, i) {
-        return low.cascade;
+    if bit(lio.low.mask, i) {
+        return lio.low.cascade;
     }
-    if bit(high.mask, i) {
-        return high.cascade;
+    if bit(lio.high.mask, i) {
+        return lio.high.cascade;
     }
     0
 }
@@ -53,71 +50,45 @@ pub fn core_vector(lio: Lio, i: u32) -> u8
 pub fn input_for(ht: Ht, vector: u32) -> u8
     ensures { result ≡ input_for ht vector }
 {
-    let bytes = ht.bytes;
-    let n = (vector / BYTE_VECTORS) as usize;
-    if n < 8 {
-        return bytes[n];
-    }
-    0
+    let byte = ht.bytes.get((vector / BYTE_VECTORS) as usize);
+    byte.copied().unwrap_or(0)
 }
 
 // Whether no byte names an input.
-fn none_names(bytes: [u8; 8], i: u32) -> bool
-    ensures { result ≡ every (λ b. not (eqb b i)) bytes }
+fn none_names(bytes: &[u8], i: u32) -> bool
+    ensures { result ≡ every (λ b. not (eqb b i)) bytes.now }
 {
-    let mut none = true;
-    let mut n = 0;
-    while n < 8 {
-        let b = bytes[n];
-        none = none & (b as u32 != i);
-        n += 1;
-    }
-    none
+    bytes.iter().all(|b| *b as u32 != i)
 }
 
 // Whether the HT names an input.
+#[tactic(auto, unfolding(crate::specs::Inputs::is_named))]
 pub fn is_named(ht: Ht, i: u32) -> bool
     ensures { result ≡ is_named ht i }
 {
-    if ht.present {
-        let bytes = ht.bytes;
-        return !none_names(bytes, i);
-    }
-    false
+    ht.present && !none_names(&ht.bytes, i)
 }
 
 // Whether an input of the LIO is wired.
 pub fn is_wired(lio: Lio, i: u32) -> bool
     ensures { result ≡ wired lio i }
 {
-    let low = lio.low;
-    let high = lio.high;
-    bit(low.mask, i) | bit(high.mask, i)
+    bit(lio.low.mask, i) | bit(lio.high.mask, i)
 }
 
 // Whether every byte names a wired input.
-fn all_wired(lio: Lio, bytes: [u8; 8]) -> bool
-    ensures { result ≡ every (wired lio) bytes }
+fn all_wired(lio: Lio, bytes: &[u8]) -> bool
+    ensures { result ≡ every (wired lio) bytes.now }
 {
-    let mut all = true;
-    let mut n = 0;
-    while n < 8 {
-        let b = bytes[n];
-        all = all & is_wired(lio, b as u32);
-        n += 1;
-    }
-    all
+    bytes.iter().all(|b| is_wired(lio, *b as u32))
 }
 
 // Whether the HT names an input that is not wired.
+#[tactic(auto, unfolding(crate::specs::Inputs::names_unwired))]
 pub fn names_unwired(lio: Lio, ht: Ht) -> bool
     ensures { result ≡ names_unwired lio ht }
 {
-    if ht.present {
-        let bytes = ht.bytes;
-        return !all_wired(lio, bytes);
-    }
-    false
+    ht.present && !all_wired(lio, &ht.bytes)
 }
 
 // ---- pins and slots
@@ -138,6 +109,7 @@ pub fn owns_number(bio: Bio, number: u32) -> bool
 }
 
 // Whether a BIO has an input v, on the hub of a node.
+#[tactic(auto, unfolding(crate::specs::Inputs::has_pin))]
 pub fn has_pin(bio: Bio, node: u8, v: u32) -> bool
     ensures { result ≡ has_pin node v bio }
 {
@@ -153,81 +125,88 @@ pub fn is_bridge(lpc: Lpc, bio: Bio) -> bool
 
 // ---- what each structure claims
 
+// What a structure does not claim is empty.
+const NO_RUN: Run = Run { first: 0, count: 0 };
+
+const NOTHING: Claim = Claim {
+    place: 0,
+    numbers: NO_RUN,
+    vectors: NO_RUN,
+    node: NO_NODE,
+    hub: NO_NODE,
+    low: 0,
+    high: 0,
+};
+
+// A structure that claims something for itself.
+pub trait Claimant: Copy {
+    // what it claims at its place
+    ghost claims: { Self → ℕ → Claim };
+
+    fn claim(self, place: u32) -> Claim
+        ensures { result ≡ claims self place };
+}
+
 // A LIO claims the core vectors of its used halves.
-pub fn lio_claim(lio: Lio, place: u32) -> Claim
-    ensures { result ≡ lio_claim lio place }
-{
-    let low = lio.low;
-    let high = lio.high;
-    let none = Run { first: 0, count: 0 };
-    Claim {
-        place,
-        numbers: none,
-        vectors: none,
-        node: NO_NODE,
-        hub: NO_NODE,
-        low: low.cascade,
-        high: high.cascade,
+impl Claimant for Lio {
+    ghost claims = { lio_claim };
+
+    fn claim(self, place: u32) -> Claim {
+        Claim {
+            place,
+            low: self.low.cascade,
+            high: self.high.cascade,
+            ..NOTHING
+        }
     }
 }
 
 // An EIO claims its node and its core vector, and none of its extended vectors: those are its sources'.
-pub fn eio_claim(eio: Eio, place: u32) -> Claim
-    ensures { result ≡ eio_claim eio place }
-{
-    let numbers = Run { first: 0, count: 0 };
-    let vectors = Run { first: 0, count: 0 };
-    Claim {
-        place,
-        numbers,
-        vectors,
-        node: eio.node as u16,
-        hub: NO_NODE,
-        low: eio.cascade,
-        high: 0,
+impl Claimant for Eio {
+    ghost claims = { eio_claim };
+
+    fn claim(self, place: u32) -> Claim {
+        Claim {
+            place,
+            node: self.node as u16,
+            low: self.cascade,
+            ..NOTHING
+        }
     }
 }
 
 // A BIO claims the global numbers of its inputs, and their vectors of the hub of its node.
-pub fn bio_claim(bio: Bio, place: u32) -> Claim
-    ensures { result ≡ bio_claim bio place }
-{
-    let pins = bio.pins as u32;
-    let numbers = Run {
-        first: bio.base as u32,
-        count: pins,
-    };
-    let vectors = Run {
-        first: 0,
-        count: pins,
-    };
-    Claim {
-        place,
-        numbers,
-        vectors,
-        node: NO_NODE,
-        hub: bio.node,
-        low: 0,
-        high: 0,
+impl Claimant for Bio {
+    ghost claims = { bio_claim };
+
+    fn claim(self, place: u32) -> Claim {
+        let count = self.pins as u32;
+        Claim {
+            place,
+            numbers: Run {
+                first: self.base as u32,
+                count,
+            },
+            vectors: Run { first: 0, count },
+            hub: self.node,
+            ..NOTHING
+        }
     }
 }
 
 // An MSI claims its slots, as vectors of every hub.
-pub fn msi_claim(msi: Msi, place: u32) -> Claim
-    ensures { result ≡ msi_claim msi place }
-{
-    let none = Run { first: 0, count: 0 };
-    let vectors = Run {
-        first: msi.start,
-        count: msi.count,
-    };
-    Claim {
-        place,
-        numbers: none,
-        vectors,
-        node: NO_NODE,
-        hub: EVERY_HUB,
-        low: 0,
-        high: 0,
+impl Claimant for Msi {
+    ghost claims = { msi_claim };
+
+    fn claim(self, place: u32) -> Claim {
+        Claim {
+            place,
+            vectors: Run {
+                first: self.start,
+                count: self.count,
+            },
+            hub: EVERY_HUB,
+            ..NOTHING
+        }
     }
 }

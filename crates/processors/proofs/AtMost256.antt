@@ -2,11 +2,11 @@
 use mathlib.Core.Path.{◌≡◌}
 use mathlib.Core.List.{List}
 use Prim.Native.Nat.{ℕ, ◌≤◌}
-use Rattle.words.specs.declared.Verdict.TheVariants.{Sound}
 use Rattle.madt.specs.Walk.{walked}
 use Rattle.madt.proofs.Accepted.{rules_sound, few_enabled}
 use Rattle.processors.specs.Listing.{count}
+use Rattle.std.specs.Prelude.{Ok}
 
-pub at_most_256 : (table : List ℕ) (base sci : ℕ) (pins : ℕ → ℕ) → (walked table base sci pins).verdict ≡ Sound → count table ≤ 256
+pub at_most_256 : (table : List ℕ) (base sci : ℕ) (pins : ℕ → ℕ) → (walked table base sci pins).verdict ≡ Ok tt → count table ≤ 256
 unfolding count
 at_most_256 table base sci pins h = few_enabled table base (rules_sound table base sci pins h)

@@ -6,34 +6,15 @@ use Prim.Native.Nat.{ℕ, zero, suc, ◌+◌, ◌*◌}
 use native.Mathlib.Omega.{arith}
 use borrow.Author.Tests.{le-leb, lt-leb, leb-true, leb-false}
 use lib.Dec.{leb}
-use lib.ListN.{length, drop, set}
+use lib.ListN.{length, drop}
 use lib.Seq.{sets}
 use Rattle.words.specs.Choice.{if}
 use Rattle.processors.specs.Image.{four_bytes, image}
 use Rattle.words.proofs.Rooms.{sets_append}
 use Rattle.words.specs.Rooms.{has_room, written, filled}
 use Rattle.processors.specs.Listing.{processors, count}
-use Rattle.processors.proofs.Filling.{Spelling, twice_all}
-
--- four stores in a row
-pub four_stores : (list : List ℕ) (n a b c d : ℕ)
-    → set (set (set (set list n a) (n + 1) b) (n + 2) c) (n + 3) d ≡ sets list n (a ∷ b ∷ c ∷ d ∷ [])
-four_stores list n a b c d =
-    let one : n + 1 ≡ suc n = omega arith in
-    let two : n + 2 ≡ suc (suc n) = omega arith in
-    let three : n + 3 ≡ suc (suc (suc n)) = omega arith in
-    rw (one, two, three)
-
--- the bytes of lists behind each other
-joined : (xs ys : List ℕ) → image (xs ++ ys) ≡ image xs ++ image ys
-unfolding image four_bytes
-joined [] ys = refl
-joined (x ∷ xs) ys = rw (joined xs ys)
-
--- eight bytes for each processor
-pub in_bytes : Spelling image 8
-unfolding image four_bytes
-in_bytes = record { none = refl; joined = joined; each = λ p. refl }
+use Rattle.processors.specs.Spelling.{in_bytes}
+use Rattle.processors.proofs.Filling.{twice_all}
 
 pub four_length : (x : ℕ) → length (four_bytes x) ≡ 4
 unfolding four_bytes
@@ -69,7 +50,7 @@ drop-image (suc n) (x ∷ xs) = let e : 4 * suc n ≡ suc (suc (suc (suc (4 * n)
 pub written-image : (entries list : List ℕ) → written (image entries) (image list) ≡ image (written entries list)
 unfolding written
 written-image entries list =
-    rw (image-length entries, drop-image (length entries) list) (sym (joined entries (drop (length entries) list)))
+    rw (image-length entries, drop-image (length entries) list) (sym (in_bytes.joined entries (drop (length entries) list)))
 
 leb_four : (a b : ℕ) → leb (4 * a) (4 * b) ≡ leb a b
 leb_four a b = go (leb a b) refl

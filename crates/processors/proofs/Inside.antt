@@ -2,6 +2,8 @@
 use mathlib.Core.Path.{◌≡◌, refl, ◌∙◌}
 use mathlib.Core.List.{List, [], ◌∷◌}
 use Prim.Native.Nat.{ℕ, zero, suc, ◌+◌, ◌<◌}
+use Rattle.std.proofs.Common.{Some, None}
+use Rattle.std.proofs.lemmas.Option.{none-some, same_Some}
 use native.Mathlib.Nat.{zero-add}
 use native.Mathlib.Omega.{arith}
 use lib.ListN.{length}
@@ -18,14 +20,6 @@ use Rattle.madt.proofs.Pieces.{step_inside}
 use Rattle.madt.specs.Contents.{enabled_cores}
 use Rattle.processors.specs.Listing.{cores_of, listed}
 use Rattle.processors.specs.Repeats.{first_repeating, offset_of, first_repeat}
-use Rattle.processors.specs.declared.Repeat.{Repeat}
-use Rattle.processors.specs.declared.Repeat.TheVariants.{At, Nowhere}
-
-pub not_at : {at : ℕ} → ◌≡◌ {A = Repeat} Nowhere (At at) → ⊥
-not_at e = let o : ◌≡◌ {A = ℕ} 0 1 = cc in omega arith
-
-pub same_at : {a b : ℕ} → ◌≡◌ {A = Repeat} (At a) (At b) → a ≡ b
-same_at e = cc
 
 -- each of some structures begins before the table's end
 abbrev AllInside : List ℕ → List Whole → Type 0
@@ -57,10 +51,10 @@ cores_inside : (table : List ℕ) → AllInside table (cores_of table)
 unfolding pieces
 cores_inside table = cores_from (length table) table 44
 
-pub repeat_inside : (table : List ℕ) (at : ℕ) → first_repeat table ≡ At at → at < length table
+pub repeat_inside : (table : List ℕ) (at : ℕ) → first_repeat table ≡ Some at → at < length table
 unfolding first_repeat first_repeating numbers_below
 repeat_inside table at h =
     let cores = cores_of table in
-    let hit = search_found _ _ Nowhere (At at) 0 (length (listed cores)) (length cores) (zero-add _ ∙ length-map _ cores) h not_at in
-    let same = same_at hit.told in
+    let hit = search_found _ _ None (Some at) 0 (length (listed cores)) (length cores) (zero-add _ ∙ length-map _ cores) h (none-some at) in
+    let same = same_Some _ _ hit.told in
     rw (← same) (cores_inside table hit.at hit.counted)

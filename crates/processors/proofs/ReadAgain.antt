@@ -8,7 +8,6 @@ use lib.ListN.{length, take, drop, get_or}
 use lib.Seq.{sets-eq, take-append_seam}
 use Rattle.words.specs.Bytes.{part_at}
 use Rattle.words.specs.Refusals.{first_refusal}
-use Rattle.words.specs.declared.Verdict.TheVariants.{Sound}
 use Rattle.words.proofs.Numbers.{number_take, number_drop}
 use Rattle.words.proofs.Those.{length-map}
 use Rattle.kinds.specs.Makers.{core_of}
@@ -21,6 +20,7 @@ use Rattle.madt.proofs.Accepted.{rules_sound, found_is, taken_all, few_enabled, 
 use Rattle.processors.specs.Listing.{cores_of, ids_of, numbers_of, processors, count}
 use Rattle.processors.specs.Repeats.{no_processor, first_repeat}
 use Rattle.processors.specs.Again.{processor_at, processors_at, repeat_at, Standing}
+use Rattle.std.specs.Prelude.{Ok}
 
 -- ---- one CORE
 -- the processor that is read from offset k of some
@@ -40,8 +40,8 @@ all_again table [] = refl
 all_again table (at ∷ offsets) = rw (read_again table at, all_again table offsets)
 
 -- ---- all of them
-module _ (table : List ℕ) (base sci : ℕ) (pins : ℕ → ℕ) (h : (walked table base sci pins).verdict ≡ Sound) where
-  rules_kept : first_refusal (walk_rules table base) ≡ Sound
+module _ (table : List ℕ) (base sci : ℕ) (pins : ℕ → ℕ) (h : (walked table base sci pins).verdict ≡ Ok tt) where
+  rules_kept : first_refusal (walk_rules table base) ≡ Ok tt
   rules_kept = rules_sound table base sci pins h
 
   standing : Standing table (offsets_of (cores_of table))

@@ -1,4 +1,5 @@
 pub mod Listing
 pub mod Image
+pub mod Spelling
 pub mod Repeats
 pub mod Again

@@ -1,15 +1,14 @@
 -- Document 01, "What comes back": "The processor list is lent as 32-bit numbers: UID and physical ID of each enabled CORE, in
 -- table order, and the count; entries past 2 × count stay."
-use Rattle.std.specs.Prelude.{ℕ, List, [], ◌∷◌, map, length}
+use Rattle.std.specs.Prelude.{ℕ, List, [], ◌∷◌, Result, Ok, Err, map, length}
 use Rattle.words.specs.Choice.{if}
 use Rattle.words.specs.Rooms.{has_room}
+use Rattle.words.specs.declared.NoRoom.{NoRoom}
 use Rattle.kinds.specs.Makers.{core_of}
 use Rattle.kinds.specs.declared.makers.Core.{Core}
 use Rattle.madt.specs.Pieces.{Whole, pieces, structures}
 use Rattle.madt.specs.Contents.{enabled_cores}
 use Rattle.processors.specs.declared.Processor.{Processor}
-use Rattle.processors.specs.declared.Filled.{Filled}
-use Rattle.processors.specs.declared.Filled.TheVariants as fillings
 
 -- "each enabled CORE, in table order", of the MADT with some bytes
 abbrev pub cores_of : List ℕ → List Whole
@@ -35,6 +34,6 @@ processors table = numbers_of (listed (cores_of table))
 unfoldable pub count : List ℕ → ℕ
 count table = length (cores_of table)
 
--- what comes of filling a list with the entries of some processors
-unfoldable pub filling : List ℕ → ℕ → List ℕ → Filled
-filling entries processors list = if (has_room entries list) (fillings.Whole processors) fillings.NoRoom
+-- what comes of filling a list with the entries of some processors: how many these are, or that it has no room
+unfoldable pub filling : {A : Type 0} → List A → ℕ → List A → Result ℕ NoRoom
+filling entries processors list = if (has_room entries list) (Ok processors) (Err (record {}))

@@ -1,13 +1,11 @@
 -- Document 01's rule on different UIDs and different physical IDs, which by W-203 of document 02 "binds enabled entries only", and
 -- refusal 39: "CORE repeats an ID of an earlier one"; "the place is the later one's; the first in table order is named".
-use Rattle.std.specs.Prelude.{ℕ, Bool, true, false, ◌||◌, List, eqb, length, get_or, take}
+use Rattle.std.specs.Prelude.{ℕ, Bool, true, false, ◌||◌, List, Option, Some, None, eqb, length, get_or, take}
 use Rattle.words.specs.Lists.{first, numbers_below}
 use Rattle.madt.specs.Pieces.{Whole}
 use Rattle.madt.specs.Contents.{offsets_of}
 use Rattle.processors.specs.Listing.{cores_of, listed}
 use Rattle.processors.specs.declared.Processor.{Processor}
-use Rattle.processors.specs.declared.Repeat.{Repeat}
-use Rattle.processors.specs.declared.Repeat.TheVariants.{At, Nowhere}
 
 -- ---- of any list of processors
 -- two of them share an ID: UIDs are compared with UIDs, physical IDs with physical IDs
@@ -35,8 +33,8 @@ first_repeating told none list = first (repeats_id list) told none (numbers_belo
 abbrev pub offset_of : List Whole → ℕ → ℕ
 offset_of structures k = get_or (offsets_of structures) k 0
 
--- the offset of the first enabled CORE of the MADT with some bytes that shares an ID with an earlier enabled one
-unfoldable pub first_repeat : List ℕ → Repeat
+-- the offset of the first enabled CORE of the MADT with some bytes that shares an ID with an earlier enabled one, if there is one
+unfoldable pub first_repeat : List ℕ → Option ℕ
 first_repeat table =
     let cores = cores_of table in
-    first_repeating (λ k. At (offset_of cores k)) Nowhere (listed cores)
+    first_repeating (λ k. Some (offset_of cores k)) None (listed cores)

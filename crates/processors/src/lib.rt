@@ -8,6 +8,7 @@ ghost use Rattle.processors.specs.Again.{processor_at};
 
 use madt::Offsets;
 
+mod entries; // the one way that either list is filled
 pub mod bytes; // the same list as bytes, for the C entry
 pub mod list; // UID and physical ID of each enabled CORE
 pub mod repeats; // 39: an enabled CORE that repeats an ID of an earlier one
@@ -17,20 +18,6 @@ pub mod repeats; // 39: an enabled CORE that repeats an ID of an earlier one
 pub struct Processor {
     pub uid: u32,
     pub id: u32,
-}
-
-// What came of filling a list: the number of processors written, or that it had no room.
-#[derive(Clone, Copy)]
-pub enum Filled {
-    Whole(usize),
-    NoRoom,
-}
-
-// The offset of the first enabled CORE that repeats an ID of an earlier enabled one, if there is such a CORE.
-#[derive(Clone, Copy)]
-pub enum Repeat {
-    At(u16),
-    Nowhere,
 }
 
 // Where a CORE says its UID; its physical ID stands behind it.
@@ -43,26 +30,16 @@ const ABOVE: u64 = 4294967296;
 pub(crate) fn processor_at(table: &[u8], at: u16) -> Processor
     ensures { result ≡ processor_at table.now at }
 {
-    let ids = words::u64_at(table, at as usize + IDS);
+    let ids = words::u64_at(table, usize::from(at) + IDS);
     Processor {
         uid: (ids % ABOVE) as u32,
         id: (ids / ABOVE) as u32,
     }
 }
 
-// The first of some offsets, or as many of them as there are.
-fn front(offsets: &[u16], count: usize) -> &[u16]
-    ensures { result.now ≡ take count offsets.now }
-{
-    if offsets.len() < count {
-        return offsets;
-    }
-    &offsets[0..count]
-}
-
-// Those that are noted in the front of a room.
+// Those that are noted in the front of a room, or all of it where there are fewer.
 pub fn noted(room: &Offsets, count: usize) -> &[u16]
     ensures { result.now ≡ take count room.now }
 {
-    front(room, count)
+    &room[..count.min(room.len())]
 }

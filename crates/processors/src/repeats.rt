@@ -4,7 +4,7 @@ ghost use Rattle.std.specs.Prelude.{◌≡◌, ◌⊎◌, ◌<◌, ◌≤◌};
 ghost use Rattle.processors.specs.Repeats.{share_id};
 ghost use Rattle.processors.specs.Again.{repeat_at};
 
-use crate::{Processor, Repeat};
+use crate::Processor;
 
 // Every UID and every physical ID so far is below these.
 #[derive(Clone, Copy)]
@@ -20,59 +20,45 @@ fn share_id(processor: Processor, other: Processor) -> bool
     (processor.uid == other.uid) | (processor.id == other.id)
 }
 
-// A number above another, and above a bound that stays if it is the higher one.
-fn raised(bound: u64, id: u32) -> u64
-    ensures { (id < result) × (bound ≤ result) }
-{
-    if bound <= id as u64 {
-        return id as u64 + 1;
+impl Seen {
+    // One processor more was seen.
+    fn with(self, processor: Processor) -> Seen
+        ensures { (processor.uid < result.uids) × (processor.id < result.ids) × (self.uids ≤ result.uids) × (self.ids ≤ result.ids) }
+    {
+        Seen {
+            uids: self.uids.max(u64::from(processor.uid) + 1),
+            ids: self.ids.max(u64::from(processor.id) + 1),
+        }
     }
-    bound
-}
 
-// One processor more was seen.
-fn seen_with(seen: Seen, processor: Processor) -> Seen
-    ensures { (processor.uid < result.uids) × (processor.id < result.ids) × (seen.uids ≤ result.uids) × (seen.ids ≤ result.ids) }
-{
-    let uids = raised(seen.uids, processor.uid);
-    let ids = raised(seen.ids, processor.id);
-    Seen { uids, ids }
-}
-
-// Where to begin to look for an earlier one that shares an ID: at the first, or, if the processor is above all that were seen,
-// at itself, which ends the search.
-fn search_from(seen: Seen, processor: Processor, later: usize) -> usize
-    ensures { (result ≡ 0) ⊎ ((result ≡ later) × (seen.uids ≤ processor.uid) × (seen.ids ≤ processor.id)) }
-{
-    if seen.uids <= processor.uid as u64 {
-        if seen.ids <= processor.id as u64 {
+    // Where to begin to look for an earlier one that shares an ID: at the first, or, if the processor is above all that were seen,
+    // at itself, which ends the search.
+    fn search_from(self, processor: Processor, later: usize) -> usize
+        ensures { (result ≡ 0) ⊎ ((result ≡ later) × (self.uids ≤ processor.uid) × (self.ids ≤ processor.id)) }
+    {
+        if self.uids <= u64::from(processor.uid) && self.ids <= u64::from(processor.id) {
             return later;
         }
+        0
     }
-    0
 }
 
-// Where in the table it stands, if the enabled CORE stand at some offsets.
-pub fn first_repeat(table: &[u8], offsets: &[u16]) -> Repeat
+// Where in the table it stands, if the enabled CORE stand at some offsets. Document 01 asks for this form: nested loops, left by a
+// label at the first repeated ID.
+pub fn first_repeat(table: &[u8], offsets: &[u16]) -> Option<u16>
     ensures { result ≡ repeat_at table.now offsets.now }
 {
-    let mut repeat = Repeat::Nowhere;
+    let mut repeat = None;
     let mut seen = Seen { uids: 0, ids: 0 };
-    let mut later: usize = 0;
-    'cores: while later < offsets.len() {
-        let at = offsets[later];
-        let processor = crate::processor_at(table, at);
-        let mut earlier = search_from(seen, processor, later);
-        while earlier < later {
-            let before = offsets[earlier];
-            if share_id(processor, crate::processor_at(table, before)) {
-                repeat = Repeat::At(at);
+    'cores: for (later, at) in offsets.iter().enumerate() {
+        let processor = crate::processor_at(table, *at);
+        for before in &offsets[seen.search_from(processor, later)..later] {
+            if share_id(processor, crate::processor_at(table, *before)) {
+                repeat = Some(*at);
                 break 'cores;
             }
-            earlier += 1;
         }
-        seen = seen_with(seen, processor);
-        later += 1;
+        seen = seen.with(processor);
     }
     repeat
 }

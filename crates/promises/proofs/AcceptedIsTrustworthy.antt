@@ -2,9 +2,10 @@
 -- names the one source that arrives. "Take any accepted capture, and as sources its wired processor lines, bridge pins and
 -- message slots."
 use Prim.Native.Nat.{ℕ}
-use mathlib.Core.Path.{◌≡◌, refl, ◌∙◌}
+use mathlib.Core.Path.{◌≡◌, refl, ap, ◌∙◌}
 use mathlib.Core.List.{List, ◌∷◌}
 use mathlib.Core.Bool.{true, false, not, ◌&&◌, true≢false}
+use Rattle.std.specs.Prelude.{Ok}
 use Rattle.words.specs.Refusals.{rule, is_sound}
 use Rattle.words.proofs.Choices.{yes_if}
 use Rattle.words.proofs.Verdicts.{is_sound_lem, rule_kept, each_sound}
@@ -16,7 +17,7 @@ use Rattle.lines.specs.Routes.{arrival}
 use Rattle.lines.specs.Rules.{ranges_kept, too_many, both_kinds, lost, rules_to_45, rules_from_51, map_rules, first_broken, keeps_rules, slot_places}
 use Rattle.lines.specs.Answers.{route_of}
 use Rattle.lines.specs.declared.Route.{Route}
-use Rattle.lines.specs.declared.Route.TheVariants.{Arrives, Unwired, NoOwner, Refused as NoRoute}
+use Rattle.lines.specs.declared.Route.TheVariants.{Arrives, Unwired, NoOwner}
 use Rattle.lines.specs.declared.Map.{Map}
 use Rattle.map_promises.specs.Walks.{Normal}
 use Rattle.map_promises.proofs.NoTwoAlike.{no_two_alike}
@@ -36,9 +37,8 @@ unfolding lost
 not-lost (Arrives vector number) h = (vector, number, refl)
 not-lost Unwired h = absurd (true≢false h)
 not-lost NoOwner h = absurd (true≢false h)
-not-lost (NoRoute r) h = absurd (true≢false h)
 
-sci_arrives : (map : Map) → keeps_rules map ≡ true → (vector : ℕ) × (number : ℕ) × (route_of map map.sci ≡ Arrives vector number)
+sci_arrives : (map : Map) → keeps_rules map ≡ true → (vector : ℕ) × (number : ℕ) × (route_of map map.sci ≡ Ok (Arrives vector number))
 unfolding keeps_rules first_broken map_rules rules_to_45 rules_from_51 route_of
 sci_arrives map k =
     let said = says map in
@@ -47,7 +47,7 @@ sci_arrives map k =
     let lost_sci = lost (arrival said said.sci) in
     let r54 = each_sound (rule (too_many map) 38 0 ∷ map_rules said slot_places 0 0) first 10 in
     let w = not-lost (arrival said said.sci) (rule_kept lost_sci 54 0 r54) in
-    (w.0, w.1, yes_if _ _ _ k ∙ w.2)
+    (w.0, w.1, yes_if _ _ _ k ∙ ap Ok w.2)
 
 trustworthy : (map : Map) → keeps_rules map ≡ true → Normal map → Trustworthy map
 trustworthy map k n =

@@ -10,7 +10,6 @@ use lib.ListN.{length}
 use Rattle.words.specs.Choice.{if}
 use Rattle.words.specs.Lists.{numbers_below}
 use Rattle.words.specs.Refusals.{refused, first_refusal}
-use Rattle.words.specs.declared.Verdict.TheVariants.{Sound, Refused}
 use Rattle.words.proofs.Tests.{neither_left}
 use Rattle.capture.specs.Fields.{version, segment_count, total_length, header_size, descriptor, descriptors_end, segments, lengths}
 use Rattle.capture.specs.Rules.{wrong_size, wrong_total, segment_broken, segment_rules, container_rules, verdict}
@@ -20,6 +19,7 @@ use Rattle.capture.proofs.Laws.{header_bounds, segments-first}
 use Rattle.capture.proofs.Pins.{empty_kept, pairs_first}
 use Rattle.capture.proofs.Within.{sound_length}
 use Rattle.promises.proofs.Told.{is_of_capture, is_of_tables, Told, tell, tell_none, none_told, rule_told, joined-told, search_told}
+use Rattle.std.specs.Prelude.{Ok, Err}
 
 -- where 5 is kept, the descriptors are inside the capture
 descriptors_inside : (capture : List ℕ) → wrong_total capture ≡ false → descriptors_end capture ≤ length capture
@@ -43,7 +43,7 @@ segments-told : (capture : List ℕ) → wrong_total capture ≡ false → Told 
 unfolding segments numbers_below descriptors_end descriptor
 segments-told capture h =
     rw (segments-first capture)
-    (search_told (Told is_of_capture capture) (segment_broken capture) (λ (i : ℕ). Refused (refused 6 (descriptor capture i))) Sound 0 (segment_count capture)
+    (search_told (Told is_of_capture capture) (segment_broken capture) (λ (i : ℕ). Err (refused 6 (descriptor capture i))) (Ok tt) 0 (segment_count capture)
     (λ i l below t. tell is_of_capture capture 6 (descriptor capture i) (refl, refl, refl, refl)
     (omega (arith, (header_bounds (version capture)).0), omega (arith, descriptors_inside capture h)))
     (omega arith))
@@ -57,7 +57,7 @@ pairs_told capture h = go (eqb (version capture) 2) refl
     go false other = rw (empty_kept capture other) (omega arith)
     go true two =
         rw (pairs_first capture)
-        (search_told (Told is_of_capture capture) (pair_broken (pairs_of capture)) (λ (k : ℕ). Refused (refused 7 (pair_place k))) Sound 0 4
+        (search_told (Told is_of_capture capture) (pair_broken (pairs_of capture)) (λ (k : ℕ). Err (refused 7 (pair_place k))) (Ok tt) 0 4
         (λ k l below t. tell is_of_capture capture 7 (pair_place k) (refl, refl, refl, refl) (omega arith, omega (arith, long_head capture h two)))
         (omega arith))
 
@@ -73,7 +73,7 @@ container_told capture =
     (λ t. joined-told is_of_capture capture (segment_rules capture) (pair_rules capture) (segments-told capture t) (λ sound. pairs_told capture long))))))
 
 -- 10
-pub presence_told : (capture : List ℕ) → verdict capture ≡ Sound → Told is_of_tables capture (first_refusal (presence_rules capture))
+pub presence_told : (capture : List ℕ) → verdict capture ≡ Ok tt → Told is_of_tables capture (first_refusal (presence_rules capture))
 unfolding presence_rules descriptors_end descriptor
 presence_told capture sound =
     rule_told is_of_tables capture _ 10 10 _ (tell is_of_tables capture 10 10 (refl, refl, refl, refl) (omega arith, omega (arith, sound_length capture sound, (header_bounds (version capture)).0))) (λ t. none_told is_of_tables capture)

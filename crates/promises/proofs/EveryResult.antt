@@ -1,7 +1,7 @@
 -- Every result that the contract of a public call allows is an answer, or a refusal of the table that leaves what was lent.
 use Prim.Native.Nat.{ℕ, zero, suc, ◌^◌, ◌<◌}
 use native.Mathlib.Omega.{arith}
-use mathlib.Core.Path.{◌≡◌, refl, sym, ◌∙◌, ap}
+use mathlib.Core.Path.{◌≡◌, refl, sym, ◌∙◌, ap, subst}
 use mathlib.Core.Logic.{inl, inr, ⊎_elim}
 use mathlib.Core.List.{List}
 use mathlib.Core.Bool.{true, false, true≢false}
@@ -9,7 +9,6 @@ use borrow.Author.Tests.{leb-false}
 use lib.ListN.{length}
 use Rattle.words.specs.Refusals.{refused}
 use Rattle.words.specs.declared.Refusal.{Refusal}
-use Rattle.words.specs.declared.Verdict.TheVariants as verdicts
 use Rattle.words.proofs.Choices.{no_if, if_cases}
 use Rattle.words.proofs.Verdicts.{unless-refused, unless_sound}
 use Rattle.tables.specs.declared.Strictness.{Strictness}
@@ -27,28 +26,27 @@ use Rattle.map_promises.proofs.Owners.{refused-filling}
 use Rattle.owners.specs.declared.Filling.{Filling}
 use Rattle.reading.specs.Scan.{empty_map, turned_down, scan}
 use Rattle.reading.specs.Reading.{without_map, madt_found, reading_of, list_after}
-use Rattle.reading.specs.declared.Answer.TheVariants as answers
 use Rattle.reading.specs.declared.Reading.{Reading}
 use Rattle.reading.specs.declared.Scan.{Scan}
-use Rattle.reading.proofs.AcceptedKeepsRules.{accepted_keeps_rules}
+use Rattle.reading.proofs.AcceptedKeepsRules.{accepted_keeps_rules, accepted_route, accepted_trace}
 use Rattle.reading.proofs.Laws.{answered_60}
 use Rattle.reading.proofs.Scanned.{scan-verdict}
 use Rattle.text.specs.Text.{outcome}
-use Rattle.text.specs.declared.Written.{Written}
-use Rattle.text.specs.declared.Written.TheVariants.{Whole, NoRoom}
+use Rattle.words.specs.declared.NoRoom.{NoRoom}
 use Rattle.promises.specs.RefusalTable.{is_refusal_number, OfTheTable}
 use Rattle.promises.specs.EveryResult.{OfTheList, RefusalBut, ScanRefuses, ReadRefuses, CReadRefuses, CRouteRefuses, CTraceRefuses, NoRoomLeaves, MapRouteRefuses, MapTraceRefuses, MapRouteEachRefuses, FillRefuses, LookUpRefuses}
 use Rattle.promises.proofs.EveryRefusal.{of_scan, not_60, reading_refusals, refused_leaves_list, route_refusals, trace_refusals, map_refusals}
 use Rattle.promises.proofs.ReadForC.{c_reading}
 use Rattle.promises.proofs.Told.{tell_none}
 use Rattle.promises.proofs.WhyRefused.{why_refused}
+use Rattle.std.specs.Prelude.{Result, Ok, Err}
 
 -- ---- no map beside a refusal
-of_scan_no_map : (strictness : Strictness) (capture : List ℕ) (r : Refusal) → (scan strictness capture).verdict ≡ verdicts.Refused r → (scan strictness capture).map ≡ empty_map
+of_scan_no_map : (strictness : Strictness) (capture : List ℕ) (r : Refusal) → (scan strictness capture).verdict ≡ Err r → (scan strictness capture).map ≡ empty_map
 unfolding scan turned_down
 of_scan_no_map strictness capture r h = ap (λ (s : Scan). s.map) (unless-refused turned_down _ _ (sym (scan-verdict strictness capture) ∙ h))
 
-of_read_no_map : (strictness : Strictness) (capture list : List ℕ) (r : Refusal) → (reading_of strictness capture list).answer ≡ answers.Refused r → (reading_of strictness capture list).map ≡ empty_map
+of_read_no_map : (strictness : Strictness) (capture list : List ℕ) (r : Refusal) → (reading_of strictness capture list).answer ≡ Err r → (reading_of strictness capture list).map ≡ empty_map
 unfolding reading_of without_map madt_found
 of_read_no_map strictness capture list r h =
     ⊎_elim
@@ -66,30 +64,28 @@ coded : (Never : Refusal → Type 0) (capture : List ℕ) (result : ℕ) (r : Re
 coded Never capture result r e o never = (omega (arith, e, above_0 r.number o.number), (r, e, o, never))
 
 -- ---- an answer's is not
-route_below : (t : Route) → RouteFits t → ((r : Refusal) → t ≡ routes.Refused r → ⊥) → route_code t < 2 ^ 48
+route_below : (t : Route) → RouteFits (Ok t) → route_code (Ok t) < 2 ^ 48
 unfolding route_code in_numbers
-route_below (routes.Arrives vector number) fits never = omega (arith, fits.0, fits.1)
-route_below routes.Unwired fits never = omega arith
-route_below routes.NoOwner fits never = omega arith
-route_below (routes.Refused r) fits never = absurd (never r refl)
+route_below (routes.Arrives vector number) fits = omega (arith, fits.0, fits.1)
+route_below routes.Unwired fits = omega arith
+route_below routes.NoOwner fits = omega arith
 
-trace_below : (t : Trace) → TraceFits t → ((r : Refusal) → t ≡ traces.Refused r → ⊥) → trace_code t < 2 ^ 48
+trace_below : (t : Trace) → TraceFits (Ok t) → trace_code (Ok t) < 2 ^ 48
 unfolding trace_code
-trace_below traces.Nothing fits never = omega arith
-trace_below (traces.LioInput n) fits never = omega (arith, fits)
-trace_below (traces.BioInput n) fits never = omega (arith, fits)
-trace_below (traces.LpcCascade n) fits never = omega (arith, fits)
-trace_below (traces.MsiSlot node slot) fits never = omega (arith, fits.0, fits.1)
-trace_below (traces.Refused r) fits never = absurd (never r refl)
+trace_below traces.Nothing fits = omega arith
+trace_below (traces.LioInput n) fits = omega (arith, fits)
+trace_below (traces.BioInput n) fits = omega (arith, fits)
+trace_below (traces.LpcCascade n) fits = omega (arith, fits)
+trace_below (traces.MsiSlot node slot) fits = omega (arith, fits.0, fits.1)
 
 -- ---- a room that is too short
-whole_not : {n : ℕ} {X : Type 0} → ◌≡◌ {A = Written} (Whole n) NoRoom → X
+whole_not : {n : ℕ} {X : Type 0} → ◌≡◌ {A = Result ℕ NoRoom} (Ok n) (Err (record {})) → X
 whole_not e = absurd (let o : ◌≡◌ {A = ℕ} 0 1 = cc in omega arith)
 
-short_room : (text room : List ℕ) → outcome text room ≡ NoRoom → has_room text room ≡ false
+short_room : (text room : List ℕ) → outcome text room ≡ Err (record {}) → has_room text room ≡ false
 unfolding outcome
 short_room text room =
-    if_cases (λ (w : Written). w ≡ NoRoom → has_room text room ≡ false) _ _ _ (λ fits e. whole_not e) (λ short e. short)
+    if_cases (λ (w : Result ℕ NoRoom). w ≡ Err (record {}) → has_room text room ≡ false) _ _ _ (λ fits e. whole_not e) (λ short e. short)
 
 stays : (text room : List ℕ) → has_room text room ≡ false → filled text room ≡ room
 unfolding filled
@@ -107,7 +103,7 @@ scan_refuses κs a q x p r h =
 
 -- of either strictness
 reading_refuses : (strictness : Strictness) (capture list : List ℕ) {reading : Reading} {after : List ℕ} → reading ≡ reading_of strictness capture list
-    → after ≡ list_after strictness capture list → (r : Refusal) → reading.answer ≡ answers.Refused r
+    → after ≡ list_after strictness capture list → (r : Refusal) → reading.answer ≡ Err r
     → OfTheTable capture r × (reading.map ≡ empty_map) × (after ≡ list)
 reading_refuses strictness capture list is left r h =
     let e = sym (ap (λ (s : Reading). s.answer) is) ∙ h in (
@@ -136,16 +132,20 @@ pub c_route_refuses : CRouteRefuses
 c_route_refuses κs a q x p =
     ⊎_elim (λ w. inl (coded OfTheList _ q w.0 (p ∙ w.2) w.3 (not_60 _ _ w.0 w.1)))
     (λ w.
-    let small = route_below _ ((answers_fit _ (accepted_keeps_rules _ _ w.0)).0 _) w.2 in
-    inr (omega (arith, p ∙ w.1, small), (_, p ∙ w.1, w.2)))
+    let told = accepted_route _ _ w.0 _ in
+    let small = route_below _ (subst RouteFits told ((answers_fit _ (accepted_keeps_rules _ _ w.0)).0 _)) in
+    let code = p ∙ w.1 ∙ ap route_code told in
+    inr (omega (arith, code, small), (_, code)))
     (route_refusals _ _)
 
 pub c_trace_refuses : CTraceRefuses
 c_trace_refuses κs a q x p =
     ⊎_elim (λ w. inl (coded OfTheList _ q w.0 (p ∙ w.2) w.3 (not_60 _ _ w.0 w.1)))
     (λ w.
-    let small = trace_below _ ((answers_fit _ (accepted_keeps_rules _ _ w.0)).1 _ _) w.2 in
-    inr (omega (arith, p ∙ w.1, small), (_, p ∙ w.1, w.2)))
+    let told = accepted_trace _ _ w.0 _ _ in
+    let small = trace_below _ (subst TraceFits told ((answers_fit _ (accepted_keeps_rules _ _ w.0)).1 _ _)) in
+    let code = p ∙ w.1 ∙ ap trace_code told in
+    inr (omega (arith, code, small), (_, code)))
     (trace_refusals _ _ _)
 
 pub no_room_leaves : NoRoomLeaves

@@ -7,15 +7,15 @@ use Rattle.reading.specs.declared.Scan.{Scan}
 use Rattle.words.specs.Choice.{if}
 use Rattle.words.specs.Refusals.{unless, first_refusal, is_sound}
 use Rattle.words.specs.Bytes.{number_at, spelled, total, byte_sum}
-use Rattle.words.specs.Lists.{first, every, those, in_each, numbers_from, numbers_below}
+use Rattle.words.specs.Lists.{first, those, in_each, numbers_from, numbers_below}
 use Rattle.capture.specs.Fields.{version, segment_count, total_length, rsdp_address, header_size, descriptor, descriptors_end, segment_address, segment_length, segments, lengths, segment_place}
 use Rattle.capture.specs.Presence.{is_present, place_of, goes_on, run_end, holds, place_in, located, rsdp_stretch, rsdp_place, presence_rules}
-use Rattle.capture.specs.Pairs.{pair_at, pairs_of, tells_of, told_of, pins_of, pair_broken, pair_rules}
+use Rattle.capture.specs.Pairs.{pair_at, pairs_of, tells_of, pins_of, pair_broken, pair_rules}
 use Rattle.capture.specs.Rules.{wrong_size, wrong_mark, wrong_version, wrong_count, wrong_total, empty_segment, ends_past_memory, end_before, starts_early, segment_broken, segment_rules, container_rules}
 use Rattle.tables.specs.Finder.{names, named_from, first_named, named_after, second_named}
 use Rattle.tables.specs.Rsdp.{rsd_ptr, wrong_signature, wrong_revision, wrong_length, wrong_sums, rsdp_rules, xsdt_field}
 use Rattle.tables.specs.Structures.{structure_length, broken_at, step_at}
-use Rattle.tables.specs.Survey.{apic, facp, is_nowhere, earlier, second_rule, name_rules, length_rules, wrong_madt_revision, wrong_flags, madt_field_rules, sci_number, with_sci, table_of_entry, madt_of, fadt_of, tables_from, xsdt_of, tables_of, rules_before_29, survey_rules}
+use Rattle.tables.specs.Survey.{apic, facp, earlier, second_rule, name_rules, length_rules, wrong_madt_revision, wrong_flags, madt_field_rules, sci_number, with_sci, table_of_entry, madt_of, fadt_of, tables_from, xsdt_of, tables_of, rules_before_29, survey_rules}
 use Rattle.tables.specs.Table.{signature, table_length, revision, address_at, header_at, table_named, cut_short, wrong_sum, table_rules}
 use Rattle.tables.specs.Xsdt.{xsdt_signature, not_xsdt, wrong_xsdt_revision, entry_count, wrong_body, xsdt_rules, entry_field, entries, entry_rules}
 use Rattle.tables.specs.declared.Strictness.{Strictness}
@@ -56,7 +56,7 @@ use Rattle.promises.specs.Pairs.{number_of, Gives, HasPins}
 
 -- the scan, with all that it and the answers are computed by
 unfoldable computed : Strictness → List ℕ → Scan
-unfolding if unless first_refusal in_each first every fold number_at spelled total byte_sum numbers_from numbers_below version segment_count total_length rsdp_address header_size descriptor descriptors_end segment_address segment_length segments lengths segment_place is_present place_of goes_on run_end holds place_in located rsdp_stretch rsdp_place presence_rules wrong_size wrong_mark wrong_version wrong_count wrong_total empty_segment ends_past_memory end_before starts_early segment_broken segment_rules pair_at pairs_of tells_of told_of pins_of pair_broken pair_rules container_rules names named_from first_named named_after second_named rsd_ptr wrong_signature wrong_revision wrong_length wrong_sums rsdp_rules xsdt_field structure_length broken_at step_at apic facp is_nowhere earlier second_rule name_rules length_rules wrong_madt_revision wrong_flags madt_field_rules sci_number with_sci table_of_entry madt_of fadt_of tables_from xsdt_of tables_of rules_before_29 survey_rules signature table_length revision address_at header_at table_named cut_short wrong_sum table_rules xsdt_signature not_xsdt wrong_xsdt_revision entry_count wrong_body xsdt_rules entry_field entries entry_rules core_of lio_of ht_of eio_of msi_of bio_of lpc_of lio_field ht_field eio_field msi_field bio_field lpc_field used_half said_lio said_ht said_lpc clash sooner nearer partner better first_clash lonelier first_lone has_bit core_vector is_named names_unwired has_pin route_of trace_of placed claims hubs_of nodes_of lio_arrival through bio_owner owner arrival_of arrival at_later at_both spotted eios_fit bios_fit msis_fit ranges_kept no_bridge no_input lost rules_to_45 rules_from_51 map_rules first_broken is_sound keeps_rules slot_told is_lpc_pin pin_told landed comes_by hub_traced led_by_lio traced piece_at pieces_from pieces structures those is_type is_known length_of wrong_structure_length wrong_structure_version reserved_flags wrong_cascade wrong_node wrong_nodes no_slots wrong_end wrong_base wrong_input wrong_byte shared_bit one_too_many structure_rules of_type made standing the_one bridge_of map_of places_of found_in rules_in_turn gives_both kind_rules walk_rules turned_away walked is_enabled_core enabled_cores numbers_of processors count has_room written filled shares_with_one repeats_id first_repeating first_repeat without_map answered madt_found reading_of list_after madt_bytes empty_map turned_down repeat_rule processor_rule madt_rules line_rules rules_before_51 all_rules accepted scan
+unfolding if unless first_refusal in_each first fold number_at spelled total byte_sum numbers_from numbers_below version segment_count total_length rsdp_address header_size descriptor descriptors_end segment_address segment_length segments lengths segment_place is_present place_of goes_on run_end holds place_in located rsdp_stretch rsdp_place presence_rules wrong_size wrong_mark wrong_version wrong_count wrong_total empty_segment ends_past_memory end_before starts_early segment_broken segment_rules pair_at pairs_of tells_of pins_of pair_broken pair_rules container_rules names named_from first_named named_after second_named rsd_ptr wrong_signature wrong_revision wrong_length wrong_sums rsdp_rules xsdt_field structure_length broken_at step_at apic facp earlier second_rule name_rules length_rules wrong_madt_revision wrong_flags madt_field_rules sci_number with_sci table_of_entry madt_of fadt_of tables_from xsdt_of tables_of rules_before_29 survey_rules signature table_length revision address_at header_at table_named cut_short wrong_sum table_rules xsdt_signature not_xsdt wrong_xsdt_revision entry_count wrong_body xsdt_rules entry_field entries entry_rules core_of lio_of ht_of eio_of msi_of bio_of lpc_of lio_field ht_field eio_field msi_field bio_field lpc_field used_half said_lio said_ht said_lpc clash sooner nearer partner better first_clash lonelier first_lone has_bit core_vector is_named names_unwired has_pin route_of trace_of placed claims hubs_of nodes_of lio_arrival through bio_owner owner arrival_of arrival at_later at_both spotted eios_fit bios_fit msis_fit ranges_kept no_bridge no_input lost rules_to_45 rules_from_51 map_rules first_broken is_sound keeps_rules slot_told is_lpc_pin pin_told landed comes_by hub_traced led_by_lio traced piece_at pieces_from pieces structures those is_type is_known length_of wrong_structure_length wrong_structure_version reserved_flags wrong_cascade wrong_node wrong_nodes no_slots wrong_end wrong_base wrong_input wrong_byte shared_bit one_too_many structure_rules of_type made standing the_one bridge_of map_of places_of found_in rules_in_turn gives_both kind_rules walk_rules turned_away walked is_enabled_core enabled_cores numbers_of processors count has_room written filled shares_with_one repeats_id first_repeating first_repeat without_map answered madt_found reading_of list_after madt_bytes empty_map turned_down repeat_rule processor_rule madt_rules line_rules rules_before_51 all_rules accepted scan
 computed strictness capture = scan strictness capture
 
 -- THE PROMISES

@@ -13,10 +13,6 @@ use Rattle.clashes.specs.Rules.{lone}
 use Rattle.clashes.specs.Search.{sooner, first_clash, lonelier, first_lone}
 use Rattle.clashes.specs.Told.{at_later, at_both, spotted}
 use Rattle.clashes.specs.declared.Claim.{Claim}
-use Rattle.clashes.specs.declared.Spot.{Spot}
-use Rattle.clashes.specs.declared.Spot.TheVariants.{At, Nowhere}
-use Rattle.clashes.specs.declared.Pair.{Pair}
-use Rattle.clashes.specs.declared.Pair.TheVariants.{Two, None}
 use Rattle.lines.specs.Says.{Said, says}
 use Rattle.lines.specs.Hubs.{hubs, nodes}
 use Rattle.lines.specs.Claims.{claims}
@@ -24,7 +20,6 @@ use Rattle.lines.specs.Rules.{rule40, rules_to_45, rules_from_51, map_rules}
 use Rattle.lines.specs.declared.Map.{Map}
 use Rattle.lines.specs.declared.Places.{Places}
 use Rattle.words.specs.Refusals.{rule, first_refusal}
-use Rattle.words.specs.declared.Verdict.TheVariants.{Sound}
 use Rattle.words.proofs.Choices.{if_cases}
 use Rattle.words.proofs.Tests.{neither_left}
 use Rattle.words.proofs.Verdicts.{rule_kept}
@@ -35,6 +30,7 @@ use Rattle.map_promises.proofs.Meetings.{of_member}
 use Rattle.map_promises.proofs.SearchNames.{search_names}
 use Rattle.map_promises.proofs.WalkKeepsBooks.{Standing}
 use Rattle.promises.proofs.Told.{is_from_40, Told, Named, NamedBoth, Inside, tell, tell_both, none_told, more_told, fold-told}
+use Rattle.std.specs.Prelude.{Option, Ok, Some, None}
 
 module _ (capture : List ℕ) where
   -- a rule that is broken at a place inside the capture
@@ -42,42 +38,42 @@ module _ (capture : List ℕ) where
   broken_told n bad place named at = if_cases (Told is_from_40 capture) bad _ _ (λ t. tell is_from_40 capture n place named (at t)) (λ t. omega arith)
 
   -- a search that finds nothing, or names a place inside the capture
-  abbrev SpotTold : Spot → Type 0
-  SpotTold Nowhere = 0 < 1
-  SpotTold (At p) = Inside capture p
+  abbrev SpotTold : Option ℕ → Type 0
+  SpotTold None = 0 < 1
+  SpotTold (Some p) = Inside capture p
 
   -- or two that stand inside it, the second not at 0
-  abbrev PairTold : Pair → Type 0
+  abbrev PairTold : Option (ℕ × ℕ) → Type 0
   PairTold None = 0 < 1
-  PairTold (Two p q) = Inside capture p × (0 < q) × (q < p)
+  PairTold (Some (p, q)) = Inside capture p × (0 < q) × (q < p)
 
-  later_told : (n : ℕ) (c : Pair) → Named is_from_40 n → PairTold c → Told is_from_40 capture (at_later n c)
+  later_told : (n : ℕ) (c : Option (ℕ × ℕ)) → Named is_from_40 n → PairTold c → Told is_from_40 capture (at_later n c)
   unfolding at_later
   later_told n None named at = at
-  later_told n (Two p q) named at = tell is_from_40 capture n p named at.0
+  later_told n (Some (p, q)) named at = tell is_from_40 capture n p named at.0
 
-  both_told : (n : ℕ) (c : Pair) → NamedBoth is_from_40 n → PairTold c → Told is_from_40 capture (at_both n c)
+  both_told : (n : ℕ) (c : Option (ℕ × ℕ)) → NamedBoth is_from_40 n → PairTold c → Told is_from_40 capture (at_both n c)
   unfolding at_both
   both_told n None named at = at
-  both_told n (Two p q) named at = tell_both is_from_40 capture n p q named at.0 at.1 at.2
+  both_told n (Some (p, q)) named at = tell_both is_from_40 capture n p q named at.0 at.1 at.2
 
-  spotted-told : (n : ℕ) (s : Spot) → Named is_from_40 n → SpotTold s → Told is_from_40 capture (spotted n s)
+  spotted-told : (n : ℕ) (s : Option ℕ) → Named is_from_40 n → SpotTold s → Told is_from_40 capture (spotted n s)
   unfolding spotted
-  spotted-told n Nowhere named at = at
-  spotted-told n (At p) named at = tell is_from_40 capture n p named at
+  spotted-told n None named at = at
+  spotted-told n (Some p) named at = tell is_from_40 capture n p named at
 
-  sooner-told : (best : Spot) (p : ℕ) → SpotTold best → Inside capture p → SpotTold (sooner best p)
+  sooner-told : (best : Option ℕ) (p : ℕ) → SpotTold best → Inside capture p → SpotTold (sooner best p)
   unfolding sooner
-  sooner-told Nowhere p b at = at
-  sooner-told (At q) p b at = if_cases SpotTold (ltb p q) _ _ (λ t. at) (λ t. b)
+  sooner-told None p b at = at
+  sooner-told (Some q) p b at = if_cases SpotTold (ltb p q) _ _ (λ t. at) (λ t. b)
 
   -- 41 and 51 to 53: of claims inside the capture
   clash-told : (all : List Claim) → ((x : Claim) → Memᴰ x all → Inside capture x.place) → (rule : ℕ) → PairTold (first_clash rule all)
   clash-told all inside rule = go (first_clash rule all) refl
     where
-      go : (c : Pair) → first_clash rule all ≡ c → PairTold c
+      go : (c : Option (ℕ × ℕ)) → first_clash rule all ≡ c → PairTold c
       go None e = omega arith
-      go (Two p q) e =
+      go (Some (p, q)) e =
           let f = search_names rule all p q e in
           let x = inside f.x f.x_listed in
           let y = inside f.y f.y_listed in
@@ -90,11 +86,11 @@ module _ (capture : List ℕ) where
   lone-told nodes all inside =
       fold-told SpotTold (lonelier nodes) all
       (λ best x m b. if_cases SpotTold (lone nodes x) _ _ (λ t. sooner-told best x.place b (inside x m t)) (λ t. b))
-      Nowhere
+      None
       (omega arith)
 
 -- 40: there is a LIO
-pub lio_there : (said : Said) (madt : ℕ) → rule40 said madt ≡ Sound → said.lio.present ≡ true
+pub lio_there : (said : Said) (madt : ℕ) → rule40 said madt ≡ Ok tt → said.lio.present ≡ true
 lio_there said madt h =
     let absent = not said.lio.present in
     let none = eqb (length (hubs said)) 0 in

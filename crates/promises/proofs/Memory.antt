@@ -15,15 +15,14 @@ use Rattle.words.proofs.Verdicts.{joined_sound}
 use Rattle.capture.specs.Fields.{rsdp_address}
 use Rattle.capture.specs.Rules.{container_rules, verdict}
 use Rattle.capture.specs.Presence.{Stretch, Present, Absent, is_present, place_of, located, rsdp_size, rsdp_stretch, presence_rules, rsdp_place, rsdp}
-use Rattle.capture.specs.declared.Root.TheVariants as roots
 use Rattle.capture.proofs.Within.{Sound, present_at}
 use Rattle.capture.proofs.Apart.{bytes_in_order, first_byte, one_byte, one_place}
 use Rattle.capture.proofs.Memory.{absent_misses, present_exactly}
 use Rattle.tables.specs.Table.{header_size, address_at, header_at, table_length, table_named, cut_short, wrong_sum, table_rules, table_at}
 use Rattle.tables.specs.declared.Table.{Table}
-use Rattle.tables.specs.declared.Checked.TheVariants.{Is, Refused}
 use Rattle.tables.proofs.Laws.{table_kept, table_told, table_is}
 use Rattle.promises.specs.Memory.{Lacks, TenExactly, TwentyExactly, CutShort, TwentyOneExactly, TablesAreMemory}
+use Rattle.std.specs.Prelude.{Ok, Err}
 
 module _ (capture : List ℕ) (sound : Sound capture) where
   -- a stretch that lacks a byte is absent
@@ -37,41 +36,41 @@ module _ (capture : List ℕ) (sound : Sound capture) where
           absurd (true≢false (sym s.has ∙ l.2 s.segment s.counted))
 
   -- ---- 10
-  ten_absent : located capture (rsdp_address capture) rsdp_size ≡ Absent → rsdp capture ≡ roots.Refused (refused 10 10)
+  ten_absent : located capture (rsdp_address capture) rsdp_size ≡ Absent → rsdp capture ≡ Err (refused 10 10)
   unfolding rsdp verdict presence_rules rsdp_stretch is_present first_refusal unless if
   ten_absent h = joined_sound _ (container_rules capture) _ _ sound ∙ rw h
 
-  ten_present : (place : ℕ) → located capture (rsdp_address capture) rsdp_size ≡ Present place → rsdp capture ≡ roots.At place
+  ten_present : (place : ℕ) → located capture (rsdp_address capture) rsdp_size ≡ Present place → rsdp capture ≡ Ok place
   unfolding rsdp verdict presence_rules rsdp_place rsdp_stretch is_present place_of first_refusal unless if
   ten_present place h = joined_sound _ (container_rules capture) _ _ sound ∙ rw h
 
   pub ten_exactly : TenExactly capture
   ten_exactly = (λ told. go told (located capture (rsdp_address capture) rsdp_size) refl, λ l. ten_absent (lacking (rsdp_address capture) rsdp_size l))
     where
-      go : rsdp capture ≡ roots.Refused (refused 10 10) → (s : Stretch) → located capture (rsdp_address capture) rsdp_size ≡ s
+      go : rsdp capture ≡ Err (refused 10 10) → (s : Stretch) → located capture (rsdp_address capture) rsdp_size ≡ s
           → Lacks capture (rsdp_address capture) rsdp_size
       go told Absent e = absent_misses capture sound (rsdp_address capture) rsdp_size (omega arith) e
       go told (Present place) e =
-          let other : roots.At place ≡ roots.Refused (refused 10 10) = sym (ten_present place e) ∙ told in
+          let other : Ok place ≡ Err (refused 10 10) = sym (ten_present place e) ∙ told in
           absurd (let z : ◌≡◌ {A = ℕ} 0 1 = cc in omega arith)
 
   -- ---- 20 and 21, of the table that a field names
-  at_absent : (field : ℕ) → located capture (address_at capture field) header_size ≡ Absent → table_at capture field ≡ Refused (refused 20 field)
+  at_absent : (field : ℕ) → located capture (address_at capture field) header_size ≡ Absent → table_at capture field ≡ Err (refused 20 field)
   unfolding table_at table_rules header_at is_present first_refusal unless if
   at_absent field h = rw h
 
   at_cut : (field place : ℕ) → located capture (address_at capture field) header_size ≡ Present place
-      → cut_short capture (address_at capture field) place ≡ true → table_at capture field ≡ Refused (refused 21 place)
+      → cut_short capture (address_at capture field) place ≡ true → table_at capture field ≡ Err (refused 21 place)
   unfolding table_at table_rules header_at is_present place_of first_refusal unless if
   at_cut field place h cut = rw (h, cut)
 
   -- what is told of it, and why
   data Way (field : ℕ) : Type 0 where
-    absent : located capture (address_at capture field) header_size ≡ Absent → table_at capture field ≡ Refused (refused 20 field) → Way field
+    absent : located capture (address_at capture field) header_size ≡ Absent → table_at capture field ≡ Err (refused 20 field) → Way field
     cut : (place : ℕ) → located capture (address_at capture field) header_size ≡ Present place
-        → cut_short capture (address_at capture field) place ≡ true → table_at capture field ≡ Refused (refused 21 place) → Way field
-    unsummed : (place : ℕ) → table_at capture field ≡ Refused (refused 22 place) → Way field
-    taken : (table : Table) → table_at capture field ≡ Is table → Way field
+        → cut_short capture (address_at capture field) place ≡ true → table_at capture field ≡ Err (refused 21 place) → Way field
+    unsummed : (place : ℕ) → table_at capture field ≡ Err (refused 22 place) → Way field
+    taken : (table : Table) → table_at capture field ≡ Ok table → Way field
 
   way : (field : ℕ) → Way field
   unfolding table_at table_rules header_at is_present place_of first_refusal unless if
@@ -92,13 +91,13 @@ module _ (capture : List ℕ) (sound : Sound capture) where
       by (Present place) e = by_length place e (cut_short capture (address_at capture field) place) refl
 
   -- one number and one place is told, and none of a table that is taken
-  one_told : (field : ℕ) {n m p q : ℕ} → table_at capture field ≡ Refused (refused n p) → table_at capture field ≡ Refused (refused m q) → (n ≡ m) × (p ≡ q)
+  one_told : (field : ℕ) {n m p q : ℕ} → table_at capture field ≡ Err (refused n p) → table_at capture field ≡ Err (refused m q) → (n ≡ m) × (p ≡ q)
   one_told field {n} {m} {p} {q} h g =
-      let told : Refused (refused n p) ≡ Refused (refused m q) = sym h ∙ g in
+      let told : Err (refused n p) ≡ Err (refused m q) = sym h ∙ g in
       let same : refused n p ≡ refused m q = cc in
       (ap (λ (r : Refusal). r.number) same, ap (λ (r : Refusal). r.place) same)
 
-  not-told : (field : ℕ) {n p : ℕ} {table : Table} → table_at capture field ≡ Is table → table_at capture field ≡ Refused (refused n p) → ⊥
+  not-told : (field : ℕ) {n p : ℕ} {table : Table} → table_at capture field ≡ Ok table → table_at capture field ≡ Err (refused n p) → ⊥
   not-told field h g =
       let same = sym h ∙ g in
       let z : ◌≡◌ {A = ℕ} 0 1 = cc in
@@ -107,7 +106,7 @@ module _ (capture : List ℕ) (sound : Sound capture) where
   pub twenty_exactly : TwentyExactly capture
   twenty_exactly field = (λ told. go told (way field), λ l. at_absent field (lacking (address_at capture field) header_size l))
     where
-      go : table_at capture field ≡ Refused (refused 20 field) → Way field → Lacks capture (address_at capture field) header_size
+      go : table_at capture field ≡ Err (refused 20 field) → Way field → Lacks capture (address_at capture field) header_size
       go told (absent e t) = absent_misses capture sound (address_at capture field) header_size (omega arith) e
       go told (cut place e c t) = absurd (omega (arith, (one_told field t told).0))
       go told (unsummed place t) = absurd (omega (arith, (one_told field t told).0))
@@ -141,7 +140,7 @@ module _ (capture : List ℕ) (sound : Sound capture) where
   pub twenty_one_exactly : TwentyOneExactly capture
   twenty_one_exactly field place = (λ told. go told (way field), back)
     where
-      go : table_at capture field ≡ Refused (refused 21 place) → Way field → CutShort capture field place
+      go : table_at capture field ≡ Err (refused 21 place) → Way field → CutShort capture field place
       go told (absent e t) = absurd (omega (arith, (one_told field t told).0))
       go told (cut p e c t) =
           let same = (one_told field t told).1 in
@@ -154,7 +153,7 @@ module _ (capture : List ℕ) (sound : Sound capture) where
       go told (unsummed p t) = absurd (omega (arith, (one_told field t told).0))
       go told (taken table t) = absurd (not-told field t told)
 
-      back : CutShort capture field place → table_at capture field ≡ Refused (refused 21 place)
+      back : CutShort capture field place → table_at capture field ≡ Err (refused 21 place)
       back c =
           let address = address_at capture field in
           let there = present_at (located capture address header_size) ((present_exactly capture sound address header_size (omega arith)).1 c.header) in

@@ -10,10 +10,8 @@ use lib.Dec.{eqb}
 use lib.ListN.{take, drop}
 use lib.Seq.{take_at, get_or-take, get_or-drop}
 use Rattle.words.specs.Bytes.{byte_at, number_at, part_at}
-use Rattle.words.specs.Refusals.{unless, first_refusal}
+use Rattle.words.specs.Refusals.{Verdict, unless, first_refusal}
 use Rattle.words.specs.declared.Refusal.{Refusal}
-use Rattle.words.specs.declared.Verdict.{Verdict}
-use Rattle.words.specs.declared.Verdict.TheVariants.{Sound, Refused}
 use Rattle.words.proofs.Numbers.{number_take, number_drop}
 use Rattle.words.proofs.Verdicts.{not_sound, unless-refused, unless_sound, first-joined, joined_kept}
 use Rattle.capture.specs.Fields.{version}
@@ -22,7 +20,6 @@ use Rattle.tables.specs.Table.{revision}
 use Rattle.tables.specs.Survey.{wrong_madt_revision, wrong_flags, madt_field_rules, sci_number, with_sci, tables_from, tables_of, rules_before_29, survey_rules, survey}
 use Rattle.tables.specs.declared.Strictness.{Strictness}
 use Rattle.tables.specs.declared.Strictness.TheVariants.{Ordinary, Strict}
-use Rattle.tables.specs.declared.Survey.TheVariants as surveys
 use Rattle.tables.specs.declared.Table.{Table}
 use Rattle.tables.specs.declared.Tables.{Tables}
 use Rattle.tables.proofs.Inside.{survey-told, survey-is, kept_inside}
@@ -30,9 +27,8 @@ use Rattle.lines.specs.Answers.{route_of, trace_of, route_code, trace_code}
 use Rattle.lines.specs.declared.Map.{Map}
 use Rattle.madt.specs.Pieces.{pieces, structures}
 use Rattle.madt.specs.Contents.{map_of, found_in}
-use Rattle.madt.specs.Walk.{walk_rules, walked}
+use Rattle.madt.specs.Walk.{walk_rules, Walked, walked}
 use Rattle.madt.specs.declared.Found.{Found}
-use Rattle.madt.specs.declared.Walked.{Walked}
 use Rattle.madt.proofs.Accepted.{found_is}
 use Rattle.processors.specs.Image.{image}
 use Rattle.words.specs.Rooms.{written}
@@ -43,7 +39,6 @@ use Rattle.map_promises.proofs.OnlyItsBridges.{only_its_bridges}
 use Rattle.reading.specs.Scan.{madt_bytes, walk_of, scan}
 use Rattle.reading.specs.Reading.{without_map, madt_found, reading_of, list_after}
 use Rattle.reading.specs.Entries.{read_result, bytes_after, route_result, trace_result}
-use Rattle.reading.specs.declared.Answer.TheVariants.{Refused as NotRead}
 use Rattle.reading.specs.declared.Reading.{Reading}
 use Rattle.reading.proofs.Laws.{later_rules, after_walk_lem, in_two}
 use Rattle.reading.proofs.Scanned.{scan-verdict, scanned, found_madt}
@@ -59,11 +54,12 @@ use Rattle.promises.proofs.Pairs.{has_pins}
 use Rattle.promises.proofs.ReadForC.{c_reading}
 use Rattle.promises.proofs.WhyRead.{Why as WhyRead, why_read}
 use Rattle.promises.proofs.WhyRefused.{why_refused}
+use Rattle.std.specs.Prelude.{Ok, Err}
 
 -- ---- what an accepted capture is found to hold, by its own tables
 module _ (strictness : Strictness) (capture : List ℕ) (accepted : Accepted strictness capture) where
-  tables_found : survey strictness capture ≡ surveys.Found (tables_of capture)
-  tables_found = let s = scanned strictness capture accepted in s.tables ∙ ap surveys.Found (sym (survey-is strictness capture s.tables))
+  tables_found : survey strictness capture ≡ Ok (tables_of capture)
+  tables_found = let s = scanned strictness capture accepted in s.tables ∙ ap Ok (sym (survey-is strictness capture s.tables))
 
   keeps_28 : KeepsTo28 capture
   unfolding survey_rules
@@ -72,7 +68,7 @@ module _ (strictness : Strictness) (capture : List ℕ) (accepted : Accepted str
   bytes_found : madt_found strictness capture ≡ madt_of capture
   bytes_found = found_madt strictness capture tables_found accepted
 
-  walk_kept : (walk_of capture (tables_of capture)).verdict ≡ Sound
+  walk_kept : (walk_of capture (tables_of capture)).verdict ≡ Ok tt
   walk_kept =
       let s = scanned strictness capture accepted in
       ap (λ (t : Tables). (walk_of capture t).verdict) (survey-is strictness capture s.tables) ∙ s.walk
@@ -167,7 +163,7 @@ module _ (strictness : Strictness) (capture : List ℕ) (kept : KeepsTo28 captur
       scan-verdict strictness capture
       ∙ ap first_refusal (in_two strictness capture ∙ ap (λ (vs : List Verdict). survey_rules strictness capture ++ vs) (after_walk_lem capture t))
       ∙ first-joined (survey_rules strictness capture) rest
-      ∙ ap (λ (v : Verdict). unless Refused v (first_refusal rest)) (first-joined (rules_before_29 capture) fields ∙ unless_sound Refused _ _ kept)
+      ∙ ap (λ (v : Verdict). unless Err v (first_refusal rest)) (first-joined (rules_before_29 capture) fields ∙ unless_sound Err _ _ kept)
       ∙ sym (first-joined fields rest)
 
 agree_on_1 : (this that : Strictness) → wrong_madt_revision this 1 ≡ wrong_madt_revision that 1
@@ -214,16 +210,16 @@ module _ (this that : Strictness) (capture other : List ℕ) (board : OneBoard c
       rw (from_29 this capture kept, from_29 that other kept')
       (joined_alike here there (madt_field_rules this capture here.madt) (madt_field_rules that other there.madt) _ _ fields_alike (λ y z. later_alike))
 
-  read_alike : (list room : List ℕ) (r : Refusal) → (reading_of this capture list).answer ≡ NotRead r → (r.number ≡ 60 → ⊥)
-      → (q : Refusal) × ((reading_of that other room).answer ≡ NotRead q) × MovedRefusal here there r q
+  read_alike : (list room : List ℕ) (r : Refusal) → (reading_of this capture list).answer ≡ Err r → (r.number ≡ 60 → ⊥)
+      → (q : Refusal) × ((reading_of that other room).answer ≡ Err q) × MovedRefusal here there r q
   unfolding reading_of without_map
   read_alike list room r h not60 =
       ⊎_elim (λ told. go told (scan that other).verdict refl) (λ w. absurd (not60 (ap (λ (r : Refusal). r.number) (sym w.1)))) (why_refused this capture list r h)
     where
-      go : (scan this capture).verdict ≡ Refused r → (v : Verdict) → (scan that other).verdict ≡ v
-          → (q : Refusal) × ((reading_of that other room).answer ≡ NotRead q) × MovedRefusal here there r q
-      go told Sound e = absurd (rw (told, e) at verdicts_alike)
-      go told (Refused q) e = (q, ap (λ (x : Reading). x.answer) (unless-refused without_map _ _ e), rw (told, e) at verdicts_alike)
+      go : (scan this capture).verdict ≡ Err r → (v : Verdict) → (scan that other).verdict ≡ v
+          → (q : Refusal) × ((reading_of that other room).answer ≡ Err q) × MovedRefusal here there r q
+      go told (Ok tt) e = absurd (rw (told, e) at verdicts_alike)
+      go told (Err q) e = (q, ap (λ (x : Reading). x.answer) (unless-refused without_map _ _ e), rw (told, e) at verdicts_alike)
 
 -- THE PROMISES
 pub maps_stay : (this that : Strictness) (capture other : List ℕ) → MapsStay this that capture other

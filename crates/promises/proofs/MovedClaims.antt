@@ -17,16 +17,13 @@ use Rattle.clashes.specs.Folds.{fold}
 use Rattle.clashes.specs.Rules.{clash, lone}
 use Rattle.clashes.specs.Search.{sooner, nearer, partner, better, first_clash, lonelier, first_lone}
 use Rattle.clashes.specs.declared.Claim.{Claim}
-use Rattle.clashes.specs.declared.Spot.{Spot}
-use Rattle.clashes.specs.declared.Spot.TheVariants.{At, Nowhere}
-use Rattle.clashes.specs.declared.Pair.{Pair}
-use Rattle.clashes.specs.declared.Pair.TheVariants.{Two, None}
 use Rattle.parts.specs.Claims.{lio_claim, eio_claim, bio_claim, msi_claim}
 use Rattle.lines.specs.Says.{Said, says}
 use Rattle.lines.specs.Claims.{placed, claims}
 use Rattle.lines.specs.declared.Places.{Places}
 use Rattle.madt.specs.Pieces.{Whole}
 use Rattle.madt.specs.Contents.{of_type, made, standing, the_one, in_four, bridge_of, map_of, places_of, offsets_of}
+use Rattle.std.specs.Prelude.{Option, Some, None}
 
 -- a choice between two moved things
 if_moved : {A : Type 0} (f : A → A) (b : Bool) (x y : A) → if b (f x) (f y) ≡ f (if b x y)
@@ -47,13 +44,13 @@ module _ (by : ℕ) where
   moved_claim x =
       record { place = by + x.place; numbers = x.numbers; vectors = x.vectors; node = x.node; hub = x.hub; low = x.low; high = x.high }
 
-  unfoldable pub moved_spot : Spot → Spot
-  moved_spot Nowhere = Nowhere
-  moved_spot (At p) = At (by + p)
+  unfoldable pub moved_spot : Option ℕ → Option ℕ
+  moved_spot None = None
+  moved_spot (Some p) = Some (by + p)
 
-  unfoldable pub moved_pair : Pair → Pair
+  unfoldable pub moved_pair : Option (ℕ × ℕ) → Option (ℕ × ℕ)
   moved_pair None = None
-  moved_pair (Two p q) = Two (by + p) (by + q)
+  moved_pair (Some (p, q)) = Some ((by + p), (by + q))
 
   -- the order stays
   same_order : (p q : ℕ) → ltb (by + p) (by + q) ≡ ltb p q
@@ -63,10 +60,10 @@ module _ (by : ℕ) where
       go true e = let less = ltb-true p q e in lt-ltb (by + p) (by + q) (omega arith)
       go false e = let more = ltb-false p q e in le-ltb (by + p) (by + q) (omega arith)
 
-  sooner_moved : (best : Spot) (p : ℕ) → sooner (moved_spot best) (by + p) ≡ moved_spot (sooner best p)
+  sooner_moved : (best : Option ℕ) (p : ℕ) → sooner (moved_spot best) (by + p) ≡ moved_spot (sooner best p)
   unfolding sooner moved_spot
-  sooner_moved Nowhere p = refl
-  sooner_moved (At q) p = rw (same_order p q) (if_moved moved_spot (ltb p q) (At p) (At q))
+  sooner_moved None p = refl
+  sooner_moved (Some q) p = rw (same_order p q) (if_moved moved_spot (ltb p q) (Some p) (Some q))
 
   -- ---- the search
   module _ (rule : ℕ) where
@@ -74,7 +71,7 @@ module _ (by : ℕ) where
     unfolding clash moved_claim
     same_clash x y = refl
 
-    nearer_moved : (x : Claim) (best : Spot) (y : Claim) → nearer rule (moved_claim x) (moved_spot best) (moved_claim y) ≡ moved_spot (nearer rule x best y)
+    nearer_moved : (x : Claim) (best : Option ℕ) (y : Claim) → nearer rule (moved_claim x) (moved_spot best) (moved_claim y) ≡ moved_spot (nearer rule x best y)
     unfolding nearer moved_claim
     nearer_moved x best y =
         rw (same_order y.place x.place, same_clash x y, sooner_moved best y.place)
@@ -82,28 +79,28 @@ module _ (by : ℕ) where
 
     partner_moved : (x : Claim) (all : List Claim) → partner rule (moved_claim x) (map moved_claim all) ≡ moved_spot (partner rule x all)
     unfolding partner moved_spot
-    partner_moved x all = fold_moved moved_spot moved_claim _ _ (nearer_moved x) Nowhere all
+    partner_moved x all = fold_moved moved_spot moved_claim _ _ (nearer_moved x) None all
 
-    better_moved : (best : Pair) (p : ℕ) (with : Spot) → better (moved_pair best) (by + p) (moved_spot with) ≡ moved_pair (better best p with)
+    better_moved : (best : Option (ℕ × ℕ)) (p : ℕ) (with : Option ℕ) → better (moved_pair best) (by + p) (moved_spot with) ≡ moved_pair (better best p with)
     unfolding better moved_pair moved_spot
-    better_moved best p Nowhere = refl
-    better_moved None p (At q) = refl
-    better_moved (Two o w) p (At q) = rw (same_order p o) (if_moved moved_pair (ltb p o) (Two p q) (Two o w))
+    better_moved best p None = refl
+    better_moved None p (Some q) = refl
+    better_moved (Some (o, w)) p (Some q) = rw (same_order p o) (if_moved moved_pair (ltb p o) (Some (p, q)) (Some (o, w)))
 
     pub clash_moved : (all : List Claim) → first_clash rule (map moved_claim all) ≡ moved_pair (first_clash rule all)
     unfolding first_clash moved_pair moved_claim
     clash_moved all = fold_moved moved_pair moved_claim _ _ step None all
       where
-        step : (best : Pair) (x : Claim)
+        step : (best : Option (ℕ × ℕ)) (x : Claim)
             → better (moved_pair best) (moved_claim x).place (partner rule (moved_claim x) (map moved_claim all)) ≡ moved_pair (better best x.place (partner rule x all))
         step best x = rw (partner_moved x all) (better_moved best x.place (partner rule x all))
 
   -- ---- 42
   pub lone_moved : (nodes : List ℕ) (all : List Claim) → first_lone nodes (map moved_claim all) ≡ moved_spot (first_lone nodes all)
   unfolding first_lone lonelier moved_spot moved_claim
-  lone_moved nodes all = fold_moved moved_spot moved_claim _ _ step Nowhere all
+  lone_moved nodes all = fold_moved moved_spot moved_claim _ _ step None all
     where
-      step : (best : Spot) (x : Claim) → lonelier nodes (moved_spot best) (moved_claim x) ≡ moved_spot (lonelier nodes best x)
+      step : (best : Option ℕ) (x : Claim) → lonelier nodes (moved_spot best) (moved_claim x) ≡ moved_spot (lonelier nodes best x)
       step best x = rw (sooner_moved best x.place) (if_moved moved_spot (lone nodes x) (sooner best x.place) best)
 
 -- ---- where structures stand

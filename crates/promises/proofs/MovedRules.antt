@@ -1,4 +1,6 @@
 -- The rules from 31 on, of one MADT that stands at two places: they tell alike.
+use Rattle.std.proofs.Common.{Option}
+use Rattle.std.specs.declared.option.Option.TheVariants as options
 use Prim.Native.Nat.{ℕ, ◌+◌, ◌<◌}
 use native.Mathlib.Omega.{arith}
 use mathlib.Core.Bool.{Bool, true, false}
@@ -9,18 +11,12 @@ use borrow.Author.Tests.{eqb-false}
 use lib.Dec.{eqb}
 use Rattle.words.specs.Bytes.{byte_at}
 use Rattle.words.specs.Choice.{if}
-use Rattle.words.specs.Refusals.{refused, refused_with, rule, unless, first_refusal}
-use Rattle.words.specs.declared.Verdict.{Verdict}
-use Rattle.words.specs.declared.Verdict.TheVariants.{Sound, Refused}
+use Rattle.words.specs.Refusals.{Verdict, refused, refused_with, rule, unless, first_refusal}
 use Rattle.words.proofs.Verdicts.{first-joined}
 use Rattle.tables.specs.declared.Tables.{Tables}
 use Rattle.clashes.specs.Search.{first_clash, first_lone}
 use Rattle.clashes.specs.Told.{at_later, at_both, spotted}
 use Rattle.clashes.specs.declared.Claim.{Claim}
-use Rattle.clashes.specs.declared.Pair.{Pair}
-use Rattle.clashes.specs.declared.Pair.TheVariants.{Two, None}
-use Rattle.clashes.specs.declared.Spot.{Spot}
-use Rattle.clashes.specs.declared.Spot.TheVariants.{At, Nowhere}
 use Rattle.lines.specs.Says.{Said, says}
 use Rattle.lines.specs.Hubs.{nodes}
 use Rattle.lines.specs.Claims.{claims}
@@ -32,8 +28,6 @@ use Rattle.madt.specs.Walk.{rules_in_turn, kind_rules, walk_rules, walked}
 use Rattle.madt.proofs.Accepted.{walk_verdict, found_is}
 use Rattle.processors.specs.Listing.{count}
 use Rattle.processors.specs.Repeats.{first_repeat}
-use Rattle.processors.specs.declared.Repeat.{Repeat}
-use Rattle.processors.specs.declared.Repeat.TheVariants as repeats
 use Rattle.map_promises.proofs.Bridges.{no_bridge_lem, no_input_lem}
 use Rattle.map_promises.proofs.Kept.{named-unwired}
 use Rattle.reading.specs.Scan.{repeat_rule, processor_rule}
@@ -42,19 +36,20 @@ use Rattle.promises.specs.Moved.{MovedRefusal, ToldAlike}
 use Rattle.promises.specs.RefusalTable.{is_twofold}
 use Rattle.promises.proofs.MapRefusals.{lio_there}
 use Rattle.promises.proofs.MovedClaims.{moved_spot, moved_pair, clash_moved, lone_moved, offsets, ht_moved, lpc_moved, claims_moved}
+use Rattle.std.specs.Prelude.{Ok, Err, Some, None}
 
 -- ---- verdicts, where the tables stand here in one capture and there in the other: `ToldAlike`, by their cases
 abbrev pub AlikeAt : Tables → Tables → Verdict → Verdict → Type 0
-AlikeAt here there Sound Sound = 0 < 1
-AlikeAt here there (Refused r) (Refused q) = MovedRefusal here there r q
-AlikeAt here there Sound (Refused q) = ⊥
-AlikeAt here there (Refused r) Sound = ⊥
+AlikeAt here there (Ok u) (Ok v) = 0 < 1
+AlikeAt here there (Err r) (Err q) = MovedRefusal here there r q
+AlikeAt here there (Ok u) (Err q) = ⊥
+AlikeAt here there (Err r) (Ok u) = ⊥
 
 pub alike_told : (here there : Tables) (v w : Verdict) → AlikeAt here there v w → ToldAlike here there v w
-alike_told here there Sound Sound a = inl (refl, refl)
-alike_told here there (Refused r) (Refused q) a = inr (r, q, refl, refl, a)
-alike_told here there Sound (Refused q) a = absurd a
-alike_told here there (Refused r) Sound a = absurd a
+alike_told here there (Ok u) (Ok v) a = inl (refl, refl)
+alike_told here there (Err r) (Err q) a = inr (r, q, refl, refl, a)
+alike_told here there (Ok u) (Err q) a = absurd a
+alike_told here there (Err r) (Ok u) a = absurd a
 
 module _ (here there : Tables) where
   abbrev h : ℕ
@@ -67,20 +62,20 @@ module _ (here there : Tables) where
   Alike = AlikeAt here there
 
   -- two that are alike, and what comes after them
-  unless_alike : (v w x y : Verdict) → Alike v w → (v ≡ Sound → w ≡ Sound → Alike x y) → Alike (unless Refused v x) (unless Refused w y)
+  unless_alike : (v w x y : Verdict) → Alike v w → (v ≡ Ok tt → w ≡ Ok tt → Alike x y) → Alike (unless Err v x) (unless Err w y)
   unfolding unless
-  unless_alike Sound Sound x y a later = later refl refl
-  unless_alike (Refused r) (Refused q) x y a later = a
-  unless_alike Sound (Refused q) x y a later = absurd a
-  unless_alike (Refused r) Sound x y a later = absurd a
+  unless_alike (Ok u) (Ok v) x y a later = later refl refl
+  unless_alike (Err r) (Err q) x y a later = a
+  unless_alike (Ok u) (Err q) x y a later = absurd a
+  unless_alike (Err r) (Ok u) x y a later = absurd a
 
-  pub more_alike : (v w : Verdict) (vs ws : List Verdict) → Alike v w → (v ≡ Sound → w ≡ Sound → Alike (first_refusal vs) (first_refusal ws))
+  pub more_alike : (v w : Verdict) (vs ws : List Verdict) → Alike v w → (v ≡ Ok tt → w ≡ Ok tt → Alike (first_refusal vs) (first_refusal ws))
       → Alike (first_refusal (v ∷ vs)) (first_refusal (w ∷ ws))
   unfolding first_refusal
   more_alike v w vs ws a later = unless_alike v w (first_refusal vs) (first_refusal ws) a later
 
   pub joined_alike : (vs ws xs ys : List Verdict) → Alike (first_refusal vs) (first_refusal ws)
-      → (first_refusal vs ≡ Sound → first_refusal ws ≡ Sound → Alike (first_refusal xs) (first_refusal ys))
+      → (first_refusal vs ≡ Ok tt → first_refusal ws ≡ Ok tt → Alike (first_refusal xs) (first_refusal ys))
       → Alike (first_refusal (vs ++ xs)) (first_refusal (ws ++ ys))
   joined_alike vs ws xs ys a later = rw (first-joined vs xs, first-joined ws ys) (unless_alike (first_refusal vs) (first_refusal ws) (first_refusal xs) (first_refusal ys) a later)
 
@@ -164,30 +159,30 @@ module _ (here there : Tables) where
       (λ y z. kinds_alike [] (structures (pieces table 44)))
 
   -- ---- 39, and 40 of the processors
-  repeat_alike : (r : Repeat) → Alike (repeat_rule h r) (repeat_rule t r)
+  repeat_alike : (r : Option ℕ) → Alike (repeat_rule h r) (repeat_rule t r)
   unfolding repeat_rule
-  repeat_alike repeats.Nowhere = omega arith
-  repeat_alike (repeats.At offset) = at_one 39 offset (refl, refl) refl refl
+  repeat_alike options.None = omega arith
+  repeat_alike (options.Some offset) = at_one 39 offset (refl, refl) refl refl
 
   processors_alike : (n : ℕ) → Alike (processor_rule h n) (processor_rule t n)
   unfolding processor_rule
   processors_alike n = at_start_alike (eqb n 0) 40 (refl, refl)
 
   -- ---- what a search tells
-  later_alike : (n : ℕ) (c : Pair) → IsOne n → Alike (at_later n (moved_pair h c)) (at_later n (moved_pair t c))
+  later_alike : (n : ℕ) (c : Option (ℕ × ℕ)) → IsOne n → Alike (at_later n (moved_pair h c)) (at_later n (moved_pair t c))
   unfolding at_later moved_pair
   later_alike n None is = omega arith
-  later_alike n (Two p q) is = at_one n p is refl refl
+  later_alike n (Some (p, q)) is = at_one n p is refl refl
 
-  both_alike : (n : ℕ) (c : Pair) → IsTwo n → Alike (at_both n (moved_pair h c)) (at_both n (moved_pair t c))
+  both_alike : (n : ℕ) (c : Option (ℕ × ℕ)) → IsTwo n → Alike (at_both n (moved_pair h c)) (at_both n (moved_pair t c))
   unfolding at_both moved_pair
   both_alike n None is = omega arith
-  both_alike n (Two p q) is = at_two n p q is
+  both_alike n (Some (p, q)) is = at_two n p q is
 
-  spotted_alike : (n : ℕ) (s : Spot) → IsOne n → Alike (spotted n (moved_spot h s)) (spotted n (moved_spot t s))
+  spotted_alike : (n : ℕ) (s : Option ℕ) → IsOne n → Alike (spotted n (moved_spot h s)) (spotted n (moved_spot t s))
   unfolding spotted moved_spot
-  spotted_alike n Nowhere is = omega arith
-  spotted_alike n (At p) is = at_one n p is refl refl
+  spotted_alike n None is = omega arith
+  spotted_alike n (Some p) is = at_one n p is refl refl
 
   -- ---- 40 to 54, of the map that some structures make
   module _ (sci : ℕ) (pins : ℕ → ℕ) (all : List Whole) where

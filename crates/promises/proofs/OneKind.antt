@@ -10,15 +10,11 @@ use lib.Dec.{eqb, leb}
 use lib.ListN.{length, length-append}
 use Rattle.words.specs.Bytes.{byte_at}
 use Rattle.words.specs.Choice.{if}
-use Rattle.words.specs.Refusals.{refused, refused_with, rule, unless, first_refusal}
+use Rattle.words.specs.Refusals.{Verdict, refused, refused_with, rule, unless, first_refusal}
 use Rattle.words.specs.declared.Refusal.{Refusal}
-use Rattle.words.specs.declared.Verdict.{Verdict}
-use Rattle.words.specs.declared.Verdict.TheVariants.{Sound, Refused}
 use Rattle.words.proofs.Verdicts.{not_sound, same_refusal, first_sound, unless_sound, first-joined, joined_kept}
 use Rattle.tables.specs.Survey.{survey, tables_of, survey_rules}
 use Rattle.tables.specs.declared.Strictness.{Strictness}
-use Rattle.tables.specs.declared.Survey.{Survey}
-use Rattle.tables.specs.declared.Survey.TheVariants as surveys
 use Rattle.tables.specs.declared.Tables.{Tables}
 use Rattle.tables.proofs.Inside.{Accepted as TablesInside, tables_inside}
 use Rattle.clashes.proofs.Logic.{and_left, and_right, or_cases, both_true, left_true, right_true}
@@ -41,6 +37,7 @@ use Rattle.promises.proofs.WalkRefusals.{turns_told}
 use Rattle.promises.proofs.EveryRefusal.{rules-told}
 use Rattle.promises.proofs.RefusedExactlyForSharing.{of_scan}
 use Rattle.madt.proofs.Accepted.{walk_verdict}
+use Rattle.std.specs.Prelude.{Result, Ok, Err}
 
 -- ---- the test, and what it says
 module _ (before : List Whole) (x : Whole) where
@@ -94,13 +91,13 @@ none_in_front before y f (a ∷ m) l z kept e rest =
     let behind : f ≡ m ++ (z ∷ l) = cc in
     rw (← same, ← append_assoc before (y ∷ []) m) (rest m l z behind)
 
-first_mixed : (base : ℕ) (before all : List Whole) {r : Refusal} → first_refusal (kind_rules base before all) ≡ Refused r → First base before all r
+first_mixed : (base : ℕ) (before all : List Whole) {r : Refusal} → first_refusal (kind_rules base before all) ≡ Err r → First base before all r
 unfolding kind_rules first_refusal unless if
 first_mixed base before [] h = not_sound (sym h)
 first_mixed base before (y ∷ ys) {r} h = go (gives_both before y.bytes) refl h (λ k. first_mixed base (before ++ (y ∷ [])) ys k)
   where
-    go : (b : Bool) → gives_both before y.bytes ≡ b → unless Refused (rule b 34 (base + y.at)) (first_refusal (kind_rules base (before ++ (y ∷ [])) ys)) ≡ Refused r
-        → (first_refusal (kind_rules base (before ++ (y ∷ [])) ys) ≡ Refused r → First base (before ++ (y ∷ [])) ys r) → First base before (y ∷ ys) r
+    go : (b : Bool) → gives_both before y.bytes ≡ b → unless Err (rule b 34 (base + y.at)) (first_refusal (kind_rules base (before ++ (y ∷ [])) ys)) ≡ Err r
+        → (first_refusal (kind_rules base (before ++ (y ∷ [])) ys) ≡ Err r → First base (before ++ (y ∷ [])) ys r) → First base before (y ∷ ys) r
     go true e k later =
         record {
           mid = [];
@@ -123,7 +120,7 @@ first_mixed base before (y ∷ ys) {r} h = go (gives_both before y.bytes) refl h
           told = w.told;
         }
 
-none_mixed : (base : ℕ) (before all : List Whole) → first_refusal (kind_rules base before all) ≡ Sound
+none_mixed : (base : ℕ) (before all : List Whole) → first_refusal (kind_rules base before all) ≡ Ok tt
     → (m l : List Whole) (y : Whole) → all ≡ m ++ (y ∷ l) → gives_both (before ++ m) y.bytes ≡ false
 unfolding kind_rules
 none_mixed base before [] h m l y e = absurd (nothing_there m l y e)
@@ -145,7 +142,7 @@ module _ (strictness : Strictness) (capture : List ℕ) where
   kinds = kind_rules base [] (structures_of capture)
 
   abbrev Told34 : ℕ → ℕ → Type 0
-  Told34 p q = (scan strictness capture).verdict ≡ Refused (refused_with 34 p q)
+  Told34 p q = (scan strictness capture).verdict ≡ Err (refused_with 34 p q)
 
   abbrev Due34 : ℕ → ℕ → Type 0
   Due34 p q = Breaks34 strictness capture × OnePlace (NamesMixed base (structures_of capture)) p q
@@ -154,7 +151,7 @@ module _ (strictness : Strictness) (capture : List ℕ) where
   other : (own : ℕ → Bool) → own 34 ≡ false → {v : Verdict} → (scan strictness capture).verdict ≡ v → Told own capture v → (p q : ℕ) → Told34 p q → Due34 p q
   other own not34 e told p q h = absurd (true≢false (sym (rw (sym e ∙ h) at told).1 ∙ not34))
 
-  module _ (tables : survey strictness capture ≡ surveys.Found (tables_of capture)) where
+  module _ (tables : survey strictness capture ≡ Ok (tables_of capture)) where
     abbrev t : Tables
     t = tables_of capture
 
@@ -162,29 +159,29 @@ module _ (strictness : Strictness) (capture : List ℕ) where
     inside = tables_inside strictness capture t tables
 
     -- the verdict: of the structures in turn, of 34, and of what comes after them
-    verdict-is : (scan strictness capture).verdict ≡ unless Refused (unless Refused (first_refusal turns) (first_refusal kinds)) (first_refusal (later_rules capture t))
+    verdict-is : (scan strictness capture).verdict ≡ unless Err (unless Err (first_refusal turns) (first_refusal kinds)) (first_refusal (later_rules capture t))
     unfolding walk_rules
     verdict-is =
         found_verdict strictness capture tables ∙ first-joined (turns ++ kinds) _
-        ∙ ap (λ (v : Verdict). unless Refused v (first_refusal (later_rules capture t))) (first-joined turns kinds)
+        ∙ ap (λ (v : Verdict). unless Err v (first_refusal (later_rules capture t))) (first-joined turns kinds)
 
-    turns_refused : {r : Refusal} → first_refusal turns ≡ Refused r → (scan strictness capture).verdict ≡ Refused r
+    turns_refused : {r : Refusal} → first_refusal turns ≡ Err r → (scan strictness capture).verdict ≡ Err r
     unfolding unless
     turns_refused h = verdict-is ∙ rw h
 
-    module _ (sound : first_refusal turns ≡ Sound) where
-      kinds_refused : {r : Refusal} → first_refusal kinds ≡ Refused r → (scan strictness capture).verdict ≡ Refused r
+    module _ (sound : first_refusal turns ≡ Ok tt) where
+      kinds_refused : {r : Refusal} → first_refusal kinds ≡ Err r → (scan strictness capture).verdict ≡ Err r
       unfolding unless
       kinds_refused h = verdict-is ∙ rw (sound, h)
 
-      after_34 : first_refusal kinds ≡ Sound → (scan strictness capture).verdict ≡ first_refusal (later_rules capture t)
+      after_34 : first_refusal kinds ≡ Ok tt → (scan strictness capture).verdict ≡ first_refusal (later_rules capture t)
       unfolding unless
       after_34 h = verdict-is ∙ rw (sound, h)
 
       kept_in_turn : KeepsTo38InTurn strictness capture
       kept_in_turn = first-joined (survey_rules strictness capture) turns ∙ unless_sound _ _ _ (told-by strictness capture tables) ∙ sound
 
-      named : {r : Refusal} → first_refusal kinds ≡ Refused r → Breaks34 strictness capture × NamesMixed base (structures_of capture) r.place
+      named : {r : Refusal} → first_refusal kinds ≡ Err r → Breaks34 strictness capture × NamesMixed base (structures_of capture) r.place
       named h =
           let f = first_mixed base [] (structures_of capture) h in
           let m : Mixed (structures_of capture) = record { before = f.mid; x = f.x; later = f.later; stands = f.stands; both = both_is f.mid f.x f.both } in (
@@ -196,47 +193,47 @@ module _ (strictness : Strictness) (capture : List ℕ) where
             },
           )
 
-      walk_sound : first_refusal kinds ≡ Sound → (walk_of capture t).verdict ≡ Sound
+      walk_sound : first_refusal kinds ≡ Ok tt → (walk_of capture t).verdict ≡ Ok tt
       unfolding walk_rules
       walk_sound h = walk_verdict _ _ _ _ ∙ first-joined turns kinds ∙ unless_sound _ _ _ sound ∙ h
 
       by_kinds : (v : Verdict) → first_refusal kinds ≡ v → (p q : ℕ) → Told34 p q → Due34 p q
-      by_kinds (Refused r) h p q told =
+      by_kinds (Err r) h p q told =
           let same : r ≡ refused_with 34 p q = same_refusal (sym (kinds_refused h) ∙ told) in
           let f = first_mixed base [] (structures_of capture) h in
           let w = named h in
           let place : r.place ≡ p = ap (λ (r : Refusal). r.place) same in
           let second : q ≡ 0 = ap (λ (r : Refusal). r.second) (sym same ∙ sym f.told) in
           (w.0, (rw place at w.1, second))
-      by_kinds Sound h p q told =
+      by_kinds (Ok tt) h p q told =
           other is_after_38 refl (after_34 h)
           (rules-told capture t inside (stands inside.madt (omega arith), stands inside.fadt (omega arith)) (walk_sound h)) p q told
 
     by_turns : (v : Verdict) → first_refusal turns ≡ v → (p q : ℕ) → Told34 p q → Due34 p q
-    by_turns (Refused r) h =
+    by_turns (Err r) h =
         other is_in_turn refl (turns_refused h)
         (rw h at (turns_told capture base t.madt.length inside.madt.inside (madt_of capture) inside.madt.long (bytes_small capture t.madt)))
-    by_turns Sound h = by_kinds h (first_refusal kinds) refl
+    by_turns (Ok tt) h = by_kinds h (first_refusal kinds) refl
 
   -- told, so due
-  by_survey : (s : Survey) → survey strictness capture ≡ s → SurveyTold capture s → (p q : ℕ) → Told34 p q → Due34 p q
+  by_survey : (s : Result Tables Refusal) → survey strictness capture ≡ s → SurveyTold capture s → (p q : ℕ) → Told34 p q → Due34 p q
   unfolding turned_down
-  by_survey (surveys.Refused r) e told = other is_to_30 refl (ap (λ (s : Scan). s.verdict) (scan-refused strictness capture e)) told
-  by_survey (surveys.Found t) e told = by_turns (e ∙ ap surveys.Found (sym (survey-is strictness capture e))) _ refl
+  by_survey (Err r) e told = other is_to_30 refl (ap (λ (s : Scan). s.verdict) (scan-refused strictness capture e)) told
+  by_survey (Ok t) e told = by_turns (e ∙ ap Ok (sym (survey-is strictness capture e))) _ refl
 
   -- due, so told
   when_due : Breaks34 strictness capture → (p : ℕ) × (q : ℕ) × Told34 p q
   unfolding survey
   when_due broken =
       let kept = joined_kept (survey_rules strictness capture) _ broken.0 in
-      go (unless_sound surveys.Refused _ _ kept.0) kept.1 (first_refusal kinds) refl
+      go (unless_sound Err _ _ kept.0) kept.1 (first_refusal kinds) refl
     where
-      go : survey strictness capture ≡ surveys.Found (tables_of capture) → first_refusal turns ≡ Sound
+      go : survey strictness capture ≡ Ok (tables_of capture) → first_refusal turns ≡ Ok tt
           → (v : Verdict) → first_refusal kinds ≡ v → (p : ℕ) × (q : ℕ) × Told34 p q
-      go tables sound (Refused r) h =
+      go tables sound (Err r) h =
           let f = first_mixed base [] (structures_of capture) h in
-          (base + f.x.at, 0, kinds_refused tables sound h ∙ ap Refused (sym f.told))
-      go tables sound Sound h =
+          (base + f.x.at, 0, kinds_refused tables sound h ∙ ap Err (sym f.told))
+      go tables sound (Ok tt) h =
           let m = broken.1 in
           absurd (true≢false (sym (is_both m.before m.x m.both) ∙ none_mixed base [] (structures_of capture) h m.before m.later m.x m.stands))
 

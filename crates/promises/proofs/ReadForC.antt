@@ -11,14 +11,12 @@ use borrow.Author.Tests.{leb-true, leb-false}
 use lib.ListN.{length, drop}
 use Rattle.words.specs.Bytes.{number_at}
 use Rattle.words.specs.Choice.{if}
-use Rattle.words.specs.Refusals.{refused, unless}
+use Rattle.words.specs.Refusals.{Verdict, refused, unless}
 use Rattle.words.proofs.Numbers.{number_past}
 use Rattle.words.proofs.Choices.{yes_if, no_if}
 use Rattle.words.proofs.Verdicts.{unless-refused, unless_sound}
 use Rattle.tables.specs.declared.Strictness.TheVariants.{Strict}
 use Rattle.lines.specs.Answers.{refusal_code}
-use Rattle.words.specs.declared.Verdict.{Verdict}
-use Rattle.words.specs.declared.Verdict.TheVariants as verdicts
 use Rattle.processors.specs.Image.{four_bytes, image}
 use Rattle.words.specs.Rooms.{has_room, written, filled}
 use Rattle.processors.specs.Listing.{processors, count}
@@ -26,12 +24,12 @@ use Rattle.processors.proofs.Image.{eight_each, room_image, filled-image}
 use Rattle.reading.specs.Scan.{madt_bytes, scan}
 use Rattle.reading.specs.Reading.{without_map, answered, madt_found, reading_of, list_after}
 use Rattle.reading.specs.Entries.{answer_in, read_code, read_result, bytes_after}
-use Rattle.reading.specs.declared.Answer.TheVariants.{Read, Refused}
 use Rattle.reading.proofs.Laws.{in_read, in_60}
 use Rattle.promises.specs.Calls.{SameReading, ReadBack, TooShort, HasRead, CReading, ReadCodesApart}
 use Rattle.processors.proofs.AtMost256.{at_most_256}
 use Rattle.promises.proofs.EveryRefusal.{of_scan}
 use Rattle.reading.proofs.Scanned.{scanned}
+use Rattle.std.specs.Prelude.{Ok, Err}
 
 -- ---- the two readings
 module _ (table list : List ℕ) where
@@ -47,14 +45,14 @@ module _ (table list : List ℕ) where
       go false h = in_60 table (image list) (same_room ∙ h) ∙ (rw h)
 
 -- no more processors than 256
-count_small : (capture : List ℕ) → (scan Strict capture).verdict ≡ verdicts.Sound → count (madt_found Strict capture) ≤ 256
+count_small : (capture : List ℕ) → (scan Strict capture).verdict ≡ Ok tt → count (madt_found Strict capture) ≤ 256
 unfolding madt_found
 count_small capture sound =
     let s = scanned Strict capture sound in
     rw s.madt (at_most_256 (madt_bytes capture s.t.madt) s.t.madt.place s.t.sci _ s.walk)
 
 -- ---- the three ways of the C entry
-module _ (capture list : List ℕ) (sound : (scan Strict capture).verdict ≡ verdicts.Sound) where
+module _ (capture list : List ℕ) (sound : (scan Strict capture).verdict ≡ Ok tt) where
   abbrev bytes : List ℕ
   bytes = image (processors (madt_found Strict capture))
 
@@ -109,27 +107,27 @@ same_reading capture list = go (scan Strict capture).verdict
     go : (v : Verdict)
         → (unless (λ r. image list) v (filled (image (processors (madt_found Strict capture))) (image list)) ≡ image (unless (λ r. list) v (filled (processors (madt_found Strict capture)) list)))
         × (unless refusal_code v (read_code (answer_in (madt_found Strict capture) (image list))) ≡ read_code (unless without_map v (answered (madt_found Strict capture) (scan Strict capture).map list)).answer)
-    go (verdicts.Refused r) = (refl, refl)
-    go verdicts.Sound = (filled-image (processors (madt_found Strict capture)) list, ap read_code (same_answer (madt_found Strict capture) list (scan Strict capture).map))
+    go (Err r) = (refl, refl)
+    go (Ok tt) = (filled-image (processors (madt_found Strict capture)) list, ap read_code (same_answer (madt_found Strict capture) list (scan Strict capture).map))
 
 pub read_codes_apart : ReadCodesApart
 unfolding read_code
-read_codes_apart (Read a) (Read b) p q e = ap Read e
-read_codes_apart (Read a) (Refused b) p q e = absurd (omega arith)
-read_codes_apart (Refused a) (Read b) p q e = absurd (omega arith)
-read_codes_apart (Refused a) (Refused b) p q e = ap Refused (ap₂ refused (omega arith) (omega arith))
+read_codes_apart (Ok a) (Ok b) p q e = ap Ok e
+read_codes_apart (Ok a) (Err b) p q e = absurd (omega arith)
+read_codes_apart (Err a) (Ok b) p q e = absurd (omega arith)
+read_codes_apart (Err a) (Err b) p q e = ap Err (ap₂ refused (omega arith) (omega arith))
 
 pub c_reading : (capture list : List ℕ) → CReading capture list
 unfolding read_result bytes_after
 c_reading capture list = go (scan Strict capture).verdict refl
   where
-    room : (sound : (scan Strict capture).verdict ≡ verdicts.Sound) (b : Bool) → has_room (image (processors (madt_found Strict capture))) list ≡ b
+    room : (sound : (scan Strict capture).verdict ≡ Ok tt) (b : Bool) → has_room (image (processors (madt_found Strict capture))) list ≡ b
         → CReading capture list
     room sound true h = inr (inr (with_room capture list sound h))
     room sound false h = inr (inl (no_room capture list sound h))
 
     go : (v : Verdict) → (scan Strict capture).verdict ≡ v → CReading capture list
-    go (verdicts.Refused r) e =
+    go (Err r) e =
         inl
         (record {
           refusal = r;
@@ -138,7 +136,7 @@ c_reading capture list = go (scan Strict capture).verdict refl
           result = unless-refused _ _ _ e;
           kept = unless-refused _ _ _ e;
         })
-    go verdicts.Sound e = room e (has_room (image (processors (madt_found Strict capture))) list) refl
+    go (Ok tt) e = room e (has_room (image (processors (madt_found Strict capture))) list) refl
 
 pub read_back : (list : List ℕ) → ReadBack list
 unfolding image four_bytes

@@ -7,15 +7,12 @@ use mathlib.Core.List.{List}
 use mathlib.Core.Bool.{Bool, true, false, not, true≢false}
 use borrow.Author.Tests.{leb-true, leb-false, lt-leb, eqb-true, eqb-false, ne_eqb, not-true, not-false}
 use lib.Dec.{eqb, leb}
-use Rattle.words.specs.Refusals.{refused, refused_with, first_refusal}
+use Rattle.words.specs.Refusals.{Verdict, refused, refused_with, first_refusal}
 use Rattle.words.specs.declared.Refusal.{Refusal}
-use Rattle.words.specs.declared.Verdict.{Verdict}
-use Rattle.words.specs.declared.Verdict.TheVariants.{Sound, Refused}
 use Rattle.words.proofs.Verdicts.{not_sound, same_refusal, unless-refused, unless_sound, first_none, first_broken_lem, first_kept, joined-refused, joined_sound}
 use Rattle.tables.specs.Survey.{wrong_madt_revision, wrong_flags, madt_field_rules, with_sci, tables_from, tables_of, rules_before_29, survey_rules, survey}
 use Rattle.tables.specs.declared.Strictness.{Strictness}
 use Rattle.tables.specs.declared.Strictness.TheVariants.{Ordinary, Strict}
-use Rattle.tables.specs.declared.Survey.TheVariants as surveys
 use Rattle.tables.proofs.Inside.{kept_inside}
 use Rattle.map_promises.specs.Clashing.{OnePlace, Exactly}
 use Rattle.reading.specs.Scan.{turned_down, rules_before_51, all_rules, scan}
@@ -28,6 +25,7 @@ use Rattle.promises.proofs.Told.{Told, is_before_29, is_after_30, told_wider, te
 use Rattle.promises.proofs.TableRefusals.{stands, before_29_told}
 use Rattle.promises.proofs.EveryRefusal.{rules_from_31, after_30_told}
 use Rattle.promises.proofs.RefusedExactlyForSharing.{of_scan}
+use Rattle.std.specs.Prelude.{Ok, Err}
 
 -- ---- rule 29 in numbers
 not_taken : (strictness : Strictness) (n : ℕ) → wrong_madt_revision strictness n ≡ true → Takes strictness n → ⊥
@@ -73,9 +71,9 @@ module _ (strictness : Strictness) (capture : List ℕ) where
   is_wrong = wrong_madt_revision strictness (madt_revision capture)
 
   -- 1 to 28 come first
-  pub refused_before : {r : Refusal} → first_refusal (rules_before_29 capture) ≡ Refused r → scan strictness capture ≡ turned_down r
+  pub refused_before : {r : Refusal} → first_refusal (rules_before_29 capture) ≡ Err r → scan strictness capture ≡ turned_down r
   unfolding survey survey_rules
-  refused_before h = scan-refused strictness capture (joined-refused surveys.Refused (rules_before_29 capture) _ _ h)
+  refused_before h = scan-refused strictness capture (joined-refused Err (rules_before_29 capture) _ _ h)
 
   module _ (kept : KeepsTo28 capture) where
     -- then 29
@@ -83,21 +81,21 @@ module _ (strictness : Strictness) (capture : List ℕ) where
     unfolding survey survey_rules madt_field_rules tables_of tables_from with_sci
     refused_29 h =
         scan-refused strictness capture
-        (joined_sound surveys.Refused (rules_before_29 capture) _ _ kept ∙ unless-refused _ _ _ (first_broken_lem _ 29 _ _ h))
+        (joined_sound Err (rules_before_29 capture) _ _ kept ∙ unless-refused _ _ _ (first_broken_lem _ 29 _ _ h))
 
     -- then 30,
     refused_30 : is_wrong ≡ false → wrong_flags capture (tables_of capture).madt ≡ true → scan strictness capture ≡ turned_down (refused 30 (madt_place capture))
     unfolding survey survey_rules madt_field_rules tables_of tables_from with_sci
     refused_30 h flags =
         scan-refused strictness capture
-        (joined_sound surveys.Refused (rules_before_29 capture) _ _ kept
+        (joined_sound Err (rules_before_29 capture) _ _ kept
         ∙ unless-refused _ _ _ (first_kept _ 29 _ _ h (first_broken_lem _ 30 _ _ flags)))
 
     -- and what comes after it
-    found_after : is_wrong ≡ false → wrong_flags capture (tables_of capture).madt ≡ false → survey strictness capture ≡ surveys.Found (tables_of capture)
+    found_after : is_wrong ≡ false → wrong_flags capture (tables_of capture).madt ≡ false → survey strictness capture ≡ Ok (tables_of capture)
     unfolding survey survey_rules madt_field_rules tables_of tables_from with_sci
     found_after h flags =
-        joined_sound surveys.Refused (rules_before_29 capture) _ _ kept
+        joined_sound Err (rules_before_29 capture) _ _ kept
         ∙ unless_sound _ _ _ (first_kept _ 29 _ _ h (first_kept _ 30 _ _ flags first_none))
 
     told_after : is_wrong ≡ false → Told is_from_30 capture (scan strictness capture).verdict
@@ -112,7 +110,7 @@ module _ (strictness : Strictness) (capture : List ℕ) where
             rw (found_verdict strictness capture (found_after h flags))
             (told_wider is_after_30 is_from_30 from_30 capture (first_refusal (rules_from_31 capture (tables_of capture))) (after_30_told capture (tables_of capture) i (stands i.madt (omega arith), stands i.fadt (omega arith))))
 
-    from_29 : {r : Refusal} → (scan strictness capture).verdict ≡ Refused r → 29 ≤ r.number
+    from_29 : {r : Refusal} → (scan strictness capture).verdict ≡ Err r → 29 ≤ r.number
     unfolding turned_down
     from_29 {r} told = go is_wrong refl
       where
@@ -143,8 +141,8 @@ unfolding turned_down
 differ_by_29 capture = by_revision (madt_revision capture) refl
   where
     by_verdict : (n : ℕ) → madt_revision capture ≡ suc (suc n) → (v : Verdict) → first_refusal (rules_before_29 capture) ≡ v → DifferBy29 capture
-    by_verdict n e (Refused r) h = inl (equal_answers capture (refused_before Ordinary capture h ∙ sym (refused_before Strict capture h)))
-    by_verdict n e Sound kept =
+    by_verdict n e (Err r) h = inl (equal_answers capture (refused_before Ordinary capture h ∙ sym (refused_before Strict capture h)))
+    by_verdict n e (Ok tt) kept =
         inr
         (record {
           before = kept;
@@ -177,7 +175,7 @@ unfolding turned_down
 twenty_nine_exactly strictness capture = record { scanned = scanned; read = λ list. of_scan strictness capture list 29 (omega arith) scanned }
   where
     Told29 : ℕ → ℕ → Type 0
-    Told29 p q = (scan strictness capture).verdict ≡ Refused (refused_with 29 p q)
+    Told29 p q = (scan strictness capture).verdict ≡ Err (refused_with 29 p q)
 
     by_rule : (p q : ℕ) → Told29 p q → KeepsTo28 capture → (b : Bool) → wrong_madt_revision strictness (madt_revision capture) ≡ b
         → Breaks29 strictness capture × OnePlace (λ p. p ≡ madt_place capture) p q
@@ -188,8 +186,8 @@ twenty_nine_exactly strictness capture = record { scanned = scanned; read = λ l
 
     by_verdict : (p q : ℕ) → Told29 p q → (v : Verdict) → first_refusal (rules_before_29 capture) ≡ v
         → Breaks29 strictness capture × OnePlace (λ p. p ≡ madt_place capture) p q
-    by_verdict p q told Sound kept = by_rule p q told kept (wrong_madt_revision strictness (madt_revision capture)) refl
-    by_verdict p q told (Refused r) h =
+    by_verdict p q told (Ok tt) kept = by_rule p q told kept (wrong_madt_revision strictness (madt_revision capture)) refl
+    by_verdict p q told (Err r) h =
         let same : r ≡ refused_with 29 p q = same_refusal (ap (λ (s : Scan). s.verdict) (sym (refused_before strictness capture h)) ∙ told) in
         absurd (true≢false (sym (rw h at (before_29_told capture)).1 ∙ ap (λ (x : Refusal). is_before_29 x.number) same))
 

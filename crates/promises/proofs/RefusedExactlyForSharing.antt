@@ -9,7 +9,6 @@ use borrow.Author.Tests.{ne_eqb}
 use lib.Dec.{eqb}
 use Rattle.words.specs.Refusals.{refused_with, first_refusal}
 use Rattle.words.specs.declared.Refusal.{Refusal}
-use Rattle.words.specs.declared.Verdict.TheVariants.{Sound, Refused}
 use Rattle.words.proofs.Verdicts.{rule_sound, unless-refused, unless_sound, first-joined}
 use Rattle.tables.specs.declared.Tables.{Tables}
 use Rattle.capture.proofs.Pins.{pins_in_range}
@@ -27,15 +26,15 @@ use Rattle.map_promises.proofs.Clashing.{node_exactly, lone-exactly, bridge_exac
 use Rattle.map_promises.proofs.WalkKeepsBooks.{walk_keeps_books}
 use Rattle.reading.specs.Scan.{madt_bytes, walk_of, processor_rule, scan}
 use Rattle.reading.specs.Reading.{without_map, reading_of}
-use Rattle.reading.specs.declared.Answer.TheVariants.{Refused as NotRead}
 use Rattle.reading.specs.declared.Reading.{Reading}
 use Rattle.reading.proofs.Laws.{repeat_none, map_judged}
 use Rattle.reading.proofs.Scanned.{found_verdict}
 use Rattle.promises.specs.Captures.{NothingBefore41, NothingBefore43, NothingBefore44, NothingBefore45, NothingBefore51, RefusedExactlyForSharing, ReadRefusedExactlyForSharing}
 use Rattle.promises.proofs.WhyRefused.{why_refused}
+use Rattle.std.specs.Prelude.{Ok, Err}
 
 -- 40: some processor is enabled
-pub enabled : (base n : ℕ) → (n ≡ 0 → ⊥) → processor_rule base n ≡ Sound
+pub enabled : (base n : ℕ) → (n ≡ 0 → ⊥) → processor_rule base n ≡ Ok tt
 unfolding processor_rule
 enabled base n h = rule_sound (eqb n 0) 40 base (ne_eqb n 0 h)
 
@@ -69,7 +68,7 @@ module _ (strictness : Strictness) (capture : List ℕ) (t : Tables) where
 
     -- what is told of the map is told of the capture
     of_map_told : (n : ℕ) {broken : Type 0} {named : ℕ → ℕ → Type 0} → Exactly (RefusedWith map places t.madt.place t.fadt.place n) broken named
-        → Exactly (λ p q. (scan strictness capture).verdict ≡ Refused (refused_with n p q)) broken named
+        → Exactly (λ p q. (scan strictness capture).verdict ≡ Err (refused_with n p q)) broken named
     of_map_told n e = ((λ p q r. e.0 p q (sym of_map ∙ r)), λ b. let w = e.1 b in (w.0, w.1, of_map ∙ w.2))
 
   to_42 : NothingBefore43 strictness capture t → KeepsTo42 map places t.madt.place
@@ -107,8 +106,8 @@ refused_exactly_for_sharing strictness capture t =
 
 -- a refusal of the reading that is not 60 is the scan's
 pub of_scan : (strictness : Strictness) (capture list : List ℕ) (n : ℕ) → n < 60 → {broken : Type 0} {at : ℕ → ℕ → Type 0}
-    → Exactly (λ p q. (scan strictness capture).verdict ≡ Refused (refused_with n p q)) broken at
-    → Exactly (λ p q. (reading_of strictness capture list).answer ≡ NotRead (refused_with n p q)) broken at
+    → Exactly (λ p q. (scan strictness capture).verdict ≡ Err (refused_with n p q)) broken at
+    → Exactly (λ p q. (reading_of strictness capture list).answer ≡ Err (refused_with n p q)) broken at
 unfolding reading_of without_map
 of_scan strictness capture list n l e = (
   (λ p q r.

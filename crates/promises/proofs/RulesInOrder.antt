@@ -1,17 +1,15 @@
 -- "A capture that breaks no earlier rule": none of the rules that stand before 51 in the one list refuses, exactly where each of
 -- them is kept.
+use Rattle.std.proofs.Common.{Option, Some, None}
 use Prim.Native.Nat.{ℕ}
 use mathlib.Core.Path.{◌≡◌, refl, sym, ◌∙◌, ap}
 use mathlib.Core.List.{List, ◌∷◌}
 use borrow.Author.Tests.{eqb-false}
 use lib.Dec.{eqb}
-use Rattle.words.specs.Refusals.{first_refusal}
-use Rattle.words.specs.declared.Verdict.{Verdict}
-use Rattle.words.specs.declared.Verdict.TheVariants.{Sound}
+use Rattle.words.specs.Refusals.{Verdict, first_refusal}
 use Rattle.words.proofs.Verdicts.{not_sound, rule_kept, unless_sound, first_alone, first-joined, joined_kept, each_sound}
 use Rattle.tables.specs.Survey.{tables_of, survey_rules, survey}
 use Rattle.tables.specs.declared.Tables.{Tables}
-use Rattle.tables.specs.declared.Survey.TheVariants as surveys
 use Rattle.tables.proofs.Inside.{survey-told, survey-is}
 use Rattle.tables.specs.declared.Strictness.{Strictness}
 use Rattle.lines.specs.Says.{says}
@@ -20,21 +18,20 @@ use Rattle.madt.specs.Walk.{walk_rules}
 use Rattle.madt.proofs.Accepted.{walk_verdict}
 use Rattle.processors.specs.Listing.{count}
 use Rattle.processors.specs.Repeats.{first_repeat}
-use Rattle.processors.specs.declared.Repeat.{Repeat}
-use Rattle.processors.specs.declared.Repeat.TheVariants.{At, Nowhere}
 use Rattle.reading.specs.Scan.{madt_bytes, walk_of, repeat_rule, processor_rule, madt_rules, rules_before_51}
 use Rattle.reading.proofs.Laws.{repeat_none}
 use Rattle.promises.specs.Captures.{NothingBefore51, NotRefusedBefore51, RulesInOrder}
 use Rattle.promises.proofs.RefusedExactlyForSharing.{enabled}
+use Rattle.std.specs.Prelude.{Ok, Err}
 
 -- 39
-pub no_repeat : (base : ℕ) (r : Repeat) → repeat_rule base r ≡ Sound → r ≡ Nowhere
+pub no_repeat : (base : ℕ) (r : Option ℕ) → repeat_rule base r ≡ Ok tt → r ≡ None
 unfolding repeat_rule
-no_repeat base Nowhere h = refl
-no_repeat base (At offset) h = not_sound h
+no_repeat base None h = refl
+no_repeat base (Some offset) h = not_sound h
 
 -- 40, of the processors
-some_core : (base n : ℕ) → processor_rule base n ≡ Sound → n ≡ 0 → ⊥
+some_core : (base n : ℕ) → processor_rule base n ≡ Ok tt → n ≡ 0 → ⊥
 unfolding processor_rule
 some_core base n h = eqb-false n 0 (rule_kept (eqb n 0) 40 base h)
 
@@ -47,7 +44,7 @@ module _ (strictness : Strictness) (capture : List ℕ) (t : Tables) where
       ∷ processor_rule t.madt.place (count table)
       ∷ rules_to_45 (says found.map) found.places t.madt.place
 
-  of_madt : survey strictness capture ≡ surveys.Found t → first_refusal (madt_rules capture t) ≡ Sound → NothingBefore51 strictness capture t
+  of_madt : survey strictness capture ≡ Ok t → first_refusal (madt_rules capture t) ≡ Ok tt → NothingBefore51 strictness capture t
   unfolding madt_rules rules_to_45
   of_madt tables h =
       let kept = joined_kept (walk_rules (madt_bytes capture t.madt) t.madt.place) after_walk h in
@@ -73,7 +70,7 @@ module _ (strictness : Strictness) (capture : List ℕ) (t : Tables) where
         r45 = each 7;
       }
 
-  to_madt : NothingBefore51 strictness capture t → first_refusal (madt_rules capture t) ≡ Sound
+  to_madt : NothingBefore51 strictness capture t → first_refusal (madt_rules capture t) ≡ Ok tt
   unfolding madt_rules rules_to_45 first_refusal
   to_madt h =
       let to42 = h.to44.to43.to42 in
@@ -94,7 +91,7 @@ unfolding rules_before_51 survey
 breaks_none strictness capture h =
     let t = tables_of capture in
     let kept = joined_kept (survey_rules strictness capture) (madt_rules capture t) h in
-    (t, of_madt strictness capture t (unless_sound surveys.Refused _ _ kept.0) kept.1)
+    (t, of_madt strictness capture t (unless_sound Err _ _ kept.0) kept.1)
 
 not_before : (strictness : Strictness) (capture : List ℕ) (t : Tables) → NothingBefore51 strictness capture t → NotRefusedBefore51 strictness capture
 unfolding rules_before_51

@@ -7,9 +7,7 @@ use lib.Dec.{leb}
 use lib.ListN.{length}
 use borrow.Author.Tests.{not-false}
 use Rattle.words.specs.Lists.{numbers_below}
-use Rattle.words.specs.Refusals.{first_refusal}
-use Rattle.words.specs.declared.Verdict.{Verdict}
-use Rattle.words.specs.declared.Verdict.TheVariants as verdicts
+use Rattle.words.specs.Refusals.{Verdict, first_refusal}
 use Rattle.words.proofs.Choices.{if_cases}
 use Rattle.capture.specs.Fields.{rsdp_address}
 use Rattle.capture.specs.Rules.{container_rules, verdict}
@@ -21,14 +19,13 @@ use Rattle.tables.specs.Xsdt.{entry_count, entry_field, entries, xsdt_rules, ent
 use Rattle.tables.specs.Finder.{names, named_from, first_named, named_after, second_named}
 use Rattle.tables.specs.Survey.{apic, facp, earlier, second_rule, name_rules, length_rules, madt_field_rules, with_sci, madt_of, fadt_of, tables_from, xsdt_of, tables_of, rules_before_29, survey_rules, survey}
 use Rattle.tables.specs.declared.Table.{Table}
-use Rattle.tables.specs.declared.Entry.{Entry}
-use Rattle.tables.specs.declared.Entry.TheVariants.{At, Nowhere}
-use Rattle.tables.specs.declared.Survey.{Survey}
-use Rattle.tables.specs.declared.Survey.TheVariants.{Found, Refused}
 use Rattle.tables.proofs.Inside.{Lies, named_inside, both_inside, kept_inside, tables_inside, survey-told as told-by}
 use Rattle.tables.specs.declared.Strictness.{Strictness}
 use Rattle.promises.proofs.Told.{OfTheRules, Told, is_of_capture, is_of_tables, is_before_29, is_29_or_30, is_to_30, told_left, told_right, Inside, tell, none_told, more_told, rule_told, joined-told, each-told, search_told}
 use Rattle.promises.proofs.CaptureRefusals.{container_told, presence_told}
+use Rattle.std.specs.Prelude.{Result, Option, Ok, Err, Some, None}
+use Rattle.words.specs.declared.Refusal.{Refusal}
+use Rattle.tables.specs.declared.Tables.{Tables}
 
 -- a table that lies inside the capture stands there
 pub stands : {capture : List ℕ} {table : Table} {least : ℕ} → Lies capture table least → 0 < least → Inside capture table.place
@@ -83,34 +80,34 @@ module _ (capture : List ℕ) (sound : Sound capture) (xsdt : Table) (lies : Lie
       (λ k l h. table_told capture (entry_field xsdt k) sound (field_at k (omega arith)))
 
   -- what the finder finds is one of the entries
-  abbrev Counted : Entry → Type 0
-  Counted Nowhere = 0 < 1
-  Counted (At entry) = entry < entry_count xsdt
+  abbrev Counted : Option ℕ → Type 0
+  Counted None = 0 < 1
+  Counted (Some entry) = entry < entry_count xsdt
 
   from_counted : (letters from : ℕ) → Counted (named_from capture xsdt letters from)
   unfolding named_from
   from_counted letters from =
-      search_told Counted (names capture xsdt letters) At Nowhere from (entry_count xsdt - from) (λ i l h t. omega arith) (omega arith)
+      search_told Counted (names capture xsdt letters) Some None from (entry_count xsdt - from) (λ i l h t. omega arith) (omega arith)
 
   second_counted : (letters : ℕ) → Counted (second_named capture xsdt letters)
   unfolding second_named named_after
   second_counted letters = go (first_named capture xsdt letters)
     where
-      go : (e : Entry) → Counted (named_after capture xsdt letters e)
-      go Nowhere = omega arith
-      go (At entry) = from_counted letters (entry + 1)
+      go : (e : Option ℕ) → Counted (named_after capture xsdt letters e)
+      go None = omega arith
+      go (Some entry) = from_counted letters (entry + 1)
 
-  earlier_counted : (e f : Entry) → Counted e → Counted f → Counted (earlier e f)
+  earlier_counted : (e f : Option ℕ) → Counted e → Counted f → Counted (earlier e f)
   unfolding earlier
-  earlier_counted Nowhere f p q = q
-  earlier_counted (At entry) Nowhere p q = p
-  earlier_counted (At entry) (At other) p q = if_cases Counted (leb entry other) _ _ (λ t. p) (λ t. q)
+  earlier_counted None f p q = q
+  earlier_counted (Some entry) None p q = p
+  earlier_counted (Some entry) (Some other) p q = if_cases Counted (leb entry other) _ _ (λ t. p) (λ t. q)
 
   -- 27
-  second_told : (e : Entry) → Counted e → Told is_of_tables capture (second_rule xsdt e)
+  second_told : (e : Option ℕ) → Counted e → Told is_of_tables capture (second_rule xsdt e)
   unfolding second_rule
-  second_told Nowhere p = omega arith
-  second_told (At entry) p = tell is_of_tables capture 27 (entry_field xsdt entry) (refl, refl, refl, refl) (field_at entry p)
+  second_told None p = omega arith
+  second_told (Some entry) p = tell is_of_tables capture 27 (entry_field xsdt entry) (refl, refl, refl, refl) (field_at entry p)
 
   -- 26 and 27
   names-told : Told is_of_tables capture (first_refusal (name_rules capture xsdt))
@@ -141,7 +138,7 @@ fields_told strictness capture madt m =
     (λ t. none_told is_29_or_30 capture))
 
 -- ---- all of them in turn
-rsdp_inside : (capture : List ℕ) → Sound capture → first_refusal (presence_rules capture) ≡ verdicts.Sound
+rsdp_inside : (capture : List ℕ) → Sound capture → first_refusal (presence_rules capture) ≡ Ok tt
     → (0 < rsdp_place capture) × (rsdp_place capture + rsdp_size ≤ length capture)
 rsdp_inside capture sound h =
     let there = rsdp_there capture h in
@@ -197,15 +194,15 @@ rules-told strictness capture =
     (λ kept. told_right is_before_29 is_29_or_30 capture (first_refusal (madt_field_rules strictness capture madt))
     (fields_told strictness capture madt (stands (kept_inside capture kept).madt (omega arith))))
 
-abbrev pub SurveyTold : List ℕ → Survey → Type 0
-SurveyTold capture (Found t) = Inside capture t.madt.place × Inside capture t.fadt.place
-SurveyTold capture (Refused r) = OfTheRules is_to_30 capture r
+abbrev pub SurveyTold : List ℕ → Result Tables Refusal → Type 0
+SurveyTold capture (Ok t) = Inside capture t.madt.place × Inside capture t.fadt.place
+SurveyTold capture (Err r) = OfTheRules is_to_30 capture r
 
 pub survey-told : (strictness : Strictness) (capture : List ℕ) → SurveyTold capture (survey strictness capture)
 survey-told strictness capture = go (survey strictness capture) refl
   where
-    go : (s : Survey) → survey strictness capture ≡ s → SurveyTold capture s
-    go (Refused r) e = rw (told-by strictness capture e) at (rules-told strictness capture)
-    go (Found t) e =
+    go : (s : Result Tables Refusal) → survey strictness capture ≡ s → SurveyTold capture s
+    go (Err r) e = rw (told-by strictness capture e) at (rules-told strictness capture)
+    go (Ok t) e =
         let l = tables_inside strictness capture t e in
         (stands l.madt (omega arith), stands l.fadt (omega arith))

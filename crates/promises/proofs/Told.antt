@@ -10,15 +10,14 @@ use lib.Dec.{eqb}
 use lib.ListN.{length}
 use Rattle.words.specs.Lists.{first, in_each, numbers_from}
 use Rattle.words.specs.Choice.{if}
-use Rattle.words.specs.Refusals.{refused, refused_with, rule, unless, first_refusal}
+use Rattle.words.specs.Refusals.{Verdict, refused, refused_with, rule, unless, first_refusal}
 use Rattle.words.specs.declared.Refusal.{Refusal}
-use Rattle.words.specs.declared.Verdict.{Verdict}
-use Rattle.words.specs.declared.Verdict.TheVariants.{Sound, Refused}
 use Rattle.clashes.specs.Folds.{fold}
 use Rattle.clashes.proofs.Logic.{left_true, right_true}
 use Rattle.words.proofs.Choices.{if_cases}
 use Rattle.words.proofs.Verdicts.{first_none, first-joined}
 use Rattle.promises.specs.RefusalTable.{among, is_refusal_number, is_placeless, is_twofold, OfTheTable}
+use Rattle.std.specs.Prelude.{Ok, Err}
 
 -- a refusal of the table with a number that some rules have as their own
 abbrev pub OfTheRules : (ℕ → Bool) → List ℕ → Refusal → Type 0
@@ -26,8 +25,8 @@ OfTheRules own capture r = OfTheTable capture r × (own r.number ≡ true)
 
 -- a verdict that refuses nothing, or with such a refusal
 abbrev pub Told : (ℕ → Bool) → List ℕ → Verdict → Type 0
-Told own capture Sound = 0 < 1
-Told own capture (Refused r) = OfTheRules own capture r
+Told own capture (Ok tt) = 0 < 1
+Told own capture (Err r) = OfTheRules own capture r
 
 -- ---- whose numbers they are: of the capture, of the tables before 29, 29 and 30, those of a structure, 34 of all structures, 39, and
 -- those after it
@@ -75,8 +74,8 @@ is_not m n = not (eqb n m)
 -- what some rules tell is told by more of them
 pub told_wider : (own more : ℕ → Bool) → ((n : ℕ) → own n ≡ true → more n ≡ true) → (capture : List ℕ) (v : Verdict)
     → Told own capture v → Told more capture v
-told_wider own more wider capture Sound told = told
-told_wider own more wider capture (Refused r) told = (told.0, wider r.number told.1)
+told_wider own more wider capture (Ok tt) told = told
+told_wider own more wider capture (Err r) told = (told.0, wider r.number told.1)
 
 pub told_left : (own more : ℕ → Bool) (capture : List ℕ) (v : Verdict) → Told own capture v → Told (λ n. own n || more n) capture v
 told_left own more = told_wider own (λ n. own n || more n) (λ n h. left_true (own n) (more n) h)
@@ -88,7 +87,7 @@ pub told-not : (m : ℕ) (own : ℕ → Bool) → own m ≡ false → (capture :
 told-not m own h = told_wider own (is_not m) (λ n t. ap not (ne_eqb n m (λ e. true≢false (sym t ∙ ap own e ∙ h))))
 
 -- and so a refusal of others does not have it
-pub not-told : (m : ℕ) (own : ℕ → Bool) → own m ≡ false → (capture : List ℕ) {v : Verdict} {r : Refusal} → Told own capture v → v ≡ Refused r
+pub not-told : (m : ℕ) (own : ℕ → Bool) → own m ≡ false → (capture : List ℕ) {v : Verdict} {r : Refusal} → Told own capture v → v ≡ Err r
     → r.number ≡ m → ⊥
 not-told m own h capture told e same = true≢false (sym (rw e at told).1 ∙ ap own same ∙ h)
 
@@ -126,16 +125,16 @@ tell_none capture n named = record { number = named.0; place = inl (named.1, ref
 
 -- ---- rules in turn
 module _ (own : ℕ → Bool) (capture : List ℕ) where
-  turn_told : (v later : Verdict) → Told own capture v → (v ≡ Sound → Told own capture later) → Told own capture (unless Refused v later)
+  turn_told : (v later : Verdict) → Told own capture v → (v ≡ Ok tt → Told own capture later) → Told own capture (unless Err v later)
   unfolding unless
-  turn_told Sound later here after = after refl
-  turn_told (Refused r) later here after = here
+  turn_told (Ok tt) later here after = after refl
+  turn_told (Err r) later here after = here
 
   -- no rule, and one more
   pub none_told : Told own capture (first_refusal [])
   none_told = rw first_none (omega arith)
 
-  pub more_told : (v : Verdict) (later : List Verdict) → Told own capture v → (v ≡ Sound → Told own capture (first_refusal later))
+  pub more_told : (v : Verdict) (later : List Verdict) → Told own capture v → (v ≡ Ok tt → Told own capture (first_refusal later))
       → Told own capture (first_refusal (v ∷ later))
   unfolding first_refusal
   more_told v later = turn_told v (first_refusal later)
@@ -147,7 +146,7 @@ module _ (own : ℕ → Bool) (capture : List ℕ) where
   rule_told false n place later here after = after refl
 
   -- one list behind another
-  pub joined-told : (xs ys : List Verdict) → Told own capture (first_refusal xs) → (first_refusal xs ≡ Sound → Told own capture (first_refusal ys))
+  pub joined-told : (xs ys : List Verdict) → Told own capture (first_refusal xs) → (first_refusal xs ≡ Ok tt → Told own capture (first_refusal ys))
       → Told own capture (first_refusal (xs ++ ys))
   joined-told xs ys here after = rw (first-joined xs ys) (turn_told (first_refusal xs) (first_refusal ys) here after)
 

@@ -6,8 +6,7 @@ use mathlib.Core.List.{List, [], ◌∷◌, ◌++◌}
 use mathlib.Core.Bool.{Bool, true}
 use lib.ListN.{length}
 use Rattle.words.specs.Bytes.{byte_at}
-use Rattle.words.specs.Refusals.{rule, first_refusal}
-use Rattle.words.specs.declared.Verdict.{Verdict}
+use Rattle.words.specs.Refusals.{Verdict, rule, first_refusal}
 use Rattle.madt.specs.Rules.{structure_rules}
 use Rattle.madt.specs.Pieces.{Piece, whole, cut, Whole, pieces, structures}
 use Rattle.madt.specs.Contents.{how_many}

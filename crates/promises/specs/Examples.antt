@@ -1,10 +1,8 @@
 -- Document 01, "Board A and its neighbours": the twelve examples, and that board A is read. All of it is computed from the
 -- bytes of the board by the definitions that the contracts cite. By W-202 of document 02 the last three tell more.
-use Rattle.std.specs.Prelude.{ℕ, true, List, [], ◌∷◌, map, ◌≡◌, replicate}
-use Rattle.words.specs.Refusals.{refused, refused_with}
+use Rattle.std.specs.Prelude.{ℕ, true, List, [], ◌∷◌, map, ◌≡◌, replicate, Result, Ok, Err}
+use Rattle.words.specs.Refusals.{Verdict, refused, refused_with}
 use Rattle.words.specs.declared.Refusal.{Refusal}
-use Rattle.words.specs.declared.Verdict.{Verdict}
-use Rattle.words.specs.declared.Verdict.TheVariants as verdicts
 use Rattle.kinds.specs.Used.{no_ht, no_eio, no_bio, no_msi}
 use Rattle.tables.specs.declared.Strictness.{Strictness}
 use Rattle.lines.specs.Answers.{route_of, trace_of}
@@ -16,7 +14,6 @@ use Rattle.lines.specs.declared.Trace.TheVariants.{Nothing, LpcCascade, MsiSlot}
 use Rattle.reading.specs.Scan.{scan}
 use Rattle.reading.specs.Reading.{reading_of, list_after}
 use Rattle.reading.specs.Entries.{read_result, bytes_after}
-use Rattle.reading.specs.declared.Answer.TheVariants.{Read}
 use Rattle.text.specs.Numerals.{letters}
 use Rattle.text.specs.Text.{text_of}
 use Rattle.promises.specs.BoardA.{board_a, msi_from_63, msi_to_257, eio_at_2}
@@ -30,8 +27,8 @@ pub data Question : Type 0 where
 
 -- what is answered
 pub data Told : Type 0 where
-  routed : Route → Told
-  traced : Trace → Told
+  routed : Result Route Refusal → Told
+  traced : Result Trace Refusal → Told
   judged : Verdict → Told
 
 -- what the definitions say
@@ -52,19 +49,19 @@ abbrev pub answer : Example → Told
 answer (asked is given) = given
 
 abbrev pub is_refused : Refusal → Told
-is_refused refusal = judged (verdicts.Refused refusal)
+is_refused refusal = judged (Err refusal)
 
 unfoldable pub twelve : List Example
 twelve =
-    (number 72 is routed (Arrives 3 8))
-    ∷ (number 26 is routed (Arrives 2 10))
-    ∷ (number 3 is routed (Arrives 3 19))
-    ∷ (number 45 is routed Unwired)
-    ∷ (number 50 is routed NoOwner)
-    ∷ (number 128 is routed NoOwner)
-    ∷ (arrival 3 19 is traced (LpcCascade 83))
-    ∷ (arrival 3 64 is traced (MsiSlot 0 64))
-    ∷ (arrival 2 24 is traced Nothing)
+    (number 72 is routed (Ok (Arrives 3 8)))
+    ∷ (number 26 is routed (Ok (Arrives 2 10)))
+    ∷ (number 3 is routed (Ok (Arrives 3 19)))
+    ∷ (number 45 is routed (Ok Unwired))
+    ∷ (number 50 is routed (Ok NoOwner))
+    ∷ (number 128 is routed (Ok NoOwner))
+    ∷ (arrival 3 19 is traced (Ok (LpcCascade 83)))
+    ∷ (arrival 3 64 is traced (Ok (MsiSlot 0 64)))
+    ∷ (arrival 2 24 is traced (Ok Nothing))
     ∷ (neighbour msi_from_63 is is_refused (refused_with 52 262 243))
     ∷ (neighbour msi_to_257 is is_refused (refused 75 243))
     ∷ (neighbour eio_at_2 is is_refused (refused_with 53 230 207))
@@ -99,8 +96,8 @@ map_of_a =
     }
 
 pub record BoardAIsRead (strictness : Strictness) : Type 0 where
-  pub accepted : (scan strictness board_a).verdict ≡ verdicts.Sound
-  pub reading : reading_of strictness board_a (old ∷ old ∷ old ∷ old ∷ old ∷ []) ≡ record { answer = Read 2; map = map_of_a }
+  pub accepted : (scan strictness board_a).verdict ≡ Ok tt
+  pub reading : reading_of strictness board_a (old ∷ old ∷ old ∷ old ∷ old ∷ []) ≡ record { answer = Ok 2; map = map_of_a }
   pub list : list_after strictness board_a (old ∷ old ∷ old ∷ old ∷ old ∷ []) ≡ 0 ∷ 0 ∷ 1 ∷ 1 ∷ old ∷ []
   -- and by the C entry
   pub result : read_result board_a (replicate 17 old_byte) ≡ 2

@@ -1,14 +1,12 @@
 -- W-206 of document 02: "10, 20 and 21 read the new meaning, as demand 2 does." Each of the three by itself, said of bytes of memory and
 -- not of segments that touch. Each statement stands alone and holds of every sound capture; proofs/Memory.antt has a theorem for it.
-use Rattle.std.specs.Prelude.{ℕ, ◌+◌, ◌<◌, List, ◌⊎◌, ◌≡◌}
+use Rattle.std.specs.Prelude.{ℕ, ◌+◌, ◌<◌, List, ◌⊎◌, ◌≡◌, Ok, Err}
 use Rattle.words.specs.Refusals.{refused}
 use Rattle.capture.specs.Fields.{rsdp_address}
 use Rattle.capture.specs.Presence.{rsdp_size, rsdp}
 use Rattle.capture.specs.Memory.{Stands, EveryByte, Missing}
-use Rattle.capture.specs.declared.Root.TheVariants as roots
 use Rattle.tables.specs.Table.{header_size, address_at, table_length, table_at}
 use Rattle.tables.specs.declared.Table.{Table}
-use Rattle.tables.specs.declared.Checked.TheVariants.{Is, Refused}
 
 -- some byte of a stretch lies in no segment
 abbrev pub Lacks : List ℕ → ℕ → ℕ → Type 0
@@ -17,15 +15,15 @@ Lacks capture address size = (k : ℕ) × (k < size) × Missing capture (address
 -- 10, "RSDP not present": exactly if it lacks a byte
 abbrev pub TenExactly : List ℕ → Type 0
 TenExactly capture =
-    (rsdp capture ≡ roots.Refused (refused 10 10) → Lacks capture (rsdp_address capture) rsdp_size)
-    × (Lacks capture (rsdp_address capture) rsdp_size → rsdp capture ≡ roots.Refused (refused 10 10))
+    (rsdp capture ≡ Err (refused 10 10) → Lacks capture (rsdp_address capture) rsdp_size)
+    × (Lacks capture (rsdp_address capture) rsdp_size → rsdp capture ≡ Err (refused 10 10))
 
 -- 20, "36-byte header not present", of the table that an address field names: exactly if the header lacks a byte
 abbrev pub TwentyExactly : List ℕ → Type 0
 TwentyExactly capture =
     (field : ℕ)
-    → (table_at capture field ≡ Refused (refused 20 field) → Lacks capture (address_at capture field) header_size)
-    × (Lacks capture (address_at capture field) header_size → table_at capture field ≡ Refused (refused 20 field))
+    → (table_at capture field ≡ Err (refused 20 field) → Lacks capture (address_at capture field) header_size)
+    × (Lacks capture (address_at capture field) header_size → table_at capture field ≡ Err (refused 20 field))
 
 -- its header is there, at a place, but by its length the table is "under 36 or not all present": it lacks a byte
 pub record CutShort (capture : List ℕ) (field place : ℕ) : Type 0 where
@@ -37,11 +35,11 @@ pub record CutShort (capture : List ℕ) (field place : ℕ) : Type 0 where
 abbrev pub TwentyOneExactly : List ℕ → Type 0
 TwentyOneExactly capture =
     (field place : ℕ)
-    → (table_at capture field ≡ Refused (refused 21 place) → CutShort capture field place)
-    × (CutShort capture field place → table_at capture field ≡ Refused (refused 21 place))
+    → (table_at capture field ≡ Err (refused 21 place) → CutShort capture field place)
+    × (CutShort capture field place → table_at capture field ≡ Err (refused 21 place))
 
 -- byte k of a table that is taken is the byte of memory k behind the address that names it
 abbrev pub TablesAreMemory : List ℕ → Type 0
 TablesAreMemory capture =
-    (field : ℕ) (table : Table) → table_at capture field ≡ Is table
+    (field : ℕ) (table : Table) → table_at capture field ≡ Ok table
     → (k : ℕ) → k < table.length → Stands capture (address_at capture field + k) (table.place + k)

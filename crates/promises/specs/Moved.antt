@@ -1,10 +1,8 @@
 -- W-213 of document 02, "Tables may move": "Makers rebuild the firmware and the tables shift." What is promised of two captures of one board,
 -- each by either reading. Each statement stands alone; proofs/Moved.antt has a theorem for it.
-use Rattle.std.specs.Prelude.{ℕ, ◌+◌, ◌*◌, ◌≤◌, true, false, List, ◌∷◌, ◌++◌, ◌⊎◌, ◌≡◌, length, take}
+use Rattle.std.specs.Prelude.{ℕ, ◌+◌, ◌*◌, ◌≤◌, true, false, List, ◌∷◌, ◌++◌, ◌⊎◌, ◌≡◌, length, take, Ok, Err}
 use Rattle.words.specs.Bytes.{number_at, part_at}
 use Rattle.words.specs.declared.Refusal.{Refusal}
-use Rattle.words.specs.declared.Verdict.{Verdict}
-use Rattle.words.specs.declared.Verdict.TheVariants.{Sound, Refused}
 use Rattle.capture.specs.Fields.{version}
 use Rattle.tables.specs.Survey.{tables_of}
 use Rattle.tables.specs.declared.Strictness.{Strictness}
@@ -19,7 +17,6 @@ use Rattle.processors.specs.Listing.{processors, count}
 use Rattle.reading.specs.Scan.{scan}
 use Rattle.reading.specs.Reading.{madt_found, reading_of, list_after}
 use Rattle.reading.specs.Entries.{read_result, bytes_after, route_result, trace_result}
-use Rattle.reading.specs.declared.Answer.TheVariants.{Read, Refused as NotRead}
 use Rattle.text.specs.Lines.{version_line}
 use Rattle.text.specs.Text.{text_of}
 use Rattle.promises.specs.BoardA.{board_a, board_a_moved}
@@ -28,6 +25,7 @@ use Rattle.promises.specs.Pairs.{HasPins}
 use Rattle.promises.specs.Processors.{madt_of}
 use Rattle.promises.specs.Readings.{madt_place, madt_revision, KeepsTo28}
 use Rattle.promises.specs.RefusalTable.{is_twofold}
+use Rattle.words.specs.Refusals.{Verdict}
 
 -- "SCI_INT is the 16 bits at 46", of the FADT that a capture's tables name
 abbrev pub sci_of : List ℕ → ℕ
@@ -70,7 +68,7 @@ pub record SameRead (this that : Strictness) (capture other list room : List ℕ
 
 abbrev pub ListsStay : Strictness → Strictness → List ℕ → List ℕ → Type 0
 ListsStay this that capture other =
-    OneBoard capture other → (list room : List ℕ) (n m : ℕ) → (reading_of this capture list).answer ≡ Read n → (reading_of that other room).answer ≡ Read m
+    OneBoard capture other → (list room : List ℕ) (n m : ℕ) → (reading_of this capture list).answer ≡ Ok n → (reading_of that other room).answer ≡ Ok m
     → SameRead this that capture other list room n m
 
 -- of the C entries: equal results, and equal bytes, where both lists are long enough
@@ -115,7 +113,7 @@ pub record MovedRefusal (here there : Tables) (r q : Refusal) : Type 0 where
 -- two verdicts: nothing is refused, or both refuse so
 abbrev pub ToldAlike : Tables → Tables → Verdict → Verdict → Type 0
 ToldAlike here there v w =
-    ((v ≡ Sound) × (w ≡ Sound)) ⊎ ((r : Refusal) × (q : Refusal) × (v ≡ Refused r) × (w ≡ Refused q) × MovedRefusal here there r q)
+    ((v ≡ Ok tt) × (w ≡ Ok tt)) ⊎ ((r : Refusal) × (q : Refusal) × (v ≡ Err r) × (w ≡ Err q) × MovedRefusal here there r q)
 
 -- "On revision 1 the two give equal answers": one reading of both captures; or one of each, and the MADT is of revision 1, as one is that the
 -- strict reading accepts
@@ -126,8 +124,8 @@ Comparable this that capture = (this ≡ that) ⊎ (madt_revision capture ≡ 1)
 pub record SameTold (this that : Strictness) (capture other : List ℕ) : Type 0 where
   pub scanned : ToldAlike (tables_of capture) (tables_of other) (scan this capture).verdict (scan that other).verdict
   -- and so are the reading's answers, whatever lists are lent, but for 60, which speaks of the list
-  pub read : (list room : List ℕ) (r : Refusal) → (reading_of this capture list).answer ≡ NotRead r → (r.number ≡ 60 → ⊥)
-      → (q : Refusal) × ((reading_of that other room).answer ≡ NotRead q) × MovedRefusal (tables_of capture) (tables_of other) r q
+  pub read : (list room : List ℕ) (r : Refusal) → (reading_of this capture list).answer ≡ Err r → (r.number ≡ 60 → ⊥)
+      → (q : Refusal) × ((reading_of that other room).answer ≡ Err q) × MovedRefusal (tables_of capture) (tables_of other) r q
 
 abbrev pub RefusedAlike : Strictness → Strictness → List ℕ → List ℕ → Type 0
 RefusedAlike this that capture other =

@@ -1,9 +1,8 @@
 -- W-201 of document 02: "A board has either HT or EIO", and 34 stands "after the walk and before 39, at the first structure that gives the
 -- board both kinds or a second HT". proofs/OneKind.antt has a theorem for it.
-use Rattle.std.specs.Prelude.{ℕ, ◌+◌, ◌≤◌, List, [], ◌∷◌, ◌++◌, ◌⊎◌, ◌≡◌}
+use Rattle.std.specs.Prelude.{ℕ, ◌+◌, ◌≤◌, List, [], ◌∷◌, ◌++◌, ◌⊎◌, ◌≡◌, Ok, Err}
 use Rattle.words.specs.Bytes.{byte_at}
 use Rattle.words.specs.Refusals.{refused_with, first_refusal}
-use Rattle.words.specs.declared.Verdict.TheVariants.{Sound, Refused}
 use Rattle.tables.specs.Survey.{survey_rules}
 use Rattle.tables.specs.declared.Strictness.{Strictness}
 use Rattle.madt.specs.Pieces.{Whole, pieces, structures}
@@ -12,7 +11,6 @@ use Rattle.madt.specs.Walk.{rules_in_turn}
 use Rattle.map_promises.specs.Clashing.{OnePlace, Exactly}
 use Rattle.reading.specs.Scan.{scan}
 use Rattle.reading.specs.Reading.{reading_of}
-use Rattle.reading.specs.declared.Answer.TheVariants.{Refused as NotRead}
 use Rattle.promises.specs.Processors.{madt_of}
 use Rattle.promises.specs.Readings.{madt_place}
 
@@ -43,7 +41,7 @@ pub record NamesMixed (base : ℕ) (all : List Whole) (p : ℕ) : Type 0 where
 -- no rule before 34 is broken: 1 to 30, and those of the structures in turn
 abbrev pub KeepsTo38InTurn : Strictness → List ℕ → Type 0
 KeepsTo38InTurn strictness capture =
-    first_refusal (survey_rules strictness capture ++ rules_in_turn (madt_place capture) [] (pieces (madt_of capture) 44)) ≡ Sound
+    first_refusal (survey_rules strictness capture ++ rules_in_turn (madt_place capture) [] (pieces (madt_of capture) 44)) ≡ Ok tt
 
 -- and the board has both kinds, or two HT
 abbrev pub Breaks34 : Strictness → List ℕ → Type 0
@@ -52,8 +50,8 @@ Breaks34 strictness capture = KeepsTo38InTurn strictness capture × Mixed (struc
 -- 34 is told exactly then, at the first such structure and with no second place: of what the capture is refused with, and of the reading's
 -- answer, whatever list it is lent
 pub record ThirtyFourExactly (strictness : Strictness) (capture : List ℕ) : Type 0 where
-  pub scanned : Exactly (λ p q. (scan strictness capture).verdict ≡ Refused (refused_with 34 p q)) (Breaks34 strictness capture)
+  pub scanned : Exactly (λ p q. (scan strictness capture).verdict ≡ Err (refused_with 34 p q)) (Breaks34 strictness capture)
       (OnePlace (NamesMixed (madt_place capture) (structures_of capture)))
   pub read : (list : List ℕ)
-      → Exactly (λ p q. (reading_of strictness capture list).answer ≡ NotRead (refused_with 34 p q)) (Breaks34 strictness capture)
+      → Exactly (λ p q. (reading_of strictness capture list).answer ≡ Err (refused_with 34 p q)) (Breaks34 strictness capture)
       (OnePlace (NamesMixed (madt_place capture) (structures_of capture)))

@@ -1,9 +1,8 @@
 -- W-212 of document 02, "Bridges with fewer pins": what is promised of the pairs of a capture, said of its bytes, and of the counts that
 -- they give to the map's bridges. Each statement stands alone, and holds in both readings; proofs/Pairs.antt has a theorem for it.
-use Rattle.std.specs.Prelude.{ℕ, ◌+◌, ◌*◌, ◌<◌, ◌≤◌, false, List, ◌⊎◌, ◌≡◌, length}
+use Rattle.std.specs.Prelude.{ℕ, ◌+◌, ◌*◌, ◌<◌, ◌≤◌, false, List, ◌⊎◌, ◌≡◌, length, Ok, Err}
 use Rattle.words.specs.Bytes.{byte_at}
 use Rattle.words.specs.Refusals.{refused_with, first_refusal}
-use Rattle.words.specs.declared.Verdict.TheVariants.{Sound, Refused}
 use Rattle.capture.specs.Fields.{version}
 use Rattle.capture.specs.Rules.{wrong_size, wrong_mark, wrong_version, wrong_count, wrong_total, segment_rules}
 use Rattle.tables.specs.declared.Strictness.{Strictness}
@@ -12,7 +11,6 @@ use Rattle.map_promises.specs.Sources.{bio_at}
 use Rattle.map_promises.specs.Clashing.{OnePlace, Exactly}
 use Rattle.reading.specs.Scan.{scan}
 use Rattle.reading.specs.Reading.{reading_of}
-use Rattle.reading.specs.declared.Answer.TheVariants.{Refused as NotRead}
 use Rattle.promises.specs.Captures.{Accepted}
 
 -- ---- "four pairs of bytes at 18 (hardware ID, number of inputs 1 to 64; a pair with number 0 is empty and its ID is free)"
@@ -34,7 +32,7 @@ pub record KeepsTo6 (capture : List ℕ) : Type 0 where
   pub r3 : wrong_version capture ≡ false
   pub r4 : wrong_count capture ≡ false
   pub r5 : wrong_total capture ≡ false
-  pub r6 : first_refusal (segment_rules capture) ≡ Sound
+  pub r6 : first_refusal (segment_rules capture) ≡ Ok tt
 
 -- pair k has a number over 64, or the ID that an earlier one gives
 abbrev pub Wrong : List ℕ → ℕ → Type 0
@@ -55,10 +53,10 @@ pub record FirstWrong (capture : List ℕ) (place : ℕ) : Type 0 where
 
 -- 7 is told exactly then, at the first: of what the capture is refused with, and of the reading's answer, whatever list it is lent
 pub record SevenExactly (strictness : Strictness) (capture : List ℕ) : Type 0 where
-  pub scanned : Exactly (λ p q. (scan strictness capture).verdict ≡ Refused (refused_with 7 p q))
+  pub scanned : Exactly (λ p q. (scan strictness capture).verdict ≡ Err (refused_with 7 p q))
       (KeepsTo6 capture × ((k : ℕ) × WrongPair capture k)) (OnePlace (FirstWrong capture))
   pub read : (list : List ℕ)
-      → Exactly (λ p q. (reading_of strictness capture list).answer ≡ NotRead (refused_with 7 p q))
+      → Exactly (λ p q. (reading_of strictness capture list).answer ≡ Err (refused_with 7 p q))
       (KeepsTo6 capture × ((k : ℕ) × WrongPair capture k)) (OnePlace (FirstWrong capture))
 
 -- ---- "The map's BIO gets this count": the bridges with a hardware ID have n inputs,
@@ -78,8 +76,8 @@ AcceptedIsCounted strictness capture =
 pub record AsBefore (strictness : Strictness) (capture : List ℕ) : Type 0 where
   pub pins : Accepted strictness capture → let said = says (scan strictness capture).map in
       (j : ℕ) → j < length said.bios → (bio_at said j).pins ≡ 64
-  pub no7 : (p q : ℕ) → (scan strictness capture).verdict ≡ Refused (refused_with 7 p q) → ⊥
-  pub no45 : (p q : ℕ) → (scan strictness capture).verdict ≡ Refused (refused_with 45 p q) → ⊥
+  pub no7 : (p q : ℕ) → (scan strictness capture).verdict ≡ Err (refused_with 7 p q) → ⊥
+  pub no45 : (p q : ℕ) → (scan strictness capture).verdict ≡ Err (refused_with 45 p q) → ⊥
 
 abbrev pub VersionOneAsBefore : Strictness → List ℕ → Type 0
 VersionOneAsBefore strictness capture = version capture ≡ 1 → AsBefore strictness capture

@@ -1,9 +1,8 @@
 -- Document 01's rule on different UIDs and different physical IDs, which by W-203 of document 02 "binds enabled entries only": what is
 -- promised of 39 and of the lists that come back, in either reading. Each statement stands alone; proofs/Processors.antt has a theorem
 -- for it.
-use Rattle.std.specs.Prelude.{ℕ, ◌+◌, ◌*◌, ◌<◌, ◌≤◌, List, ◌++◌, ◌⊎◌, ◌≡◌, get_or}
+use Rattle.std.specs.Prelude.{ℕ, ◌+◌, ◌*◌, ◌<◌, ◌≤◌, List, ◌++◌, ◌⊎◌, ◌≡◌, get_or, Ok, Err}
 use Rattle.words.specs.Refusals.{refused_with, first_refusal}
-use Rattle.words.specs.declared.Verdict.TheVariants.{Sound, Refused}
 use Rattle.tables.specs.Survey.{tables_of, survey_rules}
 use Rattle.tables.specs.declared.Strictness.{Strictness}
 use Rattle.madt.specs.Walk.{walk_rules}
@@ -12,7 +11,6 @@ use Rattle.processors.specs.Repeats.{offset_of}
 use Rattle.map_promises.specs.Clashing.{OnePlace, Exactly}
 use Rattle.reading.specs.Scan.{madt_bytes, scan}
 use Rattle.reading.specs.Reading.{madt_found, reading_of, list_after}
-use Rattle.reading.specs.declared.Answer.TheVariants.{Read, Refused as NotRead}
 use Rattle.promises.specs.Captures.{Accepted}
 use Rattle.promises.specs.Readings.{madt_place}
 
@@ -38,7 +36,7 @@ madt_of capture = madt_bytes capture (tables_of capture).madt
 
 -- no rule before 39 is broken: 1 to 30, and those of the structures
 abbrev pub KeepsTo38 : Strictness → List ℕ → Type 0
-KeepsTo38 strictness capture = first_refusal (survey_rules strictness capture ++ walk_rules (madt_of capture) (madt_place capture)) ≡ Sound
+KeepsTo38 strictness capture = first_refusal (survey_rules strictness capture ++ walk_rules (madt_of capture) (madt_place capture)) ≡ Ok tt
 
 -- and the processor list repeats a UID or a physical ID
 abbrev pub Breaks39 : Strictness → List ℕ → Type 0
@@ -55,10 +53,10 @@ pub record NamesRepeat (table : List ℕ) (base p : ℕ) : Type 0 where
 -- 39 is told exactly then, there, and with no second place: of what the capture is refused with, and of the reading's answer, whatever
 -- list it is lent
 pub record ThirtyNineExactly (strictness : Strictness) (capture : List ℕ) : Type 0 where
-  pub scanned : Exactly (λ p q. (scan strictness capture).verdict ≡ Refused (refused_with 39 p q)) (Breaks39 strictness capture)
+  pub scanned : Exactly (λ p q. (scan strictness capture).verdict ≡ Err (refused_with 39 p q)) (Breaks39 strictness capture)
       (OnePlace (NamesRepeat (madt_of capture) (madt_place capture)))
   pub read : (list : List ℕ)
-      → Exactly (λ p q. (reading_of strictness capture list).answer ≡ NotRead (refused_with 39 p q)) (Breaks39 strictness capture)
+      → Exactly (λ p q. (reading_of strictness capture list).answer ≡ Err (refused_with 39 p q)) (Breaks39 strictness capture)
       (OnePlace (NamesRepeat (madt_of capture) (madt_place capture)))
 
 -- ---- the lists that come back
@@ -75,4 +73,4 @@ AcceptedDiffer strictness capture =
 -- and those of a list that was lent and filled
 abbrev pub ReadDiffer : Strictness → List ℕ → List ℕ → Type 0
 ReadDiffer strictness capture list =
-    (n : ℕ) → (reading_of strictness capture list).answer ≡ Read n → AllDiffer (list_after strictness capture list) n
+    (n : ℕ) → (reading_of strictness capture list).answer ≡ Ok n → AllDiffer (list_after strictness capture list) n

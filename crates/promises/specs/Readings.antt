@@ -1,10 +1,9 @@
 -- W-207 of document 02: "The ordinary reading shall take any revision of 1 or more. The map program and the C bench must keep the old
 -- rule: give them a strict reading beside it. On revision 1 the two give equal answers." What is promised of the two beside each
 -- other, and of 29; every other promise holds of both. Each statement stands alone; proofs/Readings.antt has a theorem for it.
-use Rattle.std.specs.Prelude.{ℕ, ◌<◌, ◌≤◌, List, ◌⊎◌, ◌≡◌}
+use Rattle.std.specs.Prelude.{ℕ, ◌<◌, ◌≤◌, List, ◌⊎◌, ◌≡◌, Ok, Err}
 use Rattle.words.specs.Refusals.{refused, refused_with, first_refusal}
 use Rattle.words.specs.declared.Refusal.{Refusal}
-use Rattle.words.specs.declared.Verdict.TheVariants.{Sound, Refused}
 use Rattle.tables.specs.Survey.{tables_of, rules_before_29}
 use Rattle.tables.specs.Table.{revision}
 use Rattle.tables.specs.declared.Strictness.{Strictness}
@@ -12,7 +11,6 @@ use Rattle.tables.specs.declared.Strictness.TheVariants.{Ordinary, Strict}
 use Rattle.map_promises.specs.Clashing.{OnePlace, Exactly}
 use Rattle.reading.specs.Scan.{scan}
 use Rattle.reading.specs.Reading.{reading_of, list_after}
-use Rattle.reading.specs.declared.Answer.TheVariants.{Refused as NotRead}
 use Rattle.promises.specs.Captures.{Accepted}
 
 -- where the MADT stands that a capture's tables name, and its revision; both mean something where no rule before 29 is broken
@@ -24,7 +22,7 @@ madt_revision capture = revision capture (madt_place capture)
 
 -- no rule before 29 is broken
 abbrev pub KeepsTo28 : List ℕ → Type 0
-KeepsTo28 capture = first_refusal (rules_before_29 capture) ≡ Sound
+KeepsTo28 capture = first_refusal (rules_before_29 capture) ≡ Ok tt
 
 -- ---- the two beside each other
 -- both find the same, or refuse the same; and whatever list is lent, answer, map and list afterwards are equal
@@ -45,7 +43,7 @@ StrictIsOrdinary capture = Accepted Strict capture → EqualAnswers capture
 pub record Differ (capture : List ℕ) : Type 0 where
   pub before : KeepsTo28 capture
   pub newer : 1 < madt_revision capture
-  pub strict : (scan Strict capture).verdict ≡ Refused (refused 29 (madt_place capture))
+  pub strict : (scan Strict capture).verdict ≡ Err (refused 29 (madt_place capture))
 
 abbrev pub DifferBy29 : List ℕ → Type 0
 DifferBy29 capture = EqualAnswers capture ⊎ Differ capture
@@ -54,8 +52,8 @@ DifferBy29 capture = EqualAnswers capture ⊎ Differ capture
 abbrev pub AlikeTo28 : List ℕ → Type 0
 AlikeTo28 capture =
     (r : Refusal) → r.number ≤ 28
-    → ((scan Ordinary capture).verdict ≡ Refused r → (scan Strict capture).verdict ≡ Refused r)
-    × ((scan Strict capture).verdict ≡ Refused r → (scan Ordinary capture).verdict ≡ Refused r)
+    → ((scan Ordinary capture).verdict ≡ Err r → (scan Strict capture).verdict ≡ Err r)
+    × ((scan Strict capture).verdict ≡ Err r → (scan Ordinary capture).verdict ≡ Err r)
 
 -- ---- 29 by itself: "for revision 0 in the ordinary reading, for other than 1 in the strict one"
 -- the revisions that each takes
@@ -68,8 +66,8 @@ Breaks29 strictness capture = KeepsTo28 capture × (Takes strictness (madt_revis
 
 -- 29 is told exactly then, at the MADT: of what the capture is refused with, and of the reading's answer, whatever list it is lent
 pub record TwentyNineExactly (strictness : Strictness) (capture : List ℕ) : Type 0 where
-  pub scanned : Exactly (λ p q. (scan strictness capture).verdict ≡ Refused (refused_with 29 p q)) (Breaks29 strictness capture)
+  pub scanned : Exactly (λ p q. (scan strictness capture).verdict ≡ Err (refused_with 29 p q)) (Breaks29 strictness capture)
       (OnePlace (λ p. p ≡ madt_place capture))
   pub read : (list : List ℕ)
-      → Exactly (λ p q. (reading_of strictness capture list).answer ≡ NotRead (refused_with 29 p q)) (Breaks29 strictness capture)
+      → Exactly (λ p q. (reading_of strictness capture list).answer ≡ Err (refused_with 29 p q)) (Breaks29 strictness capture)
       (OnePlace (λ p. p ≡ madt_place capture))

@@ -1,23 +1,18 @@
 -- Document 01, "Refusals in order": the numbers of its table as W-201, W-202, W-209, W-211 and W-212 of document 02 changed it, and the mission's first demand:
 -- each public call "either answers or refuses with a number and a place from our table".
-use Rattle.std.specs.Prelude.{ℕ, ◌<◌, Bool, true, false, ◌&&◌, ◌||◌, List, ◌⊎◌, ◌≡◌, eqb, leb, length}
+use Rattle.std.specs.Prelude.{ℕ, ◌<◌, Bool, true, false, ◌&&◌, ◌||◌, List, ◌⊎◌, ◌≡◌, eqb, leb, length, Err, Ok}
 use Rattle.words.specs.Refusals.{refused}
 use Rattle.words.specs.declared.Refusal.{Refusal}
-use Rattle.words.specs.declared.Verdict.TheVariants as verdicts
 use Rattle.tables.specs.declared.Strictness.{Strictness}
 use Rattle.tables.specs.declared.Strictness.TheVariants.{Strict}
 use Rattle.lines.specs.Answers.{refusal_code, route_of, trace_of, route_code, trace_code}
 use Rattle.lines.specs.AtOnce.{at_once}
 use Rattle.lines.specs.declared.Map.{Map}
-use Rattle.lines.specs.declared.Route.TheVariants as routes
-use Rattle.lines.specs.declared.Trace.TheVariants as traces
 use Rattle.owners.specs.Lookups.{filling_of, lookup_of}
 use Rattle.owners.specs.declared.OwnerTable.{OwnerTable}
-use Rattle.owners.specs.declared.Lookup.TheVariants as lookups
 use Rattle.reading.specs.Scan.{scan}
 use Rattle.reading.specs.Reading.{reading_of, list_after}
 use Rattle.reading.specs.Entries.{route_result, trace_result}
-use Rattle.reading.specs.declared.Answer.TheVariants.{Refused}
 
 -- a number from one to another
 abbrev pub among : ℕ → ℕ → ℕ → Bool
@@ -60,34 +55,34 @@ pub record OfTheTable (capture : List ℕ) (refusal : Refusal) : Type 0 where
 
 -- whatever is handed in, a refusal of the reading has a number of the table and a place of the capture
 abbrev pub ReadingRefusals : Strictness → List ℕ → List ℕ → Type 0
-ReadingRefusals strictness capture list = (r : Refusal) → (reading_of strictness capture list).answer ≡ Refused r → OfTheTable capture r
+ReadingRefusals strictness capture list = (r : Refusal) → (reading_of strictness capture list).answer ≡ Err r → OfTheTable capture r
 
 -- "A refused call leaves the processor list it was lent as it found it"
 abbrev pub RefusedLeavesList : Strictness → List ℕ → List ℕ → Type 0
-RefusedLeavesList strictness capture list = (r : Refusal) → (reading_of strictness capture list).answer ≡ Refused r → list_after strictness capture list ≡ list
+RefusedLeavesList strictness capture list = (r : Refusal) → (reading_of strictness capture list).answer ≡ Err r → list_after strictness capture list ≡ list
 
 -- the C entries for routing and tracing refuse what the reading refuses, 60 apart; of a capture that it does not refuse they
 -- give the map's answer, which is never 61
 abbrev pub RouteRefusals : List ℕ → ℕ → Type 0
 RouteRefusals capture number =
-    ((r : Refusal) × ((scan Strict capture).verdict ≡ verdicts.Refused r) × (route_result capture number ≡ refusal_code r) × OfTheTable capture r)
-    ⊎ (((scan Strict capture).verdict ≡ verdicts.Sound)
+    ((r : Refusal) × ((scan Strict capture).verdict ≡ Err r) × (route_result capture number ≡ refusal_code r) × OfTheTable capture r)
+    ⊎ (((scan Strict capture).verdict ≡ Ok tt)
     × (route_result capture number ≡ route_code (route_of (scan Strict capture).map number))
-    × ((r : Refusal) → route_of (scan Strict capture).map number ≡ routes.Refused r → ⊥))
+    × ((r : Refusal) → route_of (scan Strict capture).map number ≡ Err r → ⊥))
 
 abbrev pub TraceRefusals : List ℕ → ℕ → ℕ → Type 0
 TraceRefusals capture vector number =
-    ((r : Refusal) × ((scan Strict capture).verdict ≡ verdicts.Refused r) × (trace_result capture vector number ≡ refusal_code r) × OfTheTable capture r)
-    ⊎ (((scan Strict capture).verdict ≡ verdicts.Sound)
+    ((r : Refusal) × ((scan Strict capture).verdict ≡ Err r) × (trace_result capture vector number ≡ refusal_code r) × OfTheTable capture r)
+    ⊎ (((scan Strict capture).verdict ≡ Ok tt)
     × (trace_result capture vector number ≡ trace_code (trace_of (scan Strict capture).map vector number))
-    × ((r : Refusal) → trace_of (scan Strict capture).map vector number ≡ traces.Refused r → ⊥))
+    × ((r : Refusal) → trace_of (scan Strict capture).map vector number ≡ Err r → ⊥))
 
 -- "any map may be asked about": a question about a map by itself is refused with 61 at place 0, a list of questions (W-209 of document 02)
 -- with 62 at place 0 too, a lookup with an owner table (W-211) with 63 at place 0 too, and with nothing else
 abbrev pub MapRefusals : Map → Type 0
 MapRefusals map =
-    ((number : ℕ) (r : Refusal) → route_of map number ≡ routes.Refused r → r ≡ refused 61 0)
-    × ((vector number : ℕ) (r : Refusal) → trace_of map vector number ≡ traces.Refused r → r ≡ refused 61 0)
-    × ((numbers answers : List ℕ) (r : Refusal) → at_once map numbers answers ≡ verdicts.Refused r → (r ≡ refused 61 0) ⊎ (r ≡ refused 62 0))
-    × ((r : Refusal) → (filling_of map).verdict ≡ verdicts.Refused r → r ≡ refused 61 0)
-    × ((table : OwnerTable) (number : ℕ) (r : Refusal) → lookup_of map table number ≡ lookups.Refused r → (r ≡ refused 61 0) ⊎ (r ≡ refused 63 0))
+    ((number : ℕ) (r : Refusal) → route_of map number ≡ Err r → r ≡ refused 61 0)
+    × ((vector number : ℕ) (r : Refusal) → trace_of map vector number ≡ Err r → r ≡ refused 61 0)
+    × ((numbers answers : List ℕ) (r : Refusal) → at_once map numbers answers ≡ Err r → (r ≡ refused 61 0) ⊎ (r ≡ refused 62 0))
+    × ((r : Refusal) → (filling_of map).verdict ≡ Err r → r ≡ refused 61 0)
+    × ((table : OwnerTable) (number : ℕ) (r : Refusal) → lookup_of map table number ≡ Err r → (r ≡ refused 61 0) ⊎ (r ≡ refused 63 0))

@@ -6,7 +6,6 @@ use mathlib.Core.Bool.{true}
 use mathlib.Core.List.{List}
 use mathlib.Core.Path.{◌≡◌}
 use Rattle.words.proofs.Choices.{yes_if}
-use Rattle.words.specs.declared.Verdict.TheVariants.{Sound}
 use Rattle.capture.specs.Pairs.{pairs_of, pins_of}
 use Rattle.capture.proofs.Pins.{pins_in_range}
 use Rattle.tables.specs.declared.Strictness.{Strictness}
@@ -21,6 +20,7 @@ use Rattle.map_promises.proofs.Places.{places_do_not_matter}
 use Rattle.map_promises.proofs.WalkKeepsBooks.{walk_keeps_books}
 use Rattle.reading.specs.Scan.{madt_bytes, walk_of, scan}
 use Rattle.reading.proofs.Scanned.{Scanned, scanned, rules_kept}
+use Rattle.std.specs.Prelude.{Ok}
 
 -- the walk kept its books
 books : {strictness : Strictness} (capture : List ℕ) (s : Scanned strictness capture) → WellKept (walk_of capture s.t).found.map (walk_of capture s.t).found.places
@@ -29,13 +29,13 @@ books {strictness} capture s =
     (walk_keeps_books (madt_bytes capture s.t.madt) s.t.madt.place s.t.sci (pins_of (pairs_of capture)) (pins_in_range capture sound) s.walk).0
 
 -- its unused places hold 0
-pub accepted_is_normal : (strictness : Strictness) (capture : List ℕ) → (scan strictness capture).verdict ≡ Sound → Normal (scan strictness capture).map
+pub accepted_is_normal : (strictness : Strictness) (capture : List ℕ) → (scan strictness capture).verdict ≡ Ok tt → Normal (scan strictness capture).map
 accepted_is_normal strictness capture h =
     let s = scanned strictness capture h in
     rw s.map (books capture s).normal
 
 -- it keeps the rules
-pub accepted_keeps_rules : (strictness : Strictness) (capture : List ℕ) → (scan strictness capture).verdict ≡ Sound → keeps_rules (scan strictness capture).map ≡ true
+pub accepted_keeps_rules : (strictness : Strictness) (capture : List ℕ) → (scan strictness capture).verdict ≡ Ok tt → keeps_rules (scan strictness capture).map ≡ true
 accepted_keeps_rules strictness capture h =
     let s = scanned strictness capture h in
     let t = s.t in
@@ -46,11 +46,11 @@ accepted_keeps_rules strictness capture h =
     (rules_kept capture t s.rules b.r38))
 
 -- a question to it has its answer without 61
-module _ (strictness : Strictness) (capture : List ℕ) (h : (scan strictness capture).verdict ≡ Sound) where
-  pub accepted_route : (number : ℕ) → route_of (scan strictness capture).map number ≡ arrival (says (scan strictness capture).map) number
+module _ (strictness : Strictness) (capture : List ℕ) (h : (scan strictness capture).verdict ≡ Ok tt) where
+  pub accepted_route : (number : ℕ) → route_of (scan strictness capture).map number ≡ Ok (arrival (says (scan strictness capture).map) number)
   unfolding route_of
   accepted_route number = yes_if _ _ _ (accepted_keeps_rules strictness capture h)
 
-  pub accepted_trace : (vector number : ℕ) → trace_of (scan strictness capture).map vector number ≡ traced (says (scan strictness capture).map) vector number
+  pub accepted_trace : (vector number : ℕ) → trace_of (scan strictness capture).map vector number ≡ Ok (traced (says (scan strictness capture).map) vector number)
   unfolding trace_of
   accepted_trace vector number = yes_if _ _ _ (accepted_keeps_rules strictness capture h)

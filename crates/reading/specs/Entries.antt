@@ -1,6 +1,6 @@
 -- The C entries: every result is one number of 64 bits, a refusal as "refusal number × 2^48 + place", an answer below 2^48.
 -- W-207 of document 02: "the C bench must keep the old rule", so that they give the strict reading.
-use Rattle.std.specs.Prelude.{ℕ, ◌*◌, List, leb, length}
+use Rattle.std.specs.Prelude.{ℕ, ◌*◌, List, leb, length, Result, Ok, Err}
 use Rattle.words.specs.Choice.{if}
 use Rattle.words.specs.Refusals.{refused, unless}
 use Rattle.tables.specs.declared.Strictness.TheVariants.{Strict}
@@ -10,17 +10,16 @@ use Rattle.words.specs.Rooms.{filled}
 use Rattle.processors.specs.Listing.{processors, count}
 use Rattle.reading.specs.Scan.{scan}
 use Rattle.reading.specs.Reading.{madt_found}
-use Rattle.reading.specs.declared.Answer.{Answer}
-use Rattle.reading.specs.declared.Answer.TheVariants as answers
+use Rattle.words.specs.declared.Refusal.{Refusal}
 
 -- ---- the reading: "the list is bytes, four little-endian ones a number, and 60 means under 8 × count bytes"
-unfoldable pub answer_in : List ℕ → List ℕ → Answer
-answer_in table list = if (leb (8 * count table) (length list)) (answers.Read (count table)) (answers.Refused (refused 60 0))
+unfoldable pub answer_in : List ℕ → List ℕ → Result ℕ Refusal
+answer_in table list = if (leb (8 * count table) (length list)) (Ok (count table)) (Err (refused 60 0))
 
 -- "its 64-bit result is the count, or refusal number × 2^48 + place"
-unfoldable pub read_code : Answer → ℕ
-read_code (answers.Read processors) = processors
-read_code (answers.Refused refusal) = refusal_code refusal
+unfoldable pub read_code : Result ℕ Refusal → ℕ
+read_code (Ok processors) = processors
+read_code (Err refusal) = refusal_code refusal
 
 unfoldable pub read_result : List ℕ → List ℕ → ℕ
 read_result capture list = unless refusal_code (scan Strict capture).verdict (read_code (answer_in (madt_found Strict capture) list))

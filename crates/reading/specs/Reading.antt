@@ -1,5 +1,5 @@
 -- Document 01, "What comes back": the answer to a capture and a lent list, the map, and the list afterwards.
-use Rattle.std.specs.Prelude.{ℕ, List}
+use Rattle.std.specs.Prelude.{ℕ, List, Ok, Err}
 use Rattle.words.specs.Choice.{if}
 use Rattle.words.specs.Refusals.{refused, unless}
 use Rattle.words.specs.declared.Refusal.{Refusal}
@@ -8,17 +8,16 @@ use Rattle.lines.specs.declared.Map.{Map}
 use Rattle.words.specs.Rooms.{has_room, filled}
 use Rattle.processors.specs.Listing.{processors, count}
 use Rattle.reading.specs.Scan.{madt_bytes, empty_map, scan}
-use Rattle.reading.specs.declared.Answer.TheVariants.{Read, Refused}
 use Rattle.reading.specs.declared.Reading.{Reading}
 
 -- "A refusal returns its number and place, no map"
 unfoldable pub without_map : Refusal → Reading
-without_map refusal = record { answer = Refused refusal; map = empty_map }
+without_map refusal = record { answer = Err refusal; map = empty_map }
 
 -- 60: "list shorter than needed", last of all
 unfoldable pub answered : List ℕ → Map → List ℕ → Reading
 answered table map list =
-    if (has_room (processors table) list) (record { answer = Read (count table); map = map }) (without_map (refused 60 0))
+    if (has_room (processors table) list) (record { answer = Ok (count table); map = map }) (without_map (refused 60 0))
 
 -- the MADT's bytes where the scan found one
 unfoldable pub madt_found : Strictness → List ℕ → List ℕ

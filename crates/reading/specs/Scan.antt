@@ -1,11 +1,9 @@
 -- Document 01, "Refusals in order": the order of all rules up to 54, and what is found where none is broken. How strict the reading is
 -- (W-207 of document 02) is handed on to 29.
-use Rattle.std.specs.Prelude.{ℕ, ◌+◌, List, ◌∷◌, ◌++◌, eqb}
+use Rattle.std.specs.Prelude.{ℕ, ◌+◌, List, ◌∷◌, ◌++◌, Option, Some, None, eqb, Result, Ok, Err}
 use Rattle.words.specs.Bytes.{part_at}
-use Rattle.words.specs.Refusals.{refused, rule, unless, first_refusal}
+use Rattle.words.specs.Refusals.{Verdict, refused, rule, unless, first_refusal}
 use Rattle.words.specs.declared.Refusal.{Refusal}
-use Rattle.words.specs.declared.Verdict.{Verdict}
-use Rattle.words.specs.declared.Verdict.TheVariants.{Sound, Refused}
 use Rattle.capture.specs.Pairs.{pairs_of, pins_of}
 use Rattle.tables.specs.Survey.{tables_of, survey_rules}
 use Rattle.tables.specs.declared.Strictness.{Strictness}
@@ -15,13 +13,11 @@ use Rattle.lines.specs.Says.{says}
 use Rattle.lines.specs.Rules.{rules_to_45, rules_from_51}
 use Rattle.lines.specs.declared.Map.{Map}
 use Rattle.madt.specs.Contents.{nothing}
-use Rattle.madt.specs.Walk.{walk_rules, walked}
-use Rattle.madt.specs.declared.Walked.{Walked}
+use Rattle.madt.specs.Walk.{walk_rules, Walked, walked}
 use Rattle.processors.specs.Listing.{count}
 use Rattle.processors.specs.Repeats.{first_repeat}
-use Rattle.processors.specs.declared.Repeat.{Repeat}
-use Rattle.processors.specs.declared.Repeat.TheVariants.{At, Nowhere}
 use Rattle.reading.specs.declared.Scan.{Scan}
+use Rattle.reading.specs.declared.Accepted.{Accepted}
 
 -- the MADT's own bytes
 unfoldable pub madt_bytes : List ℕ → Table → List ℕ
@@ -37,12 +33,12 @@ empty_map = (nothing 0).map
 
 -- a refusal comes with no map and no MADT
 unfoldable pub turned_down : Refusal → Scan
-turned_down refusal = record { verdict = Refused refusal; madt = record { place = 0; length = 0 }; map = empty_map }
+turned_down refusal = record { verdict = Err refusal; madt = record { place = 0; length = 0 }; map = empty_map }
 
 -- 39: "CORE repeats an ID of an earlier one", at the later
-unfoldable pub repeat_rule : ℕ → Repeat → Verdict
-repeat_rule base Nowhere = Sound
-repeat_rule base (At offset) = Refused (refused 39 (base + offset))
+unfoldable pub repeat_rule : ℕ → Option ℕ → Verdict
+repeat_rule base None = Ok tt
+repeat_rule base (Some offset) = Err (refused 39 (base + offset))
 
 -- 40: "no enabled CORE", at the MADT
 unfoldable pub processor_rule : ℕ → ℕ → Verdict
@@ -76,9 +72,14 @@ all_rules strictness capture = rules_before_51 strictness capture ++ line_rules 
 
 -- ---- what is found where none of them is broken
 unfoldable pub accepted : Tables → Map → Scan
-accepted t map = record { verdict = Sound; madt = t.madt; map = map }
+accepted t map = record { verdict = Ok tt; madt = t.madt; map = map }
 
 unfoldable pub scan : Strictness → List ℕ → Scan
 scan strictness capture =
     let t = tables_of capture in
     unless turned_down (first_refusal (all_rules strictness capture)) (accepted t (walk_of capture t).found.map)
+
+-- a shortcut of the program, and no line of document 01: the scan as the inner functions answer it, what is found or the refusal alone
+unfoldable pub scan_of : Result Accepted Refusal → Scan
+scan_of (Ok a) = record { verdict = Ok tt; madt = a.madt; map = a.map }
+scan_of (Err refusal) = turned_down refusal

@@ -1,50 +1,45 @@
 // The C entries: plain numbers and byte slices in, one number of 64 bits out. The crate reading_c exports them under these names, and
 // include/yasmirand.h declares them. They give the strict reading. The map of a capture that the scan accepts keeps all rules
 // (proofs/AcceptedKeepsRules), so that its answers are had without 61.
-ghost use Rattle.std.specs.Prelude.{◌≡◌, length, take};
+ghost use Rattle.std.specs.Prelude.{◌≡◌, take, IfOk};
 ghost use Rattle.processors.specs.Image.{image};
 ghost use Rattle.words.specs.Rooms.{filled};
 ghost use Rattle.processors.specs.Listing.{processors};
 ghost use Rattle.processors.specs.Again.{Standing};
-ghost use Rattle.words.specs.declared.Verdict.TheVariants.{Sound};
-ghost use Rattle.reading.specs.Reading.{madt_found};
-ghost use Rattle.reading.specs.Scan.{scan};
+ghost use Rattle.reading.specs.Scan.{madt_bytes, scan, scan_of};
 ghost use Rattle.reading.specs.Entries.{answer_in, read_code, read_result, bytes_after, route_result, trace_result};
 
-use crate::{Answer, Noted};
+use crate::{Accepted, Cores};
 use lines::codes;
 use madt::Offsets;
-use processors::Filled;
 use tables::Strictness;
-use words::Verdict;
+use words::{NoRoom, Refusal};
 
 // What every C entry begins with: the scan of the strict reading, with a room to note the processors in.
-fn scan_strictly(capture: &[u8], room: &mut Offsets) -> Noted
-    requires { length room.old ≡ 256 }
-    ensures scan_value { result.scan ≡ scan Strictness.Strict capture.now }
-    ensures standing { result.scan.verdict ≡ Sound → Standing (madt_found Strictness.Strict capture.now) (take result.processors room.new) }
+fn scan_strictly(capture: &[u8], room: &mut Offsets) -> Result<Accepted, Refusal>
+    ensures scan_value { scan_of result ≡ scan Strictness.Strict capture.now }
+    ensures standing { IfOk result (λ a. Standing (madt_bytes capture.now a.madt) (take a.processors room.new)) }
 {
     crate::scan_noting(Strictness::Strict, capture, room)
 }
 
 // The list of bytes filled and its count, or refusal 60.
-fn answer_bytes(table: &[u8], offsets: &[u16], list: &mut [u8]) -> Answer
-    requires { Standing table.now offsets.now }
-    ensures value { result ≡ answer_in table.now list.old }
-    ensures list_after { list.new ≡ filled (image (processors table.now)) list.old }
+fn answer_bytes(cores: Cores<'_>, list: &mut [u8]) -> Result<usize, Refusal>
+    ensures value { result ≡ answer_in cores.entry.table.now list.old }
+    ensures list_after { list.new ≡ filled (image (processors cores.entry.table.now)) list.old }
 {
-    match processors::bytes::fill(table, offsets, list) {
-        Filled::NoRoom => Answer::Refused(words::refuse(60, 0)),
-        Filled::Whole(processors) => Answer::Read(processors),
+    match processors::bytes::fill(cores.table, cores.offsets, list) {
+        Err(NoRoom) => Err(words::refuse(60, 0)),
+        Ok(processors) => Ok(processors),
     }
 }
 
-fn read_code(answer: Answer) -> u64
+fn read_code(answer: Result<usize, Refusal>) -> u64
     ensures { result ≡ read_code answer }
 {
     match answer {
-        Answer::Read(count) => count as u64,
-        Answer::Refused(refusal) => codes::refusal_code(refusal),
+        Ok(count) => count as u64,
+        Err(refusal) => codes::refusal_code(refusal),
     }
 }
 
@@ -55,15 +50,12 @@ pub fn yasmirand_read(capture: &[u8], list: &mut [u8]) -> u64
     ensures list_after { list.new ≡ bytes_after capture.now list.old }
 {
     let mut room = [0u16; madt::ROOM];
-    let noted = scan_strictly(capture, &mut room);
-    let s = noted.scan;
-    let verdict = s.verdict;
-    let madt = s.madt;
-    match verdict {
-        Verdict::Refused(refusal) => codes::refusal_code(refusal),
-        Verdict::Sound => {
-            let offsets = processors::noted(&room, noted.processors as usize);
-            read_code(answer_bytes(crate::madt_bytes(capture, madt), offsets, list))
+    match scan_strictly(capture, &mut room) {
+        Err(refusal) => codes::refusal_code(refusal),
+        Ok(accepted) => {
+            let table = crate::madt_bytes(capture, accepted.madt);
+            let offsets = processors::noted(&room, accepted.processors as usize);
+            read_code(answer_bytes(Cores { table, offsets }, list))
         }
     }
 }
@@ -73,13 +65,9 @@ pub fn yasmirand_route(capture: &[u8], number: u32) -> u64
     ensures { result ≡ route_result capture.now number }
 {
     let mut room = [0u16; madt::ROOM];
-    let noted = scan_strictly(capture, &mut room);
-    let s = noted.scan;
-    let verdict = s.verdict;
-    let map = s.map;
-    match verdict {
-        Verdict::Refused(refusal) => codes::refusal_code(refusal),
-        Verdict::Sound => codes::route_code(map.arrival(number)),
+    match scan_strictly(capture, &mut room) {
+        Err(refusal) => codes::refusal_code(refusal),
+        Ok(accepted) => codes::route_code(Ok(accepted.map.arrival(number))),
     }
 }
 
@@ -88,12 +76,8 @@ pub fn yasmirand_trace(capture: &[u8], vector: u32, number: u32) -> u64
     ensures { result ≡ trace_result capture.now vector number }
 {
     let mut room = [0u16; madt::ROOM];
-    let noted = scan_strictly(capture, &mut room);
-    let s = noted.scan;
-    let verdict = s.verdict;
-    let map = s.map;
-    match verdict {
-        Verdict::Refused(refusal) => codes::refusal_code(refusal),
-        Verdict::Sound => codes::trace_code(map.traced(vector, number)),
+    match scan_strictly(capture, &mut room) {
+        Err(refusal) => codes::refusal_code(refusal),
+        Ok(accepted) => codes::trace_code(Ok(accepted.map.traced(vector, number))),
     }
 }

@@ -7,9 +7,7 @@ use native.Mathlib.Omega.{arith}
 use lib.Dec.{ltb}
 use lib.ListN.{length}
 use borrow.Author.Tests.{ltb-false, not-false}
-use Rattle.words.specs.Refusals.{first_refusal}
-use Rattle.words.specs.declared.Verdict.{Verdict}
-use Rattle.words.specs.declared.Verdict.TheVariants as verdicts
+use Rattle.words.specs.Refusals.{Verdict, first_refusal}
 use Rattle.words.proofs.Tests.{neither_left, neither_right}
 use Rattle.words.proofs.Verdicts.{unless-told, unless_sound, first_sound, joined_kept}
 use Rattle.capture.specs.Rules.{container_rules, verdict}
@@ -20,15 +18,13 @@ use Rattle.tables.specs.Rsdp.{rsdp_rules, xsdt_field}
 use Rattle.tables.specs.Table.{header_size, address_at, header_at, table_named, table_length, cut_short, table_rules}
 use Rattle.tables.specs.Xsdt.{entry_field, entry_rules, xsdt_rules}
 use Rattle.tables.specs.Finder.{first_named}
-use Rattle.tables.specs.Survey.{apic, facp, is_nowhere, name_rules, length_rules, with_sci, table_of_entry, madt_of, fadt_of, tables_from, xsdt_of, tables_of, rules_before_29, survey_rules, survey}
+use Rattle.tables.specs.Survey.{apic, facp, name_rules, length_rules, with_sci, table_of_entry, madt_of, fadt_of, tables_from, xsdt_of, tables_of, rules_before_29, survey_rules, survey}
 use Rattle.tables.specs.declared.Table.{Table}
 use Rattle.tables.specs.declared.Tables.{Tables}
-use Rattle.tables.specs.declared.Entry.{Entry}
-use Rattle.tables.specs.declared.Entry.TheVariants.{At, Nowhere}
 use Rattle.tables.specs.declared.Strictness.{Strictness}
-use Rattle.tables.specs.declared.Survey.{Survey}
-use Rattle.tables.specs.declared.Survey.TheVariants.{Found, Refused}
 use Rattle.tables.proofs.Laws.{table_kept, entries_kept, named_counted}
+use Rattle.std.specs.Prelude.{Result, Option, Ok, Err, Some, None, is_none}
+use Rattle.words.specs.declared.Refusal.{Refusal}
 
 -- a table of a capture that is whole and has a body
 pub record Lies (capture : List ℕ) (table : Table) (least : ℕ) : Type 0 where
@@ -37,7 +33,7 @@ pub record Lies (capture : List ℕ) (table : Table) (least : ℕ) : Type 0 wher
   pub long : least ≤ table.length
 
 -- a table that a field names and no rule refuses stands behind the container's header, and ends inside the capture
-pub named_inside : (capture : List ℕ) (field : ℕ) → Sound capture → first_refusal (table_rules capture field) ≡ verdicts.Sound
+pub named_inside : (capture : List ℕ) (field : ℕ) → Sound capture → first_refusal (table_rules capture field) ≡ Ok tt
     → Lies capture (table_named capture field) 36
 unfolding table_named header_at cut_short
 named_inside capture field sound h =
@@ -52,47 +48,47 @@ named_inside capture field sound h =
     record { behind = omega (arith, behind capture address header_size place kept.0); inside = omega arith; long = long }
 
 -- so does a table that the finder finds, where no entry was refused
-found_inside : (capture : List ℕ) (xsdt : Table) (letters : ℕ) → Sound capture → first_refusal (entry_rules capture xsdt) ≡ verdicts.Sound
-    → is_nowhere (first_named capture xsdt letters) ≡ false → Lies capture (table_of_entry capture xsdt (first_named capture xsdt letters)) 36
-unfolding table_of_entry is_nowhere
+found_inside : (capture : List ℕ) (xsdt : Table) (letters : ℕ) → Sound capture → first_refusal (entry_rules capture xsdt) ≡ Ok tt
+    → is_none (first_named capture xsdt letters) ≡ false → Lies capture (table_of_entry capture xsdt (first_named capture xsdt letters)) 36
+unfolding table_of_entry
 found_inside capture xsdt letters sound through = go (first_named capture xsdt letters) refl
   where
-    go : (e : Entry) → first_named capture xsdt letters ≡ e → is_nowhere e ≡ false → Lies capture (table_of_entry capture xsdt e) 36
-    go Nowhere h some = absurd (true≢false some)
-    go (At entry) h some =
+    go : (e : Option ℕ) → first_named capture xsdt letters ≡ e → is_none e ≡ false → Lies capture (table_of_entry capture xsdt e) 36
+    go None h some = absurd (true≢false some)
+    go (Some entry) h some =
         named_inside capture (entry_field xsdt entry) sound
         (entries_kept capture xsdt entry through (named_counted capture xsdt letters entry h))
 
 -- and where 26 is kept, both MADT and FADT are found
-pub both_inside : (capture : List ℕ) (xsdt : Table) → Sound capture → first_refusal (entry_rules capture xsdt) ≡ verdicts.Sound
-    → first_refusal (name_rules capture xsdt) ≡ verdicts.Sound → Lies capture (madt_of capture xsdt) 36 × Lies capture (fadt_of capture xsdt) 36
+pub both_inside : (capture : List ℕ) (xsdt : Table) → Sound capture → first_refusal (entry_rules capture xsdt) ≡ Ok tt
+    → first_refusal (name_rules capture xsdt) ≡ Ok tt → Lies capture (madt_of capture xsdt) 36 × Lies capture (fadt_of capture xsdt) 36
 unfolding name_rules madt_of fadt_of
 both_inside capture xsdt sound through h =
     let some = (first_sound _ 26 _ _ h).0 in (
-      found_inside capture xsdt apic sound through (neither_left _ (is_nowhere (first_named capture xsdt facp)) some),
-      found_inside capture xsdt facp sound through (neither_right (is_nowhere (first_named capture xsdt apic)) _ some),
+      found_inside capture xsdt apic sound through (neither_left _ (is_none (first_named capture xsdt facp)) some),
+      found_inside capture xsdt facp sound through (neither_right (is_none (first_named capture xsdt apic)) _ some),
     )
 
-long_enough : (madt fadt : Table) → first_refusal (length_rules madt fadt) ≡ verdicts.Sound → (44 ≤ madt.length) × (48 ≤ fadt.length)
+long_enough : (madt fadt : Table) → first_refusal (length_rules madt fadt) ≡ Ok tt → (44 ≤ madt.length) × (48 ≤ fadt.length)
 unfolding length_rules
 long_enough madt fadt h =
     let first = first_sound _ 28 _ _ h in
     (ltb-false madt.length 44 first.0, ltb-false fadt.length 48 (first_sound _ 28 _ _ first.1).0)
 
 -- what the answer tells of the rules
-abbrev said : Survey → Verdict
-said (Found t) = verdicts.Sound
-said (Refused refusal) = verdicts.Refused refusal
+abbrev said : Result Tables Refusal → Verdict
+said (Ok t) = Ok tt
+said (Err refusal) = Err refusal
 
-pub survey-told : (strictness : Strictness) (capture : List ℕ) {s : Survey} → survey strictness capture ≡ s
+pub survey-told : (strictness : Strictness) (capture : List ℕ) {s : Result Tables Refusal} → survey strictness capture ≡ s
     → first_refusal (survey_rules strictness capture) ≡ said s
 unfolding survey
-survey-told strictness capture h = sym (unless-told Refused said (λ r. refl) _ _ refl) ∙ ap said h
+survey-told strictness capture h = sym (unless-told Err said (λ r. refl) _ _ refl) ∙ ap said h
 
-pub survey-is : (strictness : Strictness) (capture : List ℕ) {t : Tables} → survey strictness capture ≡ Found t → tables_of capture ≡ t
+pub survey-is : (strictness : Strictness) (capture : List ℕ) {t : Tables} → survey strictness capture ≡ Ok t → tables_of capture ≡ t
 unfolding survey
 survey-is strictness capture {t} h =
-    let found : Found (tables_of capture) ≡ Found t = sym (unless_sound Refused _ _ (survey-told strictness capture h)) ∙ h in
+    let found : Ok (tables_of capture) ≡ Ok t = sym (unless_sound Err _ _ (survey-told strictness capture h)) ∙ h in
     cc
 
 -- what was found, from the XSDT on
@@ -102,7 +98,7 @@ pub record Accepted (capture : List ℕ) (t : Tables) : Type 0 where
   pub fadt : Lies capture t.fadt 48
 
 -- where no rule before 29 is broken, the MADT has its 44 bytes, the FADT its 48, and both lie wholly inside the capture
-pub kept_inside : (capture : List ℕ) → first_refusal (rules_before_29 capture) ≡ verdicts.Sound → Accepted capture (tables_of capture)
+pub kept_inside : (capture : List ℕ) → first_refusal (rules_before_29 capture) ≡ Ok tt → Accepted capture (tables_of capture)
 unfolding verdict rules_before_29 tables_of tables_from with_sci
 kept_inside capture kept =
     let xsdt = xsdt_of capture in
@@ -122,7 +118,7 @@ kept_inside capture kept =
     }
 
 -- so it is with the tables of an accepted answer, of either reading
-pub tables_inside : (strictness : Strictness) (capture : List ℕ) (t : Tables) → survey strictness capture ≡ Found t → Accepted capture t
+pub tables_inside : (strictness : Strictness) (capture : List ℕ) (t : Tables) → survey strictness capture ≡ Ok t → Accepted capture t
 unfolding survey_rules
 tables_inside strictness capture t h =
     rw (← survey-is strictness capture h)

@@ -16,7 +16,7 @@ use Rattle.capture.proofs.Room.{room_present, room_absent}
 use Rattle.capture.proofs.Within.{Sound, within_small, behind}
 use Rattle.tables.specs.Table.{header_size, address_at, header_at, table_named, table_length, cut_short, table_rules, table_at}
 use Rattle.tables.specs.Whole.{rules_within, table_within}
-use Rattle.tables.specs.declared.Checked.TheVariants as checked
+use Rattle.std.specs.Prelude.{Err}
 
 module _ (capture : List ℕ) (field : ℕ) (sound : Sound capture) {reach : Reach} (h : reach ≡ reached capture (address_at capture field)) where
   there : (size : ℕ) → 0 < size → size ≤ reach.room → located capture (address_at capture field) size ≡ Present reach.place
@@ -47,7 +47,7 @@ module _ (capture : List ℕ) (field : ℕ) (sound : Sound capture) {reach : Rea
           let long = ltb-false (table_length capture place) header_size e in
           rw (fits_not (table_length capture place) (omega arith))
 
-  pub table_20 : reach.room < header_size → table_at capture field ≡ checked.Refused (refused 20 field)
+  pub table_20 : reach.room < header_size → table_at capture field ≡ Err (refused 20 field)
   unfolding table_at table_rules header_at is_present first_refusal unless if
   table_20 short = rw (away header_size short)
 

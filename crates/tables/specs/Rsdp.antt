@@ -2,9 +2,8 @@
 use Rattle.std.specs.Prelude.{ℕ, ◌+◌, Bool, not, ◌||◌, List, [], ◌∷◌, eqb}
 use Prim.Native.Char.{code}
 use Rattle.words.specs.Bytes.{byte_at, number_at, part_at, byte_sum, spelled}
-use Rattle.words.specs.Refusals.{rule}
+use Rattle.words.specs.Refusals.{Verdict, rule}
 use Rattle.capture.specs.Presence.{rsdp_size}
-use Rattle.words.specs.declared.Verdict.{Verdict}
 
 -- "`RSD PTR ` with its closing blank"
 unfoldable pub rsd_ptr : ℕ

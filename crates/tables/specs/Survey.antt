@@ -1,12 +1,10 @@
 -- Document 01, "Tables" and "Refusals in order": the MADT, the FADT and the SCI number of a capture, or the first refusal of
 -- 1 to 30. How strict a reading is, is handed in.
-use Rattle.std.specs.Prelude.{ℕ, ◌+◌, Bool, true, false, not, ◌||◌, List, [], ◌∷◌, ◌++◌, eqb, leb, ltb}
+use Rattle.std.specs.Prelude.{ℕ, ◌+◌, Bool, not, ◌||◌, List, [], ◌∷◌, ◌++◌, eqb, leb, ltb, Result, Option, Ok, Err, Some, None, is_none}
 use Prim.Native.Char.{code}
 use Rattle.words.specs.Bytes.{number_at, spelled}
 use Rattle.words.specs.Choice.{if}
-use Rattle.words.specs.Refusals.{refused, rule, unless, first_refusal}
-use Rattle.words.specs.declared.Verdict.{Verdict}
-use Rattle.words.specs.declared.Verdict.TheVariants as verdicts
+use Rattle.words.specs.Refusals.{Verdict, refused, rule, unless, first_refusal}
 use Rattle.capture.specs.Rules.{container_rules}
 use Rattle.capture.specs.Presence.{presence_rules, rsdp_place}
 use Rattle.tables.specs.Rsdp.{rsdp_rules, xsdt_field}
@@ -15,12 +13,9 @@ use Rattle.tables.specs.Xsdt.{entry_field, xsdt_rules, entry_rules}
 use Rattle.tables.specs.Finder.{first_named, second_named}
 use Rattle.tables.specs.declared.Table.{Table}
 use Rattle.tables.specs.declared.Tables.{Tables}
-use Rattle.tables.specs.declared.Entry.{Entry}
-use Rattle.tables.specs.declared.Entry.TheVariants.{At, Nowhere}
 use Rattle.tables.specs.declared.Strictness.{Strictness}
 use Rattle.tables.specs.declared.Strictness.TheVariants.{Ordinary, Strict}
-use Rattle.tables.specs.declared.Survey.{Survey}
-use Rattle.tables.specs.declared.Survey.TheVariants.{Found, Refused}
+use Rattle.words.specs.declared.Refusal.{Refusal}
 
 -- the signatures of MADT and FADT: "exactly one is `APIC`, exactly one is `FACP`"
 unfoldable pub apic : ℕ
@@ -29,25 +24,21 @@ apic = spelled (code "A" ∷ code "P" ∷ code "I" ∷ code "C" ∷ [])
 unfoldable pub facp : ℕ
 facp = spelled (code "F" ∷ code "A" ∷ code "C" ∷ code "P" ∷ [])
 
-unfoldable pub is_nowhere : Entry → Bool
-is_nowhere Nowhere = true
-is_nowhere (At entry) = false
-
 -- the earlier of two entries
-unfoldable pub earlier : Entry → Entry → Entry
-earlier Nowhere other = other
-earlier (At entry) Nowhere = At entry
-earlier (At entry) (At other) = if (leb entry other) (At entry) (At other)
+unfoldable pub earlier : Option ℕ → Option ℕ → Option ℕ
+earlier None other = other
+earlier (Some entry) None = Some entry
+earlier (Some entry) (Some other) = if (leb entry other) (Some entry) (Some other)
 
 -- 27: "a second MADT or FADT (the first such)", at its address field
-unfoldable pub second_rule : Table → Entry → Verdict
-second_rule xsdt Nowhere = verdicts.Sound
-second_rule xsdt (At entry) = verdicts.Refused (refused 27 (entry_field xsdt entry))
+unfoldable pub second_rule : Table → Option ℕ → Verdict
+second_rule xsdt None = Ok tt
+second_rule xsdt (Some entry) = Err (refused 27 (entry_field xsdt entry))
 
 -- 26: "no MADT or no FADT", at the XSDT; then 27
 unfoldable pub name_rules : List ℕ → Table → List Verdict
 name_rules capture xsdt =
-    rule (is_nowhere (first_named capture xsdt apic) || is_nowhere (first_named capture xsdt facp)) 26 xsdt.place
+    rule (is_none (first_named capture xsdt apic) || is_none (first_named capture xsdt facp)) 26 xsdt.place
     ∷ second_rule xsdt (earlier (second_named capture xsdt apic) (second_named capture xsdt facp))
     ∷ []
 
@@ -88,9 +79,9 @@ unfoldable pub with_sci : List ℕ → Table → Table → Tables
 with_sci capture madt fadt = record { madt = madt; fadt = fadt; sci = sci_number capture fadt }
 
 -- the table that an entry names
-unfoldable pub table_of_entry : List ℕ → Table → Entry → Table
-table_of_entry capture xsdt Nowhere = record { place = 0; length = 0 }
-table_of_entry capture xsdt (At entry) = table_named capture (entry_field xsdt entry)
+unfoldable pub table_of_entry : List ℕ → Table → Option ℕ → Table
+table_of_entry capture xsdt None = record { place = 0; length = 0 }
+table_of_entry capture xsdt (Some entry) = table_named capture (entry_field xsdt entry)
 
 unfoldable pub madt_of : List ℕ → Table → Table
 madt_of capture xsdt = table_of_entry capture xsdt (first_named capture xsdt apic)
@@ -128,5 +119,5 @@ rules_before_29 capture =
 unfoldable pub survey_rules : Strictness → List ℕ → List Verdict
 survey_rules strictness capture = rules_before_29 capture ++ madt_field_rules strictness capture (madt_of capture (xsdt_of capture))
 
-unfoldable pub survey : Strictness → List ℕ → Survey
-survey strictness capture = unless Refused (first_refusal (survey_rules strictness capture)) (Found (tables_of capture))
+unfoldable pub survey : Strictness → List ℕ → Result Tables Refusal
+survey strictness capture = unless Err (first_refusal (survey_rules strictness capture)) (Ok (tables_of capture))

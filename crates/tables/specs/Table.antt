@@ -1,12 +1,10 @@
 -- Document 01, "Tables": a table that an address field names, and refusals 20 to 22. They hold for every table.
-use Rattle.std.specs.Prelude.{ℕ, ◌+◌, Bool, not, ◌||◌, List, [], ◌∷◌, eqb, ltb}
+use Rattle.std.specs.Prelude.{ℕ, ◌+◌, Bool, not, ◌||◌, List, [], ◌∷◌, eqb, ltb, Result, Ok, Err}
 use Rattle.words.specs.Bytes.{byte_at, number_at, part_at, byte_sum}
-use Rattle.words.specs.Refusals.{rule, unless, first_refusal}
-use Rattle.words.specs.declared.Verdict.{Verdict}
+use Rattle.words.specs.Refusals.{Verdict, rule, unless, first_refusal}
 use Rattle.capture.specs.Presence.{Stretch, is_present, place_of, located}
 use Rattle.tables.specs.declared.Table.{Table}
-use Rattle.tables.specs.declared.Checked.{Checked}
-use Rattle.tables.specs.declared.Checked.TheVariants.{Is, Refused}
+use Rattle.words.specs.declared.Refusal.{Refusal}
 
 -- "body from 36": the size of the header
 abbrev pub header_size : ℕ
@@ -55,5 +53,5 @@ table_rules capture field =
     ∷ []
 
 -- the table that a field names, unless it is refused
-unfoldable pub table_at : List ℕ → ℕ → Checked
-table_at capture field = unless Refused (first_refusal (table_rules capture field)) (Is (table_named capture field))
+unfoldable pub table_at : List ℕ → ℕ → Result Table Refusal
+table_at capture field = unless Err (first_refusal (table_rules capture field)) (Ok (table_named capture field))

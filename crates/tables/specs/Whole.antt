@@ -1,11 +1,10 @@
 -- A shortcut of the program, and no line of document 01: 21 and 22 of a table whose header is present, by the room at its place.
 -- In a sound capture they are those of `table_rules`: proofs/Whole, so that no answer changes.
-use Rattle.std.specs.Prelude.{ℕ, ◌||◌, List, [], ◌∷◌, ltb}
-use Rattle.words.specs.Refusals.{rule, unless, first_refusal}
-use Rattle.words.specs.declared.Verdict.{Verdict}
+use Rattle.std.specs.Prelude.{ℕ, ◌||◌, List, [], ◌∷◌, ltb, Result, Ok, Err}
+use Rattle.words.specs.Refusals.{Verdict, rule, unless, first_refusal}
 use Rattle.tables.specs.Table.{header_size, table_length, wrong_sum}
-use Rattle.tables.specs.declared.Checked.{Checked}
-use Rattle.tables.specs.declared.Checked.TheVariants.{Is, Refused}
+use Rattle.words.specs.declared.Refusal.{Refusal}
+use Rattle.tables.specs.declared.Table.{Table}
 
 unfoldable pub rules_within : List ℕ → ℕ → ℕ → List Verdict
 rules_within capture place room =
@@ -13,6 +12,6 @@ rules_within capture place room =
     ∷ rule (wrong_sum capture place) 22 place
     ∷ []
 
-unfoldable pub table_within : List ℕ → ℕ → ℕ → Checked
+unfoldable pub table_within : List ℕ → ℕ → ℕ → Result Table Refusal
 table_within capture place room =
-    unless Refused (first_refusal (rules_within capture place room)) (Is (record { place = place; length = table_length capture place }))
+    unless Err (first_refusal (rules_within capture place room)) (Ok (record { place = place; length = table_length capture place }))

@@ -3,8 +3,7 @@ use Rattle.std.specs.Prelude.{ℕ, ◌+◌, ◌-◌, ◌*◌, ◌/◌, ◌%◌, 
 use Prim.Native.Char.{code}
 use Rattle.words.specs.Bytes.{spelled}
 use Rattle.words.specs.Lists.{in_each, numbers_below}
-use Rattle.words.specs.Refusals.{rule}
-use Rattle.words.specs.declared.Verdict.{Verdict}
+use Rattle.words.specs.Refusals.{Verdict, rule}
 use Rattle.tables.specs.Table.{header_size, signature, revision, table_rules}
 use Rattle.tables.specs.declared.Table.{Table}
 

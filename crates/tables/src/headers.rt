@@ -1,12 +1,12 @@
 // Any table, by its header: the fields that all tables have, and refusals 20 to 22. Nothing here knows what a table is for.
-ghost use Rattle.std.specs.Prelude.{◌≡◌};
+ghost use Rattle.std.specs.Prelude.{◌≡◌, Ok};
 ghost use Rattle.words.specs.Bytes.{part_at, byte_sum};
-ghost use Rattle.capture.specs.Rules.{verdict};
-ghost use Rattle.words.specs.declared.Verdict.TheVariants.{Sound};
 ghost use Rattle.tables.specs.Table.{address_at, signature, table_length, revision, table_at};
 ghost use Rattle.tables.specs.Whole.{table_within};
 
-use crate::{Checked, Table};
+use crate::Table;
+use capture::Sound;
+use words::Refusal;
 
 // A header's size, and where its length and its revision stand.
 pub(crate) const HEADER_SIZE: u32 = 36;
@@ -47,17 +47,19 @@ pub(crate) fn revision_of(capture: &[u8], place: u16) -> u8
 }
 
 // Refusals 21 and 22, of the table whose header stands at a place with so much room.
-fn check_whole(capture: &[u8], place: u16, room: u16) -> Checked
+#[tactic(auto, unfolding(crate::specs::Whole::table_within, crate::specs::Whole::rules_within, crate::specs::Table::wrong_sum, words::specs::Refusals::unless, words::specs::Refusals::first_refusal))]
+fn check_whole(capture: &[u8], place: u16, room: u16) -> Result<Table, Refusal>
     ensures { result ≡ table_within capture.now place room }
 {
     let length = length_of(capture, place);
-    if (length < HEADER_SIZE) | ((room as u32) < length) {
-        return Checked::Refused(words::refuse(21, place as u32));
-    }
-    if !(sum_at(capture, place, length as usize) == 0) {
-        return Checked::Refused(words::refuse(22, place as u32));
-    }
-    Checked::Is(Table {
+    words::rule(
+        (length < HEADER_SIZE) | ((room as u32) < length),
+        21,
+        place as u32,
+    )?;
+    let sum = sum_at(capture, place, length as usize);
+    words::rule(sum != 0, 22, place as u32)?;
+    Ok(Table {
         place,
         length: length as u16,
     })
@@ -65,13 +67,12 @@ fn check_whole(capture: &[u8], place: u16, room: u16) -> Checked
 
 // Refusals 20 to 22, of the table that the address field at a place names. A sound capture is small: 16 bits hold the place and
 // the room.
-pub(crate) fn check_table(capture: &[u8], field: u32) -> Checked
-    requires { verdict capture.now ≡ Sound }
-    ensures { result ≡ table_at capture.now field }
+pub(crate) fn check_table(capture: Sound<'_>, field: u32) -> Result<Table, Refusal>
+    ensures { result ≡ table_at capture.entry.bytes.now field }
 {
-    let reach = capture::reach_of(capture, address_at(capture, field));
+    let reach = capture::reach_of(capture.bytes, address_at(capture.bytes, field));
     if reach.room < HEADER_SIZE as u64 {
-        return Checked::Refused(words::refuse(20, field));
+        return Err(words::refuse(20, field));
     }
-    check_whole(capture, reach.place as u16, reach.room as u16)
+    check_whole(capture.bytes, reach.place as u16, reach.room as u16)
 }

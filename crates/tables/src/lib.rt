@@ -2,9 +2,7 @@
 // and the stepper over structures are written for any table. Every public function answers for any bytes.
 #![tactic(auto)]
 
-ghost use Rattle.std.specs.Prelude.{◌≡◌, ◌++◌};
-ghost use Rattle.capture.specs.Rules.{verdict};
-ghost use Rattle.words.specs.declared.Verdict.TheVariants.{Sound};
+ghost use Rattle.std.specs.Prelude.{◌≡◌, ◌++◌, Err, Ok};
 ghost use Rattle.words.specs.Refusals.{unless, first_refusal};
 ghost use Rattle.tables.specs.Rsdp.{rsdp_rules, xsdt_field};
 ghost use Rattle.tables.specs.Table.{table_rules, table_named};
@@ -13,8 +11,8 @@ ghost use Rattle.tables.specs.Survey.{apic, facp, earlier, second_rule, name_rul
 ghost use Rattle.tables.specs.Naming.{named};
 ghost use Rattle.tables.specs.Structures.{step_at};
 
-use capture::Root;
-use words::{Refusal, Verdict};
+use capture::Sound;
+use words::Refusal;
 
 mod headers; // any table: 20 to 22
 mod rsdp; // 11 to 14
@@ -27,33 +25,12 @@ pub struct Table {
     pub length: u16,
 }
 
-// A table that went through refusals 20 to 22.
-#[derive(Clone, Copy)]
-pub enum Checked {
-    Is(Table),
-    Refused(Refusal),
-}
-
-// An entry of the XSDT, by its number.
-#[derive(Clone, Copy)]
-pub enum Entry {
-    At(u16),
-    Nowhere,
-}
-
-// What the XSDT's entries say of a signature: the first entry that names a table with it, that table, and the second entry.
+// What the XSDT's entries say of a signature: the table of the first entry that names one with it, and the second such entry, by its
+// number.
 #[derive(Clone, Copy)]
 pub struct Named {
-    pub first: Entry,
-    pub table: Table,
-    pub second: Entry,
-}
-
-// What they say of the MADT's and of the FADT's signature, if no entry is refused.
-#[derive(Clone, Copy)]
-pub enum Names {
-    Are(Named, Named),
-    Refused(Refusal),
+    pub first: Option<Table>,
+    pub second: Option<u16>,
 }
 
 // What the layers above read from.
@@ -69,12 +46,6 @@ pub struct Tables {
 pub enum Strictness {
     Ordinary,
     Strict,
-}
-
-#[derive(Clone, Copy)]
-pub enum Survey {
-    Found(Tables),
-    Refused(Refusal),
 }
 
 // What stands at an offset of a table of structures.
@@ -95,28 +66,23 @@ const FADT_SCI: usize = 46;
 const FADT_LEAST: u16 = 48;
 
 // The earlier of two entries.
-fn earlier_of(entry: Entry, other: Entry) -> Entry
+fn earlier_of(entry: Option<u16>, other: Option<u16>) -> Option<u16>
     ensures { result ≡ earlier entry other }
 {
-    let Entry::At(e) = entry else {
-        return other;
-    };
-    let Entry::At(o) = other else {
-        return Entry::At(e);
-    };
-    if e <= o {
-        return Entry::At(e);
+    match (entry, other) {
+        (Some(e), Some(o)) => Some(if e <= o { e } else { o }),
+        _ => entry.or(other),
     }
-    Entry::At(o)
 }
 
 // Refusal 27.
-fn second_rule(xsdt: Table, second: Entry) -> Verdict
+#[tactic(auto, unfolding(crate::specs::Survey::second_rule))]
+fn second_rule(xsdt: Table, second: Option<u16>) -> Result<(), Refusal>
     ensures { result ≡ second_rule xsdt second }
 {
     match second {
-        Entry::Nowhere => Verdict::Sound,
-        Entry::At(entry) => Verdict::Refused(words::refuse(27, xsdt::entry_field(xsdt, entry))),
+        None => Ok(()),
+        Some(entry) => Err(words::refuse(27, xsdt::entry_field(xsdt, entry))),
     }
 }
 
@@ -138,22 +104,24 @@ fn wrong_flags(capture: &[u8], madt: Table) -> bool
 }
 
 // Refusals 28 to 30.
-fn body_rules(strictness: Strictness, capture: &[u8], madt: Table, fadt: Table) -> Verdict
+#[tactic(auto, unfolding(crate::specs::Survey::body_rules, crate::specs::Survey::length_rules, crate::specs::Survey::madt_field_rules, words::specs::Refusals::unless, words::specs::Refusals::first_refusal))]
+fn body_rules(
+    strictness: Strictness,
+    capture: &[u8],
+    madt: Table,
+    fadt: Table,
+) -> Result<(), Refusal>
     ensures { result ≡ first_refusal (body_rules strictness capture.now madt fadt) }
 {
-    if madt.length < MADT_LEAST {
-        return Verdict::Refused(words::refuse(28, madt.place as u32));
-    }
-    if fadt.length < FADT_LEAST {
-        return Verdict::Refused(words::refuse(28, fadt.place as u32));
-    }
-    if wrong_madt_revision(strictness, headers::revision_of(capture, madt.place)) {
-        return Verdict::Refused(words::refuse(29, madt.place as u32));
-    }
-    if wrong_flags(capture, madt) {
-        return Verdict::Refused(words::refuse(30, madt.place as u32));
-    }
-    Verdict::Sound
+    words::rule(madt.length < MADT_LEAST, 28, madt.place as u32)?;
+    words::rule(fadt.length < FADT_LEAST, 28, fadt.place as u32)?;
+    let revision = headers::revision_of(capture, madt.place);
+    words::rule(
+        wrong_madt_revision(strictness, revision),
+        29,
+        madt.place as u32,
+    )?;
+    words::rule(wrong_flags(capture, madt), 30, madt.place as u32)
 }
 
 fn sci_number(capture: &[u8], fadt: Table) -> u16
@@ -163,18 +131,22 @@ fn sci_number(capture: &[u8], fadt: Table) -> u16
 }
 
 // Refusals 28 to 30, and what is found.
-fn survey_tables(strictness: Strictness, capture: &[u8], madt: Table, fadt: Table) -> Survey
+#[tactic(auto, unfolding(crate::specs::Survey::with_sci, words::specs::Refusals::unless))]
+fn survey_tables(
+    strictness: Strictness,
+    capture: &[u8],
+    madt: Table,
+    fadt: Table,
+) -> Result<Tables, Refusal>
     ensures { let c = capture.now in
-        result ≡ unless Survey.Refused (first_refusal (body_rules strictness c madt fadt)) (Survey.Found (with_sci c madt fadt)) }
+        result ≡ unless Err (first_refusal (body_rules strictness c madt fadt)) (Ok (with_sci c madt fadt)) }
 {
-    match body_rules(strictness, capture, madt, fadt) {
-        Verdict::Refused(refusal) => Survey::Refused(refusal),
-        Verdict::Sound => Survey::Found(Tables {
-            madt,
-            fadt,
-            sci: sci_number(capture, fadt),
-        }),
-    }
+    body_rules(strictness, capture, madt, fadt)?;
+    Ok(Tables {
+        madt,
+        fadt,
+        sci: sci_number(capture, fadt),
+    })
 }
 
 // Refusals 26 and 27, and what comes after.
@@ -184,71 +156,54 @@ fn survey_names(
     xsdt: Table,
     madt: Named,
     fadt: Named,
-) -> Survey
+) -> Result<Tables, Refusal>
     requires madt_value { madt ≡ named capture.now xsdt apic }
     requires fadt_value { fadt ≡ named capture.now xsdt facp }
     ensures { let c = capture.now in
         let rules = name_rules c xsdt ++ body_rules strictness c (madt_of c xsdt) (fadt_of c xsdt) in
-        result ≡ unless Survey.Refused (first_refusal rules) (Survey.Found (tables_from c xsdt)) }
+        result ≡ unless Err (first_refusal rules) (Ok (tables_from c xsdt)) }
 {
-    let first_madt = madt.first;
-    let first_fadt = fadt.first;
-    if xsdt::is_nowhere(first_madt) | xsdt::is_nowhere(first_fadt) {
-        return Survey::Refused(words::refuse(26, xsdt.place as u32));
-    }
-    let second_madt = madt.second;
-    let second_fadt = fadt.second;
-    match second_rule(xsdt, earlier_of(second_madt, second_fadt)) {
-        Verdict::Refused(refusal) => Survey::Refused(refusal),
-        Verdict::Sound => survey_tables(strictness, capture, madt.table, fadt.table),
-    }
+    let (Some(first_madt), Some(first_fadt)) = (madt.first, fadt.first) else {
+        return Err(words::refuse(26, xsdt.place as u32));
+    };
+    second_rule(xsdt, earlier_of(madt.second, fadt.second))?;
+    survey_tables(strictness, capture, first_madt, first_fadt)
 }
 
 // Refusals 23 to 25, those of the entries, and what comes after.
-fn survey_xsdt(strictness: Strictness, capture: &[u8], xsdt: Table) -> Survey
-    requires { verdict capture.now ≡ Sound }
-    ensures { let c = capture.now in
+fn survey_xsdt(strictness: Strictness, capture: Sound<'_>, xsdt: Table) -> Result<Tables, Refusal>
+    ensures { let c = capture.entry.bytes.now in
         let rules = xsdt_rules c xsdt ++ (entry_rules c xsdt ++ (name_rules c xsdt ++ body_rules strictness c (madt_of c xsdt) (fadt_of c xsdt))) in
-        result ≡ unless Survey.Refused (first_refusal rules) (Survey.Found (tables_from c xsdt)) }
+        result ≡ unless Err (first_refusal rules) (Ok (tables_from c xsdt)) }
 {
-    match xsdt::xsdt_rules(capture, xsdt) {
-        Verdict::Refused(refusal) => Survey::Refused(refusal),
-        Verdict::Sound => match xsdt::find_names(capture, xsdt) {
-            Names::Refused(refusal) => Survey::Refused(refusal),
-            Names::Are(madt, fadt) => survey_names(strictness, capture, xsdt, madt, fadt),
-        },
-    }
+    xsdt::xsdt_rules(capture.bytes, xsdt)?;
+    let (madt, fadt) = xsdt::find_names(capture, xsdt)?;
+    survey_names(strictness, capture.bytes, xsdt, madt, fadt)
 }
 
 // Refusals 11 to 14, the XSDT's 20 to 22, and what comes after.
-fn survey_rsdp(strictness: Strictness, capture: &[u8], place: u16) -> Survey
-    requires { verdict capture.now ≡ Sound }
-    ensures { let c = capture.now in
+fn survey_rsdp(strictness: Strictness, capture: Sound<'_>, place: u16) -> Result<Tables, Refusal>
+    ensures { let c = capture.entry.bytes.now in
         let xsdt = table_named c (xsdt_field place) in
         let rules =
         rsdp_rules c place
         ++ (table_rules c (xsdt_field place)
         ++ (xsdt_rules c xsdt
         ++ (entry_rules c xsdt ++ (name_rules c xsdt ++ body_rules strictness c (madt_of c xsdt) (fadt_of c xsdt))))) in
-        result ≡ unless Survey.Refused (first_refusal rules) (Survey.Found (tables_from c xsdt)) }
+        result ≡ unless Err (first_refusal rules) (Ok (tables_from c xsdt)) }
 {
-    match rsdp::rsdp_rules(capture, place) {
-        Verdict::Refused(refusal) => Survey::Refused(refusal),
-        Verdict::Sound => match headers::check_table(capture, place as u32 + rsdp::XSDT_FIELD) {
-            Checked::Refused(refusal) => Survey::Refused(refusal),
-            Checked::Is(xsdt) => survey_xsdt(strictness, capture, xsdt),
-        },
-    }
+    rsdp::rsdp_rules(capture.bytes, place)?;
+    let xsdt = headers::check_table(capture, place as u32 + rsdp::XSDT_FIELD)?;
+    survey_xsdt(strictness, capture, xsdt)
 }
 
 // Refusals 1 to 30: MADT, FADT and SCI number of a capture, or the first rule that it breaks.
-pub fn survey_capture(strictness: Strictness, capture: &[u8]) -> Survey
+pub fn survey_capture(strictness: Strictness, capture: &[u8]) -> Result<Tables, Refusal>
     ensures { result ≡ survey strictness capture.now }
 {
-    match capture::find_rsdp(capture) {
-        Root::Refused(refusal) => Survey::Refused(refusal),
-        Root::At(place) => survey_rsdp(strictness, capture, place),
-    }
+    let sound = Sound::of(capture)?;
+    let place = sound.locate_rsdp()?;
+    survey_rsdp(strictness, sound, place)
 }
 
 // What stands at an offset of a table of structures that say their own length: the stepper for the MADT and its like.

@@ -4,7 +4,7 @@ ghost use Rattle.words.specs.Refusals.{first_refusal};
 ghost use Rattle.tables.specs.Rsdp.{wrong_signature, wrong_revision, wrong_length, wrong_sums, rsdp_rules};
 
 use crate::headers;
-use words::Verdict;
+use words::Refusal;
 
 // Its size, and where its fields stand.
 const SIZE: usize = 36;
@@ -50,20 +50,12 @@ fn wrong_sums(capture: &[u8], place: u16) -> bool
 }
 
 // Refusals 11 to 14.
-pub(crate) fn rsdp_rules(capture: &[u8], place: u16) -> Verdict
+#[tactic(auto, unfolding(crate::specs::Rsdp::rsdp_rules, words::specs::Refusals::unless, words::specs::Refusals::first_refusal))]
+pub(crate) fn rsdp_rules(capture: &[u8], place: u16) -> Result<(), Refusal>
     ensures { result ≡ first_refusal (rsdp_rules capture.now place) }
 {
-    if wrong_signature(capture, place) {
-        return Verdict::Refused(words::refuse(11, place as u32));
-    }
-    if wrong_revision(capture, place) {
-        return Verdict::Refused(words::refuse(12, place as u32));
-    }
-    if wrong_length(capture, place) {
-        return Verdict::Refused(words::refuse(13, place as u32));
-    }
-    if wrong_sums(capture, place) {
-        return Verdict::Refused(words::refuse(14, place as u32));
-    }
-    Verdict::Sound
+    words::rule(wrong_signature(capture, place), 11, place as u32)?;
+    words::rule(wrong_revision(capture, place), 12, place as u32)?;
+    words::rule(wrong_length(capture, place), 13, place as u32)?;
+    words::rule(wrong_sums(capture, place), 14, place as u32)
 }

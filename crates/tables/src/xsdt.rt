@@ -1,14 +1,13 @@
 // The XSDT: refusals 23 to 25, its entries, and the tables that they name.
-ghost use Rattle.std.specs.Prelude.{◌≡◌, ◌-◌};
-ghost use Rattle.capture.specs.Rules.{verdict};
-ghost use Rattle.words.specs.declared.Verdict.TheVariants.{Sound};
+ghost use Rattle.std.specs.Prelude.{◌≡◌, ◌-◌, Err, Ok};
 ghost use Rattle.words.specs.Refusals.{unless, first_refusal};
 ghost use Rattle.tables.specs.Xsdt.{not_xsdt, wrong_xsdt_revision, wrong_body, entry_count, xsdt_rules, entry_field, entry_rules};
-ghost use Rattle.tables.specs.Survey.{apic, facp, is_nowhere};
+ghost use Rattle.tables.specs.Survey.{apic, facp};
 ghost use Rattle.tables.specs.Naming.{named, not_named, one_more};
 
-use crate::{Checked, Entry, Named, Names, Table, headers};
-use words::Verdict;
+use crate::{Named, Table, headers};
+use capture::Sound;
+use words::Refusal;
 
 // An entry is an address of 64 bits; 32 entries are the most.
 const ADDRESS_SIZE: u32 = 8;
@@ -40,11 +39,7 @@ fn wrong_xsdt_revision(capture: &[u8], xsdt: Table) -> bool
 fn body_size(table: Table) -> u16
     ensures { result ≡ table.length - 36 }
 {
-    let length = table.length;
-    if length < headers::HEADER_SIZE as u16 {
-        return 0;
-    }
-    length - headers::HEADER_SIZE as u16
+    table.length.saturating_sub(headers::HEADER_SIZE as u16)
 }
 
 fn entry_count(xsdt: Table) -> u16
@@ -61,19 +56,13 @@ fn wrong_body(xsdt: Table) -> bool
 }
 
 // Refusals 23 to 25.
-pub(crate) fn xsdt_rules(capture: &[u8], xsdt: Table) -> Verdict
+#[tactic(auto, unfolding(crate::specs::Xsdt::xsdt_rules, words::specs::Refusals::unless, words::specs::Refusals::first_refusal))]
+pub(crate) fn xsdt_rules(capture: &[u8], xsdt: Table) -> Result<(), Refusal>
     ensures { result ≡ first_refusal (xsdt_rules capture.now xsdt) }
 {
-    if not_xsdt(capture, xsdt) {
-        return Verdict::Refused(words::refuse(23, xsdt.place as u32));
-    }
-    if wrong_xsdt_revision(capture, xsdt) {
-        return Verdict::Refused(words::refuse(24, xsdt.place as u32));
-    }
-    if wrong_body(xsdt) {
-        return Verdict::Refused(words::refuse(25, xsdt.place as u32));
-    }
-    Verdict::Sound
+    words::rule(not_xsdt(capture, xsdt), 23, xsdt.place as u32)?;
+    words::rule(wrong_xsdt_revision(capture, xsdt), 24, xsdt.place as u32)?;
+    words::rule(wrong_body(xsdt), 25, xsdt.place as u32)
 }
 
 // The place of an entry's address field.
@@ -83,26 +72,14 @@ pub(crate) fn entry_field(xsdt: Table, entry: u16) -> u32
     (xsdt.place as u32) + headers::HEADER_SIZE + ADDRESS_SIZE * (entry as u32)
 }
 
-pub(crate) fn is_nowhere(entry: Entry) -> bool
-    ensures { result ≡ is_nowhere entry }
-{
-    match entry {
-        Entry::Nowhere => true,
-        Entry::At(_) => false,
-    }
-}
-
 // What is known of a signature before any entry was looked at.
+#[tactic(auto, unfolding(crate::specs::Naming::not_named))]
 fn not_named() -> Named
     ensures { result ≡ not_named }
 {
     Named {
-        first: Entry::Nowhere,
-        table: Table {
-            place: 0,
-            length: 0,
-        },
-        second: Entry::Nowhere,
+        first: None,
+        second: None,
     }
 }
 
@@ -110,50 +87,31 @@ fn not_named() -> Named
 fn noted(known: Named, signed: bool, table: Table, entry: u16) -> Named
     ensures { result ≡ one_more known signed table entry }
 {
-    if !signed {
-        return known;
+    match (signed, known.first, known.second) {
+        (true, None, _) => Named {
+            first: Some(table),
+            second: None,
+        },
+        (true, Some(_), None) => Named {
+            first: known.first,
+            second: Some(entry),
+        },
+        _ => known,
     }
-    let first = known.first;
-    if is_nowhere(first) {
-        return Named {
-            first: Entry::At(entry),
-            table,
-            second: Entry::Nowhere,
-        };
-    }
-    let second = known.second;
-    if is_nowhere(second) {
-        let kept = known.table;
-        return Named {
-            first,
-            table: kept,
-            second: Entry::At(entry),
-        };
-    }
-    known
 }
 
 // The finder, and refusals 20 to 22 of the entries in turn: each entry's table is located and summed once.
-pub(crate) fn find_names(capture: &[u8], xsdt: Table) -> Names
-    requires { verdict capture.now ≡ Sound }
-    ensures { let c = capture.now in
-        result ≡ unless Names.Refused (first_refusal (entry_rules c xsdt)) (Names.Are (named c xsdt apic) (named c xsdt facp)) }
+pub(crate) fn find_names(capture: Sound<'_>, xsdt: Table) -> Result<(Named, Named), Refusal>
+    ensures { let c = capture.entry.bytes.now in
+        result ≡ unless Err (first_refusal (entry_rules c xsdt)) (Ok (named c xsdt apic, named c xsdt facp)) }
 {
-    let n = entry_count(xsdt);
-    let none = not_named();
-    let mut madt = none;
-    let mut fadt = none;
-    let mut entry: u16 = 0;
-    while entry < n {
-        match headers::check_table(capture, entry_field(xsdt, entry)) {
-            Checked::Refused(refusal) => return Names::Refused(refusal),
-            Checked::Is(table) => {
-                let letters = headers::signature_of(capture, table.place);
-                madt = noted(madt, letters == APIC, table, entry);
-                fadt = noted(fadt, letters == FACP, table, entry);
-            }
-        }
-        entry += 1;
+    let mut madt = not_named();
+    let mut fadt = not_named();
+    for entry in 0..entry_count(xsdt) {
+        let table = headers::check_table(capture, entry_field(xsdt, entry))?;
+        let letters = headers::signature_of(capture.bytes, table.place);
+        madt = noted(madt, letters == APIC, table, entry);
+        fadt = noted(fadt, letters == FACP, table, entry);
     }
-    Names::Are(madt, fadt)
+    Ok((madt, fadt))
 }

@@ -5,6 +5,7 @@ use Prim.Native.Nat.{ℕ, ◌+◌, ◌*◌, ◌≤◌}
 use native.Mathlib.Nat.{mul-suc, le_trans, mul-le-mul_left}
 use native.Mathlib.Omega.{arith}
 use lib.ListN.{length, length-append, length-take, take}
+use Rattle.std.specs.Prelude.{Result, Ok, Err}
 use Rattle.words.specs.declared.Refusal.{Refusal}
 use Rattle.kinds.specs.declared.Half.{Half}
 use Rattle.kinds.specs.declared.Lio.{Lio}
@@ -16,7 +17,7 @@ use Rattle.kinds.specs.declared.Msi.{Msi}
 use Rattle.kinds.specs.declared.Lpc.{Lpc}
 use Rattle.lines.specs.declared.Map.{Map}
 use Rattle.lines.specs.declared.Route.{Route}
-use Rattle.lines.specs.declared.Route.TheVariants.{Arrives, Unwired, NoOwner, Refused}
+use Rattle.lines.specs.declared.Route.TheVariants.{Arrives, Unwired, NoOwner}
 use Rattle.words.proofs.Choices.{if_cases}
 use Rattle.text.specs.Numerals.{letters}
 use Rattle.text.specs.Lines.{each, field, phrase, line, version_line, core_line, core_lines, half_line, lio_lines, ht_line, eio_line, bio_line, msi_line, lpc_line, sci_line, places_line, refusal_line}
@@ -111,12 +112,12 @@ lpc-length lpc =
     (λ t. line-length (letters "lpc") (lpc.node ∷ lpc.cascade ∷ []))
     (λ t. omega arith)
 
-sci_length : (sci : ℕ) (route : Route) → length (sci_line sci route) ≤ 67
+sci_length : (sci : ℕ) (route : Result Route Refusal) → length (sci_line sci route) ≤ 67
 unfolding sci_line letters
-sci_length sci (Arrives vector number) = line-length (letters "sci") (sci ∷ vector ∷ number ∷ [])
-sci_length sci Unwired = omega arith
-sci_length sci NoOwner = omega arith
-sci_length sci (Refused refusal) = omega arith
+sci_length sci (Ok (Arrives vector number)) = line-length (letters "sci") (sci ∷ vector ∷ number ∷ [])
+sci_length sci (Ok Unwired) = omega arith
+sci_length sci (Ok NoOwner) = omega arith
+sci_length sci (Err refusal) = omega arith
 
 -- ---- the texts
 places_length : (place second : ℕ) → length (places_line place second) ≤ 51

@@ -1,18 +1,20 @@
--- What is written of a half of the LIO, of the HT, of the LPC and of a refusal's places, by their cases.
-use mathlib.Core.Path.{◌≡◌, refl, ◌∙◌, ap}
+-- What is written of a half of the LIO, of the HT, of the LPC, of a refusal's places, of a processor list and of the SCI, by their cases.
+use mathlib.Core.Path.{◌≡◌, refl}
 use mathlib.Core.Bool.{true, false}
-use mathlib.Core.List.{List, [], ◌∷◌}
-use Prim.Native.Nat.{ℕ, zero, suc, ◌<◌}
+use mathlib.Core.List.{List, [], ◌∷◌, ◌++◌}
+use Prim.Native.Nat.{ℕ, ◌<◌}
 use native.Mathlib.Omega.{arith}
 use lib.ListN.{length, get_or}
-use lib.Seq.{ext_get_or}
 use borrow.Author.Tests.{eq-eqb, ne_eqb}
+use Rattle.std.specs.Prelude.{Ok}
 use Rattle.words.proofs.Choices.{yes_if, no_if}
 use Rattle.kinds.specs.declared.Half.{Half}
 use Rattle.kinds.specs.declared.Ht.{Ht}
 use Rattle.kinds.specs.declared.Lpc.{Lpc}
 use Rattle.text.specs.Numerals.{letters}
-use Rattle.text.specs.Lines.{line, half_line, ht_line, lpc_line, places_line}
+use Rattle.lines.specs.declared.Route.{Route}
+use Rattle.lines.specs.declared.Route.TheVariants.{Arrives, Unwired, NoOwner}
+use Rattle.text.specs.Lines.{phrase, line, core_line, core_lines, half_line, ht_line, lpc_line, sci_line, places_line}
 
 pub half_unused : (half : Half) → half.mask ≡ 0 → half_line half ≡ []
 unfolding half_line
@@ -26,25 +28,9 @@ pub ht_absent : (ht : Ht) → ht.present ≡ false → ht_line ht ≡ []
 unfolding ht_line
 ht_absent ht h = no_if _ _ _ h refl
 
--- eight bytes, one by one
-eight_listed : (l : List ℕ) → length l ≡ 8 → l ≡ get_or l 0 0 ∷ get_or l 1 0 ∷ get_or l 2 0 ∷ get_or l 3 0 ∷ get_or l 4 0 ∷ get_or l 5 0 ∷ get_or l 6 0 ∷ get_or l 7 0 ∷ []
-eight_listed l eight = ext_get_or 0 l _ eight (λ i h. each i (omega arith))
-  where
-    each : (i : ℕ) → i < 8 → get_or l i 0 ≡ get_or (get_or l 0 0 ∷ get_or l 1 0 ∷ get_or l 2 0 ∷ get_or l 3 0 ∷ get_or l 4 0 ∷ get_or l 5 0 ∷ get_or l 6 0 ∷ get_or l 7 0 ∷ []) i 0
-    each zero h = refl
-    each (suc zero) h = refl
-    each (suc (suc zero)) h = refl
-    each (suc (suc (suc zero))) h = refl
-    each (suc (suc (suc (suc zero)))) h = refl
-    each (suc (suc (suc (suc (suc zero))))) h = refl
-    each (suc (suc (suc (suc (suc (suc zero)))))) h = refl
-    each (suc (suc (suc (suc (suc (suc (suc zero))))))) h = refl
-    each (suc (suc (suc (suc (suc (suc (suc (suc i)))))))) h = absurd (omega arith)
-
-pub ht_there : (ht : Ht) → length ht.bytes ≡ 8 → ht.present ≡ true
-    → ht_line ht ≡ line (letters "ht") (get_or ht.bytes 0 0 ∷ get_or ht.bytes 1 0 ∷ get_or ht.bytes 2 0 ∷ get_or ht.bytes 3 0 ∷ get_or ht.bytes 4 0 ∷ get_or ht.bytes 5 0 ∷ get_or ht.bytes 6 0 ∷ get_or ht.bytes 7 0 ∷ [])
+pub ht_there : (ht : Ht) → ht.present ≡ true → ht_line ht ≡ line (letters "ht") ht.bytes
 unfolding ht_line
-ht_there ht eight h = yes_if _ _ _ h ∙ ap (line (letters "ht")) (eight_listed ht.bytes eight)
+ht_there ht h = yes_if _ _ _ h
 
 pub lpc_absent : (lpc : Lpc) → lpc.present ≡ false → lpc_line lpc ≡ []
 unfolding lpc_line
@@ -57,3 +43,32 @@ lpc_present lpc h = yes_if _ _ _ h
 pub one_place : (place second : ℕ) → second ≡ 0 → places_line place second ≡ line (letters " at") (place ∷ [])
 unfolding places_line
 one_place place second h = yes_if _ _ _ (eq-eqb second 0 h)
+
+pub two_places : (place second : ℕ) → (second ≡ 0 → ⊥)
+    → places_line place second ≡ phrase (letters " at") (place ∷ []) ++ line (letters " with") (second ∷ [])
+unfolding places_line
+two_places place second h = no_if _ _ _ (ne_eqb second 0 h) refl
+
+-- two numbers of a processor list, and the later ones
+pub next_core : (list core later : List ℕ) → list ≡ core ++ later → length core ≡ 2
+    → core_lines list ≡ core_line (get_or core 0 0) (get_or core 1 0) ++ core_lines later
+unfolding core_lines
+next_core list core later e two = rw e (pair core two)
+  where
+    pair : (core : List ℕ) → length core ≡ 2 → core_lines (core ++ later) ≡ core_line (get_or core 0 0) (get_or core 1 0) ++ core_lines later
+    pair [] h = absurd (omega arith)
+    pair (uid ∷ []) h = absurd (omega arith)
+    pair (uid ∷ id ∷ []) h = refl
+    pair (uid ∷ id ∷ x ∷ xs) h = absurd (omega arith)
+
+pub no_core : (list : List ℕ) → length list < 2 → core_lines list ≡ []
+unfolding core_lines
+no_core [] few = refl
+no_core (uid ∷ []) few = refl
+no_core (uid ∷ id ∷ later) few = absurd (omega arith)
+
+pub no_sci : (sci : ℕ) (route : Route) → ((vector number : ℕ) → route ≡ Arrives vector number → ⊥) → sci_line sci (Ok route) ≡ []
+unfolding sci_line
+no_sci sci (Arrives vector number) h = absurd (h vector number refl)
+no_sci sci Unwired h = refl
+no_sci sci NoOwner h = refl

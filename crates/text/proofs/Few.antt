@@ -4,7 +4,6 @@ use mathlib.Core.List.{List}
 use Prim.Native.Nat.{ℕ, ◌≤◌}
 use native.Mathlib.Omega.{arith}
 use lib.ListN.{length}
-use Rattle.words.specs.declared.Verdict.TheVariants.{Sound}
 use Rattle.tables.specs.declared.Strictness.TheVariants.{Strict}
 use Rattle.processors.specs.Listing.{processors}
 use Rattle.processors.proofs.AtMost256.{at_most_256}
@@ -12,9 +11,10 @@ use Rattle.processors.proofs.Filling.{twice_all}
 use Rattle.reading.specs.Scan.{madt_bytes, scan}
 use Rattle.reading.specs.Reading.{madt_found}
 use Rattle.reading.proofs.Scanned.{scanned}
+use Rattle.std.specs.Prelude.{Ok}
 
 -- two numbers for each processor
-pub list_long_enough : (capture : List ℕ) → (scan Strict capture).verdict ≡ Sound → length (processors (madt_found Strict capture)) ≤ 512
+pub list_long_enough : (capture : List ℕ) → (scan Strict capture).verdict ≡ Ok tt → length (processors (madt_found Strict capture)) ≤ 512
 unfolding madt_found
 list_long_enough capture sound =
     let s = scanned Strict capture sound in

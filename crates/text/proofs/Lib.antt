@@ -1,5 +1,5 @@
 pub mod Numerals
-pub mod Printing
+pub mod Wrote
 pub mod Bounds
 pub mod ByCase
 pub mod Few

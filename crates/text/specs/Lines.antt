@@ -1,6 +1,6 @@
 -- Document 01, "Board A and its neighbours": the lines of the printed map, kind by kind, with the `ht` line of W-201 of document 02, and the
 -- line of a refusal, to which W-202 adds the second place.
-use Rattle.std.specs.Prelude.{ℕ, ◌+◌, ◌-◌, List, [], ◌∷◌, ◌++◌, eqb}
+use Rattle.std.specs.Prelude.{ℕ, ◌+◌, ◌-◌, List, [], ◌∷◌, ◌++◌, eqb, Result, Ok, Err}
 use Prim.Native.Char.{code}
 use Rattle.words.specs.Choice.{if}
 use Rattle.words.specs.declared.Refusal.{Refusal}
@@ -12,7 +12,7 @@ use Rattle.kinds.specs.declared.Bio.{Bio}
 use Rattle.kinds.specs.declared.Msi.{Msi}
 use Rattle.kinds.specs.declared.Lpc.{Lpc}
 use Rattle.lines.specs.declared.Route.{Route}
-use Rattle.lines.specs.declared.Route.TheVariants.{Arrives, Unwired, NoOwner, Refused}
+use Rattle.lines.specs.declared.Route.TheVariants.{Arrives, Unwired, NoOwner}
 use Rattle.text.specs.Numerals.{letters, decimal}
 
 -- what each element of a list adds, one behind the other
@@ -81,11 +81,11 @@ unfoldable pub lpc_line : Lpc → List ℕ
 lpc_line lpc = if lpc.present (line (letters "lpc") (lpc.node ∷ lpc.cascade ∷ [])) []
 
 -- "number, vector, arrival number"; the SCI of an accepted map arrives (54)
-unfoldable pub sci_line : ℕ → Route → List ℕ
-sci_line sci (Arrives vector number) = line (letters "sci") (sci ∷ vector ∷ number ∷ [])
-sci_line sci Unwired = []
-sci_line sci NoOwner = []
-sci_line sci (Refused refusal) = []
+unfoldable pub sci_line : ℕ → Result Route Refusal → List ℕ
+sci_line sci (Ok (Arrives vector number)) = line (letters "sci") (sci ∷ vector ∷ number ∷ [])
+sci_line sci (Ok Unwired) = []
+sci_line sci (Ok NoOwner) = []
+sci_line sci (Err refusal) = []
 
 -- "printed `refused 52 at 262 with 243`; all others carry 0, unprinted": the places, to the end of the line
 unfoldable pub places_line : ℕ → ℕ → List ℕ

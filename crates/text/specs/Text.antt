@@ -1,5 +1,5 @@
 -- Document 01, "Board A and its neighbours": what is printed for a capture, and what a lent room holds afterwards.
-use Rattle.std.specs.Prelude.{ℕ, List, [], ◌∷◌, length}
+use Rattle.std.specs.Prelude.{ℕ, List, [], ◌∷◌, Result, Ok, Err, length}
 use Rattle.words.specs.Choice.{if}
 use Rattle.capture.specs.Fields.{version}
 use Rattle.words.specs.Refusals.{unless}
@@ -12,8 +12,7 @@ use Rattle.processors.specs.Listing.{processors}
 use Rattle.reading.specs.Scan.{scan}
 use Rattle.reading.specs.Reading.{madt_found}
 use Rattle.text.specs.Lines.{each, version_line, core_lines, lio_lines, ht_line, eio_line, bio_line, msi_line, lpc_line, sci_line, refusal_line}
-use Rattle.text.specs.declared.Written.{Written}
-use Rattle.text.specs.declared.Written.TheVariants.{Whole, NoRoom}
+use Rattle.words.specs.declared.NoRoom.{NoRoom}
 
 -- some bytes behind each other
 abbrev pub joined : List (List ℕ) → List ℕ
@@ -43,5 +42,5 @@ text_of capture =
     unless refusal_line (scan Strict capture).verdict (map_text (version capture) (processors (madt_found Strict capture)) (scan Strict capture).map)
 
 -- the answer of the writing: how long the text is, or that the room is too short for it
-unfoldable pub outcome : List ℕ → List ℕ → Written
-outcome text room = if (has_room text room) (Whole (length text)) NoRoom
+unfoldable pub outcome : List ℕ → List ℕ → Result ℕ NoRoom
+outcome text room = if (has_room text room) (Ok (length text)) (Err (record {}))

@@ -1,93 +1,88 @@
-// Bytes, numbers and lines, written into a room from byte n on. Every function answers with the byte behind what it wrote. What
-// lies past the room's end is counted and not written.
-ghost use Rattle.std.specs.Prelude.{◌≡◌, [], ◌∷◌, ◌+◌, length};
-ghost use Rattle.std.proofs.lemmas.List.Edits.{sets};
+// Bytes, numbers and lines, written into a lent room one behind the other. What lies past the room's end is counted and not
+// written. They are not printed by `Display`: its contract lets every write fail, and `write_text` promises the whole text.
+ghost use Rattle.std.specs.Prelude.{ℕ, List, [], ◌∷◌};
 ghost use Rattle.text.specs.Numerals.{decimal};
 ghost use Rattle.text.specs.Lines.{each, field, phrase, line};
-ghost use Rattle.text.specs.Rooms.{Fits};
+ghost use Rattle.text.specs.Rooms.{Wrote};
 
-// A byte.
-fn put_byte(room: &mut [u8], n: usize, byte: u8) -> usize
-    requires { Fits n (byte ∷ []) }
-    ensures value { result ≡ n + length (byte ∷ []) }
-    ensures room_after { room.new ≡ sets room.old n (byte ∷ []) }
-{
-    if room.len() <= n {
-        return n + 1;
+// A room, and where what is written into it ends.
+#[derive(Drop)]
+pub(crate) struct Writer<'a> {
+    pub(crate) room: &'a mut [u8],
+    pub(crate) end: usize,
+}
+
+// What has a text of its own: the bytes, and how they are written.
+pub(crate) trait Told {
+    ghost text: { Self → List ℕ };
+
+    fn tell(&self, to: &mut Writer<'_>)
+        ensures { Wrote (text self.now) to.old to.new };
+}
+
+// A number, behind a blank.
+impl Told for u64 {
+    ghost text = { field };
+
+    fn tell(&self, to: &mut Writer<'_>) {
+        to.byte(b' ');
+        to.decimal(*self);
     }
-    room[n] = byte;
-    n + 1
 }
 
-// Bytes, one behind the other.
-fn put_bytes(room: &mut [u8], n: usize, bytes: &[u8]) -> usize
-    requires { Fits n bytes.now }
-    ensures value { result ≡ n + length bytes.now }
-    ensures room_after { room.new ≡ sets room.old n bytes.now }
-{
-    let mut end = n;
-    let mut i = 0;
-    while i < bytes.len() {
-        end = put_byte(room, end, bytes[i]);
-        i += 1;
+impl Writer<'_> {
+    // A byte.
+    fn byte(&mut self, byte: u8)
+        ensures { Wrote (byte ∷ []) self.old self.new }
+    {
+        if self.end < self.room.len() {
+            self.room[self.end] = byte;
+        }
+        self.end = self.end.saturating_add(1);
     }
-    end
-}
 
-// The digits of a number: those of its tenth, and then the last one.
-fn put_decimal(room: &mut [u8], n: usize, number: u64) -> usize
-    requires { Fits n (decimal number) }
-    ensures value { result ≡ n + length (decimal number) }
-    ensures room_after { room.new ≡ sets room.old n (decimal number) }
-{
-    if number < 10 {
-        return put_byte(room, n, b'0' + number as u8);
+    // Bytes, one behind the other.
+    fn bytes(&mut self, bytes: &[u8])
+        ensures { Wrote bytes.now self.old self.new }
+    {
+        for byte in bytes {
+            self.byte(*byte);
+        }
     }
-    let end = put_decimal(room, n, number / 10);
-    put_byte(room, end, b'0' + (number % 10) as u8)
-}
 
-// A blank and a number.
-fn put_field(room: &mut [u8], n: usize, number: u64) -> usize
-    requires { Fits n (field number) }
-    ensures value { result ≡ n + length (field number) }
-    ensures room_after { room.new ≡ sets room.old n (field number) }
-{
-    let end = put_byte(room, n, b' ');
-    put_decimal(room, end, number)
-}
-
-// Numbers, each behind a blank.
-fn put_fields(room: &mut [u8], n: usize, numbers: &[u64]) -> usize
-    requires { Fits n (each field numbers.now) }
-    ensures value { result ≡ n + length (each field numbers.now) }
-    ensures room_after { room.new ≡ sets room.old n (each field numbers.now) }
-{
-    let mut end = n;
-    let mut i = 0;
-    while i < numbers.len() {
-        end = put_field(room, end, numbers[i]);
-        i += 1;
+    // The digits of a number: those of its tenth, and then the last one.
+    fn decimal(&mut self, number: u64)
+        ensures { Wrote (decimal number) self.old self.new }
+    {
+        if number < 10 {
+            return self.byte(b'0' + number as u8);
+        }
+        self.decimal(number / 10);
+        self.byte(b'0' + (number % 10) as u8)
     }
-    end
-}
 
-// A word and numbers behind it.
-pub(crate) fn put_phrase(room: &mut [u8], n: usize, word: &[u8], numbers: &[u64]) -> usize
-    requires { Fits n (phrase word.now numbers.now) }
-    ensures value { result ≡ n + length (phrase word.now numbers.now) }
-    ensures room_after { room.new ≡ sets room.old n (phrase word.now numbers.now) }
-{
-    let end = put_bytes(room, n, word);
-    put_fields(room, end, numbers)
-}
+    // Things of a kind, in their order.
+    pub(crate) fn each<T: Told>(&mut self, all: &[T])
+        ensures { Wrote (each T.text all.now) self.old self.new }
+    {
+        for one in all {
+            one.tell(self);
+        }
+    }
 
-// The same with a newline at its end.
-pub(crate) fn put_line(room: &mut [u8], n: usize, word: &[u8], numbers: &[u64]) -> usize
-    requires { Fits n (line word.now numbers.now) }
-    ensures value { result ≡ n + length (line word.now numbers.now) }
-    ensures room_after { room.new ≡ sets room.old n (line word.now numbers.now) }
-{
-    let end = put_phrase(room, n, word, numbers);
-    put_byte(room, end, b'\n')
+    // A word, and numbers behind it, each behind a blank.
+    pub(crate) fn phrase(&mut self, word: &[u8], numbers: &[u64])
+        ensures { Wrote (phrase word.now numbers.now) self.old self.new }
+    {
+        self.bytes(word);
+        self.each(numbers);
+    }
+
+    // The same with a newline at its end.
+    pub(crate) fn line(&mut self, word: &[u8], numbers: &[u64])
+        ensures { Wrote (line word.now numbers.now) self.old self.new }
+    {
+        self.phrase(word, numbers);
+        self.byte(b'\n');
+    }
 }

@@ -11,6 +11,9 @@ pub no_if {ℓ} : {A : Type ℓ} (b : Bool) (x y : A) {z : A} → b ≡ false �
 unfolding if
 no_if b x y h e = rw h e
 
+-- both, for a function that chooses by tests
+pub ruleset by_tests = (yes_if, no_if)
+
 -- a choice that did not give its first answer failed the test and gave its second
 pub passed {ℓ} : {A : Type ℓ} (b : Bool) (x y z : A) → if b x y ≡ z → (x ≡ z → ⊥) → (b ≡ false) × (y ≡ z)
 unfolding if

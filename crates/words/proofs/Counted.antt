@@ -21,7 +21,7 @@ module _ {A : Type 0} (made : ℕ → A) where
 -- ---- a test of all of them
 module _ (test : ℕ → Bool) where
   pub each-taken : (from k : ℕ) → every test (numbers_from from k) ≡ true → (j : ℕ) → from ≤ j → j < from + k → test j ≡ true
-  unfolding every numbers_from
+  unfolding numbers_from
   each-taken from zero h j low high = absurd (omega arith)
   each-taken from (suc k) h j low high =
       ⊎_elim
@@ -30,6 +30,6 @@ module _ (test : ℕ → Bool) where
       (eq-or-lt_of_le low)
 
   pub all_taken : (from k : ℕ) → ((j : ℕ) → from ≤ j → j < from + k → test j ≡ true) → every test (numbers_from from k) ≡ true
-  unfolding every numbers_from
+  unfolding numbers_from
   all_taken from zero each = refl
   all_taken from (suc k) each = rw (each from (omega arith) (omega arith)) (all_taken (from + 1) k (λ j low high. each j (omega arith) (omega arith)))

@@ -1,5 +1,5 @@
 pub mod Numbers
-pub mod Parts
+pub mod Made
 pub mod Rooms
 pub mod Sums
 pub mod Tests
@@ -7,7 +7,6 @@ pub mod Order
 pub mod Choices
 pub mod Searches
 pub mod Counted
-pub mod Turns
 pub mod Verdicts
 pub mod TwoRules
 pub mod Those

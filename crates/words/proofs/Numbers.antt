@@ -1,5 +1,6 @@
 -- Laws of little-endian numbers, for every width.
-use Rattle.std.proofs.Common.{◌≡◌, ℕ, zero, suc, ◌+◌, ◌*◌, ◌^◌, ◌<◌, ◌≤◌, List, length, take, drop, refl, add-zero, add_assoc, mul_assoc, suc-add, one-mul, zero-add, mul-add, arith, get_or-drop, get_or-take}
+use Rattle.std.specs.Int.{byte_worth, sum_through}
+use Rattle.std.proofs.Common.{◌≡◌, ℕ, zero, suc, slice_index, sym, ap, ◌∙◌, add-one, mul_comm, ◌+◌, ◌*◌, ◌^◌, ◌<◌, ◌≤◌, List, length, take, drop, refl, add-zero, add_assoc, mul_assoc, suc-add, one-mul, zero-add, mul-add, arith, get_or-drop, get_or-take}
 use native.Mathlib.Nat.{pow-zero, pow-succ'}
 use lib.ListN.{get_or-eq_default}
 use Rattle.words.specs.Bytes.{byte_at, AllBytes, number_at}
@@ -39,3 +40,16 @@ pub number_drop : (k : ℕ) (bytes : List ℕ) (n at : ℕ) → number_at k (dro
 unfolding number_at
 number_drop zero bytes n at = refl
 number_drop (suc k) bytes n at = rw (get_or-drop n bytes at 0, number_drop k bytes n (at + 1), add_assoc)
+
+-- a number that `from_le_bytes` makes of an array of the bytes from an offset
+pub number_read : (k : ℕ) (bytes array : List ℕ) (at : ℕ) → ((i : ℕ) → i < suc k → slice_index array i ≡ byte_at bytes (at + i))
+    → sum_through (λ i. byte_worth i (slice_index array i)) k ≡ number_at (suc k) bytes at
+unfolding number_at
+number_read zero bytes array at read = read 0 (omega arith) ∙ ap (byte_at bytes) (add-zero at) ∙ omega arith
+number_read (suc k) bytes array at read =
+    let low = number_read k bytes array at (λ i h. read i (omega arith)) in
+    let top : number_at 1 bytes (at + suc k) ≡ slice_index array (suc k) = rw add-zero (sym (read (suc k) (omega arith))) in
+    let whole : sum_through (λ i. byte_worth i (slice_index array i)) (suc k) ≡ number_at (suc k + 1) bytes at =
+    rw (number_split (suc k) 1 bytes at, top, low) (ap (λ n. number_at (suc k) bytes at + n) (mul_comm _ _))
+    in
+    rw add-one at whole

@@ -1,22 +1,15 @@
 -- Loops over a list, from its first element on: what holds at the start of each turn, as a record, and the laws for a turn
--- and for the end. `rest` is what of the list is still to come: of an array's first n elements `drop i (take n array)`,
--- of the numbers below n `numbers_from i (n - i)`. A record, so that a law finds the test and the answers by itself.
-use Rattle.std.proofs.Common.{◌≡◌, ℕ, zero, suc, ◌+◌, ◌-◌, ◌<◌, ◌≤◌, Bool, true, false, ◌&&◌, List, [], ◌∷◌, length, get_or, take, drop, sym, refl, ◌∙◌, ⊎_elim, eq-or-lt_of_le, add-one, arith, drop_of_length-le, length-take, drop-cons, get_or-take}
-use mathlib.Core.Bool.{and_assoc, and-true}
+-- and for the end. `rest` is what of the list is still to come: of the numbers below n, `numbers_from i (n - i)`. A record, so
+-- that a law finds the test and the answers by itself. At the end of the file, searches that need no loop: by std's `find`.
+use Rattle.std.proofs.Common.{◌≡◌, ℕ, zero, suc, ◌+◌, ◌-◌, ◌<◌, ◌≤◌, Bool, true, false, List, [], ◌∷◌, sym, refl, ◌∙◌, ⊎_elim, eq-or-lt_of_le, arith}
 use native.Mathlib.Nat.{sub-zero}
+use Rattle.std.specs.Prelude.{Option, Some, cond}
+use Rattle.std.proofs.lemmas.Option.{none-some, same_Some}
+use Rattle.std.specs.Option.{option_map_or}
+use Rattle.std.specs.List.{find}
 use Rattle.words.specs.Choice.{if}
-use Rattle.words.specs.Lists.{first, every, numbers_from, numbers_below}
+use Rattle.words.specs.Lists.{first, numbers_from, numbers_below}
 use Rattle.words.proofs.Choices.{yes_if, no_if}
-
--- what is left of an array's first n elements, one turn on and at the end
-pub next_element : {A : Type 0} (array : List A) (n i : ℕ) (d : A) → i < n → n ≤ length array
-    → drop i (take n array) ≡ get_or array i d ∷ drop (i + 1) (take n array)
-next_element array n i d h fits =
-    let inside : i < length (take n array) = omega (arith, length-take n array) in
-    rw (add-one, drop-cons (take n array) i d, get_or-take n array i d)
-
-pub no_element : {A : Type 0} (array : List A) (n i : ℕ) → n ≤ i → drop i (take n array) ≡ []
-no_element array n i h = drop_of_length-le (take n array) {i = i} (omega (arith, length-take n array))
 
 -- what is left of the numbers below n, one turn on and at the end
 pub next_number : (n i : ℕ) → i < n → numbers_from i (n - i) ≡ i ∷ numbers_from (i + 1) (n - (i + 1))
@@ -53,19 +46,6 @@ module _ {A R : Type 0} {test : A → Bool} {found : A → R} {none answer : R} 
   pub search_over : rest ≡ [] → none ≡ answer
   unfolding first
   search_over e = rw e at s.gives
-
--- the tests so far, and the tests of `rest`, together give the answer
-pub record Testing {A : Type 0} (test : A → Bool) (answer : Bool) (rest : List A) (sofar : Bool) : Type 0 where
-  pub gives : (sofar && every test rest) ≡ answer
-
-module _ {A : Type 0} {test : A → Bool} {answer : Bool} {rest : List A} {sofar : Bool} (s : Testing test answer rest sofar) where
-  pub test_next : {x : A} {later : List A} → rest ≡ x ∷ later → Testing test answer later (sofar && test x)
-  unfolding every
-  test_next {x} {later} e = record { gives = and_assoc sofar (test x) (every test later) ∙ (rw e at s.gives) }
-
-  pub test_over : rest ≡ [] → sofar ≡ answer
-  unfolding every
-  test_over e = sym (and-true sofar) ∙ (rw e at s.gives)
 
 -- what a search of numbers tells: where it first found its answer, or that its test takes none of them
 pub record Hit {R : Type 0} (test : ℕ → Bool) (found : ℕ → R) (answer : R) (from until : ℕ) : Type 0 where
@@ -122,3 +102,27 @@ unfolding first numbers_from
 first_same test other found none from zero agree = refl
 first_same test other found none from (suc k) agree =
     rw (agree from (omega arith) (omega arith), first_same test other found none (from + 1) k (λ i low high. agree i (omega arith) (omega arith)))
+
+-- a search is what is made of what std's `find` gives
+pub first_find : {A R : Type 0} (test : A → Bool) (found : A → R) (none : R) (xs : List A)
+    → first test found none xs ≡ option_map_or found (find test xs) none
+unfolding first if
+first_find test found none [] = refl
+first_find {A = A} {R = R} test found none (x ∷ xs) = go (test x) _ _ (first_find test found none xs)
+  where
+    go : (b : Bool) (o : Option A) (later : R) → later ≡ option_map_or found o none
+        → if b (found x) later ≡ option_map_or found (cond b (Some x) o) none
+    go true o later e = refl
+    go false o later e = e
+
+-- what `find` gives is an element that its test takes
+pub find_taken : {A : Type 0} (test : A → Bool) (xs : List A) (x : A) → find test xs ≡ Some x → test x ≡ true
+find_taken test [] x e = absurd (none-some x e)
+find_taken {A = A} test (y ∷ ys) x e = go (test y) refl (find_taken test ys x) e
+  where
+    go : (b : Bool) → test y ≡ b → (find test ys ≡ Some x → test x ≡ true) → cond b (Some y) (find test ys) ≡ Some x → test x ≡ true
+    go true t later h = rw (same_Some y x h) at t
+    go false t later h = later h
+
+-- both, for a function that searches by `find`
+pub ruleset by_find = (first_find, find_taken)

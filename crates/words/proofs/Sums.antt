@@ -1,11 +1,16 @@
--- Laws of the sum of bytes, for a loop that adds them from the first on.
-use Rattle.std.proofs.Common.{◌≡◌, ℕ, ◌+◌, ◌<◌, ◌≤◌, List, length, drop, add-one, drop_of_length-le, drop-cons}
-use Rattle.words.specs.Bytes.{byte_at, total}
+-- The sum of bytes modulo 256, where only its last eight bits are kept at each byte.
+use Rattle.std.proofs.Common.{◌≡◌, ℕ, ◌+◌, ◌%◌, ◌<◌, List, [], ◌∷◌, fold, ◌∙◌, arith}
+use Rattle.words.specs.Bytes.{total, byte_sum}
 
-pub total_next : (bytes : List ℕ) (i : ℕ) → i < length bytes → total (drop i bytes) ≡ byte_at bytes i + total (drop (i + 1) bytes)
-unfolding total
-total_next bytes i h = rw (add-one, drop-cons bytes i 0)
+-- adding a byte, of which the last eight bits are kept
+abbrev pub add_byte : ℕ → ℕ → ℕ
+add_byte sum byte = (sum + byte) % 256
 
-pub total_end : (bytes : List ℕ) (i : ℕ) → length bytes ≤ i → total (drop i bytes) ≡ 0
+added : (sum : ℕ) (bytes : List ℕ) → sum < 256 → fold add_byte sum bytes ≡ (sum + total bytes) % 256
 unfolding total
-total_end bytes i h = rw (drop_of_length-le bytes h)
+added sum [] small = omega arith
+added sum (x ∷ xs) small = added ((sum + x) % 256) xs (omega arith) ∙ omega arith
+
+pub added_up : (bytes : List ℕ) → fold add_byte 0 bytes ≡ byte_sum bytes
+unfolding byte_sum
+added_up bytes = added 0 bytes (omega arith) ∙ omega arith

@@ -1,17 +1,7 @@
 -- Laws of tests: of numbers, and of two things at once.
-use Rattle.std.proofs.Common.{◌≡◌, ℕ, ◌<◌, ◌≤◌, Bool, true, false, ◌&&◌, ◌||◌, eqb, ltb, leb, sym, refl, le-ltb, lt-ltb, eq-eqb, ne_eqb, le-leb}
-use borrow.Author.Tests.{lt-leb}
+use Rattle.std.proofs.Common.{◌≡◌, ℕ, Bool, true, false, ◌&&◌, ◌||◌, eqb, sym, refl, eq-eqb, ne_eqb}
 
--- a flag that holds exactly when one number is below, or at most, another is the test of the two
-pub is-ltb : (flag : Bool) (a b : ℕ) → (flag ≡ true → a < b) → (flag ≡ false → b ≤ a) → flag ≡ ltb a b
-is-ltb true a b holds fails = sym (lt-ltb a b (holds refl))
-is-ltb false a b holds fails = sym (le-ltb a b (fails refl))
-
-pub is-leb : (flag : Bool) (a b : ℕ) → (flag ≡ true → a ≤ b) → (flag ≡ false → b < a) → flag ≡ leb a b
-is-leb true a b holds fails = sym (le-leb a b (holds refl))
-is-leb false a b holds fails = sym (lt-leb a b (fails refl))
-
--- or that they are equal
+-- a flag that holds exactly when two numbers are equal is the test of the two
 pub is-eqb : (flag : Bool) (a b : ℕ) → (flag ≡ true → a ≡ b) → (flag ≡ false → a ≡ b → ⊥) → flag ≡ eqb a b
 is-eqb true a b holds fails = sym (eq-eqb a b (holds refl))
 is-eqb false a b holds fails = sym (ne_eqb a b (fails refl))

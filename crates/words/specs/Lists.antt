@@ -1,5 +1,6 @@
 -- Searches and tests over a list, and what its elements give, in its order.
-use Rattle.std.specs.Prelude.{ℕ, zero, suc, ◌+◌, Bool, true, ◌&&◌, List, [], ◌∷◌, ◌++◌}
+use Rattle.std.specs.Prelude.{ℕ, zero, suc, ◌+◌, Bool, List, [], ◌∷◌, ◌++◌}
+use Rattle.std.specs.List.{list_all}
 use Rattle.words.specs.Choice.{if}
 
 -- `found` of the first element that the test takes, or `none` where it takes no element
@@ -10,9 +11,8 @@ first test found none (x ∷ xs) =
     if (test x) (found x) later
 
 -- the test takes every element
-unfoldable pub every {ℓ} : {A : Type ℓ} → (A → Bool) → List A → Bool
-every test [] = true
-every test (x ∷ xs) = test x && every test xs
+abbrev pub every : {A : Type 0} → (A → Bool) → List A → Bool
+every test xs = list_all test xs
 
 -- the elements that the test takes, in their order
 unfoldable pub those {ℓ} : {A : Type ℓ} → (A → Bool) → List A → List A

@@ -1,13 +1,13 @@
 -- `capture::check_parts` gives the refusals of the segments first.
-use mathlib.Core.Path.{sym, ◌∙◌}
-use Rattle.words.specs.declared.Verdict.TheVariants.{Refused}
-use Rattle.words.proofs.Verdicts.{first-joined, unless-refused, unless_sound}
-use Rattle.capture.specs.Rules.{segment_rules}
-use Rattle.capture.specs.Pairs.{pair_rules}
+use Rattle.std.proofs.Common.{rules}
+use Rattle.words.specs.Refusals.{unless}
+use Rattle.words.proofs.Verdicts.{first-joined}
 use Rattle.capture.proofs.check_parts.Goals as goal
 
-pub returns-in-Refused : goal.returns-in-Refused
-returns-in-Refused c = sym (first-joined (segment_rules _) (pair_rules _) ∙ unless-refused Refused _ _ (cc))
+pub returns-in_err-check_segments : goal.returns-in_err-check_segments
+unfolding unless
+returns-in_err-check_segments c = rw (first-joined _ _) search rules
 
-pub returns-in-Sound : goal.returns-in-Sound
-returns-in-Sound c = c.check.ensures ∙ sym (first-joined (segment_rules _) (pair_rules _) ∙ unless_sound Refused _ _ (cc))
+pub returns : goal.returns
+unfolding unless
+returns c = rw (first-joined _ _) search rules

@@ -1,6 +1,5 @@
 -- `capture::wrong_total` is refusal 5.
 use mathlib.Core.Path.{sym, ◌∙◌}
-use Prim.Native.Nat.{ℕ}
 use native.Mathlib.Omega.{arith}
 use Rattle.words.specs.Bytes.{AllBytes}
 use Rattle.capture.specs.Fields.{total_length, segment_count}
@@ -15,9 +14,8 @@ lengths_of-requires c = omega arith
 
 pub overflow_add-result : goal.overflow_add-result
 overflow_add-result c =
-    let known = c in
-    let capture = known.args.capture.now in
-    let bytes : AllBytes capture = λ (k : ℕ). (known.shared_slice_known-1.given k).fits in
+    let capture = c.args.capture.now in
+    let bytes : AllBytes capture = λ k. (c.type_inv.capture k).fits in
     omega (arith, c.lengths_of.ensures, lengths_small capture (segment_count capture) bytes, count_small capture bytes)
 
 pub returns : goal.returns

@@ -6,19 +6,22 @@ use borrow.Author.Tests.{lt-ltb, le-ltb}
 use borrow.Author.Rules.{rules}
 use Rattle.words.specs.Choice.{if}
 use Rattle.words.proofs.Choices.{yes_if}
-use Rattle.clashes.proofs.Arrays.{length_mapped}
+use Rattle.lines.specs.declared.Owner.TheVariants.{Nobody}
+use Rattle.owners.specs.Table.{owner_in}
 use Rattle.owners.specs.Lookups.{owner_by}
-use Rattle.owners.proofs.Entries.{owner_at}
 use Rattle.owners.proofs.owner_by.Goals as goal
 
-pub returns-then-i-lt-NUMBERS : goal.returns-then-i-lt-NUMBERS
-unfolding owner_by
-returns-then-i-lt-NUMBERS c =
+pub returns-in-Some : goal.returns-in-Some
+unfolding owner_by owner_in
+returns-in-Some c =
     let a = c.args in
-    let more = c.if-i-lt-NUMBERS.true in
-    let sized : length a.table.entries ≡ 320 = search (rules, length_mapped) in
-    owner_at a.table a.number _ (omega arith) ∙ sym (yes_if _ _ _ (lt-ltb _ _ more))
+    let found = c.in-Some.ensures.lookup in
+    let size : length a.table.entries ≡ 320 = search rules in
+    found.3.1 Nobody ∙ sym (yes_if _ _ _ (lt-ltb _ _ (omega (arith, found.3.0, size))))
 
-pub returns : goal.returns
+pub returns-in-None : goal.returns-in-None
 unfolding owner_by if
-returns c = rw (le-ltb _ _ c.if-i-lt-NUMBERS.false, c.owner.ensures)
+returns-in-None c =
+    let a = c.args in
+    let size : length a.table.entries ≡ 320 = search rules in
+    rw (le-ltb a.number 320 (omega (arith, c.in-None.ensures.lookup.3, size)), c.owner.ensures)

@@ -1,64 +1,71 @@
 -- `reading::scan_tables` walks the MADT, then asks 39 to 54 with the processors that the walk has noted.
-use Prim.Native.Nat.{ℕ}
-use Rattle.tables.specs.declared.Tables.{Tables}
-use mathlib.Core.List.{List}
-use mathlib.Core.Path.{◌≡◌, refl, ap, sym, ◌∙◌}
-use Rattle.words.specs.Refusals.{unless, first_refusal}
-use Rattle.words.specs.declared.Verdict.{Verdict}
-use Rattle.words.proofs.Verdicts.{not_sound}
+use Rattle.std.proofs.Common.{rules, ◌≡◌, ℕ, List, sym, ap, ◌∙◌}
+use Rattle.std.specs.Prelude.{Result, Ok, Err}
+use Rattle.words.specs.Refusals.{first_refusal}
+use Rattle.words.specs.declared.Refusal.{Refusal}
+use Rattle.words.proofs.Verdicts.{unless-refused, unless_sound}
 use Rattle.capture.specs.Pairs.{pins_of, pairs_of}
 use Rattle.capture.specs.declared.pairs.Pair.{Pair}
+use Rattle.tables.specs.declared.Tables.{Tables}
 use Rattle.lines.specs.Rules.{too_many}
-use Rattle.madt.specs.Walk.{walked}
-use Rattle.madt.specs.declared.Walked.{Walked}
+use Rattle.madt.specs.Walk.{walk}
+use Rattle.madt.specs.declared.Found.{Found}
+use Rattle.madt.proofs.Accepted.{walk-refused, walk_found}
 use Rattle.processors.specs.Listing.{count}
 use Rattle.processors.proofs.ReadAgain.{enabled_count, noted-standing}
 use Rattle.map_promises.proofs.WalkKeepsBooks.{walk_few}
-use Rattle.reading.specs.Scan.{madt_bytes, walk_of, turned_down, accepted}
-use Rattle.reading.specs.declared.Scan.{Scan}
-use Rattle.reading.proofs.Laws.{later_of, walk_refused, walk_sound}
+use Rattle.reading.specs.Scan.{madt_bytes, walk_of, accepted, scan_of}
+use Rattle.reading.proofs.Laws.{later_of, later_rules, walk_refused, walk_sound}
 use Rattle.reading.proofs.scan_tables.Goals as goal
 
--- what the walk found, with the pairs of the capture
-found : (capture : List ℕ) (t : Tables) {w : Walked} {pairs : List Pair} → w ≡ walked (madt_bytes capture t.madt) t.madt.place t.sci (pins_of pairs)
-    → pairs ≡ pairs_of capture → w ≡ walk_of capture t
-found capture t h p = h ∙ ap (λ (pairs : List Pair). walked (madt_bytes capture t.madt) t.madt.place t.sci (pins_of pairs)) p
+-- what the walk answers, with the pairs of the capture
+module _ (capture : List ℕ) (t : Tables) {answer : Result Found Refusal} {pairs : List Pair}
+    (w : answer ≡ walk (madt_bytes capture t.madt) t.madt.place t.sci (pins_of pairs)) (p : pairs ≡ pairs_of capture) where
+  refused : {refusal : Refusal} → answer ≡ Err refusal → (walk_of capture t).verdict ≡ Err refusal
+  refused h = walk-refused _ _ _ _ (rw p at (sym w ∙ h))
 
-pub rules_after_walk-broken-requires : goal.rules_after_walk-broken-requires
+  found : {found : Found} → answer ≡ Ok found → ((walk_of capture t).verdict ≡ Ok tt) × ((walk_of capture t).found ≡ found)
+  found h = walk_found _ _ _ _ (rw p at (sym w ∙ h))
+
+-- what the rules behind it say
+later : (capture : List ℕ) (t : Tables) {table : List ℕ} {found : Found} → table ≡ madt_bytes capture t.madt → (walk_of capture t).found ≡ found
+    → first_refusal (later_rules capture t) ≡ first_refusal (later_of table t found)
+later capture t b w = rw (b, w)
+
+pub returns-in_err-found-clause-scan_value : goal.returns-in_err-found-clause-scan_value
+unfolding madt_bytes scan_of
+returns-in_err-found-clause-scan_value c =
+    let told : c.walk_madt.result ≡ Err c.in_err-found.field-0.0 = search rules in
+    let r : c.from_residual.result ≡ Err c.in_err-found.field-0.0 = search rules in
+    rw r (sym (walk_refused _ _ _ (refused c.args.capture.now c.args.t c.walk_madt.ensures.value c.pairs_of.ensures told)))
+
+pub invariant_of-rules_after_walk : goal.invariant_of-rules_after_walk
 unfolding madt_bytes
-rules_after_walk-broken-requires c =
-    let a = c.args in
-    let w = found a.capture.now a.t c.walk_madt-walked.ensures.value c.pairs_of.ensures in
-    let noted = c.walk_madt-walked.ensures.offsets_after in
-    let sound = ap (λ (x : Walked). x.verdict) (sym w) ∙ c.in-Sound.is in
-    record {
-      standing = rw c.madt_bytes.ensures (noted-standing _ _ _ _ sound a.room.now c.requires (ap (λ (x : Walked). x.found.enabled) w) noted c.noted-offsets.ensures);
-      enabled_value = ap (λ (x : Walked). x.found.enabled) w ∙ enabled_count _ _ _ _ sound ∙ ap count (sym c.madt_bytes.ensures);
-      map_value = ap (λ (x : Walked). too_many x.found.map) w ∙ walk_few _ _ _ _ sound;
-    }
+invariant_of-rules_after_walk c =
+    let w = found c.args.capture.now c.args.t c.walk_madt.ensures.value c.pairs_of.ensures {found = c.in_ok-found.found} (search rules) in
+    record { standing = rw c.madt_bytes-table.ensures (noted-standing _ _ _ _ w.0 c.args.room.now c.told-room (ap (λ (f : Found). f.enabled) (sym w.1)) c.walk_madt.ensures.offsets_after c.noted-offsets.ensures) }
 
-pub returns-in-Refused : goal.returns-in-Refused
-unfolding madt_bytes turned_down
-returns-in-Refused c =
-    let w = found c.args.capture.now c.args.t c.walk_madt-walked.ensures.value c.pairs_of.ensures in
-    record {
-      scan_value = c.turn_down.ensures ∙ sym (walk_refused _ _ _ (ap (λ (x : Walked). x.verdict) (sym w) ∙ c.in-Refused.is));
-      standing = λ h. not_sound (sym (ap (λ (s : Scan). s.verdict) c.turn_down.ensures) ∙ h);
-    }
-
-pub returns-in-Sound : goal.returns-in-Sound
+pub rules_after_walk-requires : goal.rules_after_walk-requires
 unfolding madt_bytes
-returns-in-Sound c =
-    let a = c.args in
-    let w = found a.capture.now a.t c.walk_madt-walked.ensures.value c.pairs_of.ensures in
-    let noted = c.walk_madt-walked.ensures.offsets_after in
-    let r = c.walk_madt-walked.result in
-    let sound = ap (λ (x : Walked). x.verdict) (sym w) ∙ c.in-Sound.is in
+rules_after_walk-requires c =
+    let w = found c.args.capture.now c.args.t c.walk_madt.ensures.value c.pairs_of.ensures {found = c.in_ok-found.found} (search rules) in
     record {
-      scan_value = c.judge-scan.ensures
-          ∙ ap (λ (v : Verdict). unless turned_down v (accepted a.t r.found.map))
-          (c.rules_after_walk-broken.ensures ∙ ap (λ (x : List ℕ). first_refusal (later_of x a.t r.found)) c.madt_bytes.ensures)
-          ∙ ap (λ (x : Walked). unless turned_down (first_refusal (later_of (madt_bytes a.capture.now a.t.madt) a.t x.found)) (accepted a.t x.found.map)) w
-          ∙ sym (walk_sound a.capture.now a.t _ sound);
-      standing = λ h. noted-standing _ _ _ _ sound a.room.now c.requires (ap (λ (x : Walked). x.found.enabled) w) noted refl;
+      enabled_value = ap (λ (f : Found). f.enabled) (sym w.1) ∙ enabled_count _ _ _ _ w.0 ∙ ap count (sym c.madt_bytes-table.ensures);
+      map_value = ap (λ (f : Found). too_many f.map) (sym w.1) ∙ walk_few _ _ _ _ w.0;
     }
+
+pub returns-in_err-rules_after_walk-clause-scan_value : goal.returns-in_err-rules_after_walk-clause-scan_value
+unfolding madt_bytes scan_of
+returns-in_err-rules_after_walk-clause-scan_value c =
+    let w = found c.args.capture.now c.args.t c.walk_madt.ensures.value c.pairs_of.ensures {found = c.in_ok-found.found} (search rules) in
+    let told : c.rules_after_walk.result ≡ Err c.in_err-rules_after_walk.field-0.0 = search rules in
+    let r : c.from_residual-in_err-rules_after_walk.result ≡ Err c.in_err-rules_after_walk.field-0.0 = search rules in
+    rw r (sym (walk_sound c.args.capture.now c.args.t _ w.0 ∙ unless-refused _ _ _ (later c.args.capture.now c.args.t c.madt_bytes-table.ensures w.1 ∙ sym c.rules_after_walk.ensures ∙ told)))
+
+pub returns-clause-scan_value : goal.returns-clause-scan_value
+unfolding madt_bytes scan_of accepted
+returns-clause-scan_value c =
+    let w = found c.args.capture.now c.args.t c.walk_madt.ensures.value c.pairs_of.ensures {found = c.in_ok-found.found} (search rules) in
+    let told : c.rules_after_walk.result ≡ Ok tt = search rules in
+    ap (λ (f : Found). accepted c.args.t f.map) (sym w.1)
+    ∙ sym (walk_sound c.args.capture.now c.args.t _ w.0 ∙ unless_sound _ _ _ (later c.args.capture.now c.args.t c.madt_bytes-table.ensures w.1 ∙ sym c.rules_after_walk.ensures ∙ told))

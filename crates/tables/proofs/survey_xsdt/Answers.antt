@@ -1,25 +1,27 @@
 -- `tables::survey_xsdt` gives 23 to 25, then the entries' refusals.
-use mathlib.Core.Path.{sym, ◌∙◌}
+use Rattle.std.proofs.Common.{rules, sym, Err}
+use Rattle.words.specs.Refusals.{unless, first_refusal}
+use Rattle.words.proofs.Verdicts.{unless-joined}
 use Rattle.tables.specs.Xsdt.{xsdt_rules, entry_rules}
-use Rattle.words.proofs.Verdicts.{joined-refused, joined_sound}
 use Rattle.tables.proofs.Naming.{names-told, are_told}
 use Rattle.tables.proofs.survey_xsdt.Goals as goal
 
-pub survey_names-requires : goal.survey_names-requires
-survey_names-requires c =
-    let told = are_told _ _ _ (sym c.find_names.ensures ∙ c.in-Are.is) in
-    record { madt_value = told.0; fadt_value = told.1 }
+pub returns-in_err-xsdt_rules : goal.returns-in_err-xsdt_rules
+unfolding unless
+returns-in_err-xsdt_rules c = rw (unless-joined Err (xsdt_rules _ _) _ _) search rules
 
-pub returns-in-Refused : goal.returns-in-Refused
-returns-in-Refused c = sym (joined-refused _ (xsdt_rules _ _) _ _ (sym c.xsdt_rules.ensures ∙ c.in-Refused.is))
+pub returns-in_err-madt : goal.returns-in_err-madt
+unfolding unless
+returns-in_err-madt c =
+    rw (unless-joined Err (xsdt_rules _ _) _ _, unless-joined Err (entry_rules _ _) _ _, names-told _ _ _ (sym c.find_names.ensures)) search rules
 
-pub returns-in-Refused-find_names : goal.returns-in-Refused-find_names
-returns-in-Refused-find_names c =
-    sym (joined_sound _ (xsdt_rules _ _) _ _ (sym c.xsdt_rules.ensures ∙ c.in-Sound.is)
-    ∙ joined-refused _ (entry_rules _ _) _ _ (names-told _ _ _ (sym c.find_names.ensures ∙ c.in-Refused-find_names.is)))
+pub survey_names-requires-clause-madt_value : goal.survey_names-requires-clause-madt_value
+survey_names-requires-clause-madt_value c = (are_told c.args.capture.bytes.now c.args.xsdt (first_refusal (entry_rules c.args.capture.bytes.now c.args.xsdt)) {madt = c.in_ok-madt.madt} {fadt = c.in_ok-madt.fadt} (search rules)).0
 
-pub returns-in-Are : goal.returns-in-Are
-returns-in-Are c =
-    c.survey_names.ensures
-    ∙ sym (joined_sound _ (xsdt_rules _ _) _ _ (sym c.xsdt_rules.ensures ∙ c.in-Sound.is)
-    ∙ joined_sound _ (entry_rules _ _) _ _ (names-told _ _ _ (sym c.find_names.ensures ∙ c.in-Are.is)))
+pub survey_names-requires-clause-fadt_value : goal.survey_names-requires-clause-fadt_value
+survey_names-requires-clause-fadt_value c = (are_told c.args.capture.bytes.now c.args.xsdt (first_refusal (entry_rules c.args.capture.bytes.now c.args.xsdt)) {madt = c.in_ok-madt.madt} {fadt = c.in_ok-madt.fadt} (search rules)).1
+
+pub returns : goal.returns
+unfolding unless
+returns c =
+    rw (unless-joined Err (xsdt_rules _ _) _ _, unless-joined Err (entry_rules _ _) _ _, names-told _ _ _ (sym c.find_names.ensures)) search rules

@@ -1,12 +1,7 @@
 -- `words::u16_at` is the 16-bit number, its bytes past the end counted as 0.
-use Rattle.std.proofs.Common.{sym, rules}
-use Rattle.words.specs.Bytes.{number_at}
-use Rattle.words.proofs.Numbers.{number_past}
+use Rattle.std.proofs.Common.{◌∙◌}
+use Rattle.words.proofs.Numbers.{number_read}
 use Rattle.words.proofs.u16_at.Goals as goal
 
-pub returns-then-bytes-at : goal.returns-then-bytes-at
-returns-then-bytes-at c = sym (number_past 2 _ _ c.if-bytes-at.true)
-
-pub returns-then-bytes-at-lt2 : goal.returns-then-bytes-at-lt2
-unfolding number_at
-returns-then-bytes-at-lt2 c = search rules
+pub returns : goal.returns
+returns c = c.from_le_bytes.ensures ∙ number_read 1 c.args.bytes.now c.array_at.result c.args.at c.array_at.ensures

@@ -1,7 +1,8 @@
 -- `pairs::is_broken` is refusal 7 of a pair.
+use Rattle.std.proofs.Common.{rules}
 use Rattle.capture.specs.Pairs.{pair_broken}
 use Rattle.capture.proofs.pairs.is_broken.Goals as goal
 
 pub returns : goal.returns
 unfolding pair_broken
-returns c = rw c.told_of.ensures
+returns c = search rules

@@ -1,22 +1,10 @@
 -- `Map::first_lone` goes through all claims.
-use mathlib.Core.Path.{refl}
-use native.Mathlib.Omega.{arith}
-use borrow.Author.Rules.{rules}
-use Rattle.clashes.specs.Search.{first_lone}
-use Rattle.clashes.proofs.Folding.{fold_next, fold_over}
-use Rattle.lines.proofs.Claimed.{no_claim}
+use Rattle.std.proofs.Common.{rules}
+use Rattle.clashes.specs.Search.{lonelier, first_lone}
+use Rattle.lines.specs.Says.{says}
+use Rattle.lines.specs.Hubs.{nodes}
 use Rattle.lines.proofs.Map.first_lone.Goals as goal
 
-pub loop-i-init : goal.loop-i-init
-unfolding first_lone
-loop-i-init c = (search rules, record { gives = refl })
-
-pub loop-i-preserved : goal.loop-i-preserved
-loop-i-preserved c =
-    let l = c.loop-i.invariant in
-    (omega arith, fold_next l.1 c.claim_at.ensures c.lonelier_of-best.ensures)
-
 pub returns : goal.returns
-returns c =
-    let a = c.args in
-    fold_over c.loop-i.invariant.1 (no_claim a.self a.places c.loop-i.i (omega arith))
+unfolding first_lone
+returns c = c.fold_claims.ensures (lonelier (nodes (says c.args.self.now))) (λ b x r p. search rules)

@@ -7,13 +7,13 @@ use Rattle.lines.proofs.Map.ht_traced.Goals as goal
 
 pub returns-then-number-lt-HT_ABOVE : goal.returns-then-number-lt-HT_ABOVE
 returns-then-number-lt-HT_ABOVE c =
-    let map = c.args.self in
+    let map = c.args.self.now in
     sym (ht_below (says map) _ _ (ht_present map.ht ∙ c.requires) c.if-number-lt-HT_ABOVE.true)
 
 pub returns-then-core_vector-vector : goal.returns-then-core_vector-vector
 returns-then-core_vector-vector c =
     let s = c in
-    let map = s.args.self in
+    let map = s.args.self.now in
     let leads =
     rw (
       c.core_vector.ensures,
@@ -27,7 +27,7 @@ returns-then-core_vector-vector c =
 pub returns : goal.returns
 returns c =
     let s = c in
-    let map = s.args.self in
+    let map = s.args.self.now in
     let not =
     rw (
       c.core_vector.ensures,

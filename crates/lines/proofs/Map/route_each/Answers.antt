@@ -1,22 +1,14 @@
--- `Map::route_each`: 61, then 62, then the answers.
-use mathlib.Core.Path.{sym, ◌∙◌}
-use Rattle.lines.proofs.AtOnce.{first_of_two, may_answer, left_alone, all_written}
+-- `Map::route_each`: behind 61 and 62 there is room for the answers of a map that keeps the rules.
+use Rattle.std.proofs.Common.{rules, ◌*◌, not, length}
+use borrow.Author.Tests.{not-false, ltb-false}
+use lib.Dec.{ltb}
+use Rattle.words.proofs.Verdicts.{rule_kept}
+use Rattle.lines.specs.Rules.{keeps_rules}
 use Rattle.lines.proofs.Map.route_each.Goals as goal
 
 pub put_all-requires : goal.put_all-requires
 put_all-requires c =
-    let given = c.args in
-    let told = first_of_two given.self given.numbers.now given.answers.now c.keeps_rules-kept.ensures c.rule_of.ensures c.rule_of-2.ensures c.or_else-verdict.ensures in
-    may_answer _ _ _ (sym told ∙ c.in-Sound.is)
-
-pub returns-in-Sound : goal.returns-in-Sound
-returns-in-Sound c =
-    let given = c.args in
-    let told = first_of_two given.self given.numbers.now given.answers.now c.keeps_rules-kept.ensures c.rule_of.ensures c.rule_of-2.ensures c.or_else-verdict.ensures in
-    record { value = told; answers_after = c.put_all.ensures ∙ sym (all_written _ _ _ (sym told ∙ c.in-Sound.is)) }
-
-pub returns-in-Refused : goal.returns-in-Refused
-returns-in-Refused c =
-    let given = c.args in
-    let told = first_of_two given.self given.numbers.now given.answers.now c.keeps_rules-kept.ensures c.rule_of.ensures c.rule_of-2.ensures c.or_else-verdict.ensures in
-    record { value = told; answers_after = sym (left_alone _ _ _ (sym told ∙ c.in-Refused.is)) }
+    let a = c.args in (
+      not-false _ (rule_kept (not (keeps_rules a.self)) 61 0 (search rules)),
+      ltb-false _ _ (rule_kept (ltb (length a.answers.now) (3 * length a.numbers.now)) 62 0 (search rules)),
+    )

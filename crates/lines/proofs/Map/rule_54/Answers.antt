@@ -5,7 +5,7 @@ use mathlib.Core.Bool.{true}
 use Rattle.words.specs.Choice.{if}
 use Rattle.lines.specs.Rules.{lost}
 use Rattle.lines.specs.declared.Route.{Route}
-use Rattle.lines.specs.declared.Route.TheVariants.{Arrives, Unwired, NoOwner, Refused}
+use Rattle.lines.specs.declared.Route.TheVariants.{Arrives, Unwired, NoOwner}
 use Rattle.lines.proofs.Map.rule_54.Goals as goal
 
 -- a route that is no arrival is lost
@@ -14,7 +14,6 @@ unfolding lost
 others (Arrives vector number) h = absurd (h vector number refl)
 others Unwired h = refl
 others NoOwner h = refl
-others (Refused refusal) h = refl
 
 pub returns-in_default : goal.returns-in_default
 unfolding if

@@ -5,4 +5,4 @@ use Rattle.madt.proofs.Found.nothing.Goals as goal
 
 pub returns : goal.returns
 unfolding found_in enabled_cores those
-returns c = rw (c.no_places-places.ensures, c.no_map-map.ensures (λ id. 0))
+returns c = rw (c.no_places.ensures, c.no_map.ensures (λ id. 0))

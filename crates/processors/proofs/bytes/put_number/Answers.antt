@@ -1,20 +1,17 @@
 -- `put_number` stores the four bytes of a number.
-use Prim.Native.Nat.{◌/◌, ◌%◌}
+use mathlib.Core.List.{append_assoc}
+use mathlib.Core.Path.{◌≡◌, sym, ◌∙◌}
+use Prim.Native.Nat.{◌+◌, ◌-◌}
 use native.Mathlib.Omega.{arith}
-use lib.ListN.{length-set}
+use lib.Seq.{sets-eq, drop-drop}
 use Rattle.processors.specs.Image.{four_bytes}
-use Rattle.processors.proofs.Image.{four_stores}
 use Rattle.processors.proofs.bytes.put_number.Goals as goal
-
-pub bounds-list-n-2 : goal.bounds-list-n-2
-bounds-list-n-2 c = simp length-set (omega arith)
-
-pub bounds-list-n-3 : goal.bounds-list-n-3
-bounds-list-n-3 c = simp length-set (omega arith)
-
-pub bounds-list-n-4 : goal.bounds-list-n-4
-bounds-list-n-4 c = simp length-set (omega arith)
 
 pub returns : goal.returns
 unfolding four_bytes
-returns c = let x = c.args.number in four_stores c.args.list.now c.args.n (x % 256) (x / 256 % 256) (x / 65536 % 256) (x / 16777216 % 256)
+returns c =
+    let a = c.args in
+    let bytes = four_bytes a.number in
+    let four : a.n + 4 - a.n ≡ 4 = omega arith in
+    rw (c.copy_from_slice.ensures.after, c.to_le_bytes.ensures, four, drop-drop)
+    (sym (append_assoc _ bytes _) ∙ sym (sets-eq bytes a.list.now a.n c.requires))

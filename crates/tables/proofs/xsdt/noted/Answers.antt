@@ -1,21 +1,21 @@
--- `tables::noted` keeps the first such entry with its table, and the second.
-use mathlib.Core.Path.{sym, refl}
-use Rattle.words.proofs.Choices.{yes_if, no_if}
+-- `xsdt::noted` keeps the first such table, and the second entry.
+use Rattle.std.proofs.Common.{rules}
+use Rattle.words.specs.Choice.{if}
 use Rattle.tables.specs.Naming.{one_more}
 use Rattle.tables.proofs.xsdt.noted.Goals as goal
 
-pub returns-then-not-signed : goal.returns-then-not-signed
-unfolding one_more
-returns-then-not-signed c = sym (yes_if _ _ _ (cc))
+pub returns-in-true-None-default : goal.returns-in-true-None-default
+unfolding one_more if
+returns-in-true-None-default c = search rules
 
-pub returns-then-is_nowhere : goal.returns-then-is_nowhere
-unfolding one_more
-returns-then-is_nowhere c = sym (no_if _ _ _ (cc) (yes_if _ _ _ (cc)))
+pub returns-in-true-Some-None : goal.returns-in-true-Some-None
+unfolding one_more if
+returns-in-true-Some-None c = search rules
 
-pub returns-then-is_nowhere-2 : goal.returns-then-is_nowhere-2
-unfolding one_more
-returns-then-is_nowhere-2 c = sym (no_if _ _ _ (cc) (no_if _ _ _ (cc) (yes_if _ _ _ (cc))))
+pub returns-in_default : goal.returns-in_default
+unfolding one_more if
+returns-in_default c = search rules
 
-pub returns : goal.returns
-unfolding one_more
-returns c = sym (no_if _ _ _ (cc) (no_if _ _ _ (cc) (no_if _ _ _ (cc) refl)))
+pub returns-in_default-2 : goal.returns-in_default-2
+unfolding one_more if
+returns-in_default-2 c = search rules
