@@ -119,7 +119,8 @@ impl Writer<'_> {
         }
     }
 
-    // The SCI, where it arrives: its global number, the core vector and the number that it has there.
+    // The SCI, where it arrives: its global number, the core vector and the number that it has there. In two steps: of what one pattern
+    // for both leaves, a proof would know nothing of the route.
     pub(crate) fn sci(&mut self, sci: u16, route: Result<Route, Refusal>)
         ensures { Wrote (sci_line sci route) self.old self.new }
     {

@@ -12,8 +12,7 @@ returns-then-number-lt-HT_ABOVE c =
 
 pub returns-then-core_vector-vector : goal.returns-then-core_vector-vector
 returns-then-core_vector-vector c =
-    let s = c in
-    let map = s.args.self.now in
+    let map = c.args.self.now in
     let leads =
     rw (
       c.core_vector.ensures,
@@ -22,12 +21,11 @@ returns-then-core_vector-vector c =
       c.said_ht.ensures,
     )
     at c.if-core_vector-vector.true in
-    c.landed.ensures ∙ sym (ht-leads (says map) _ _ (ht_present map.ht ∙ s.requires) c.if-number-lt-HT_ABOVE.false leads)
+    c.landed.ensures ∙ sym (ht-leads (says map) _ _ (ht_present map.ht ∙ c.requires) c.if-number-lt-HT_ABOVE.false leads)
 
 pub returns : goal.returns
 returns c =
-    let s = c in
-    let map = s.args.self.now in
+    let map = c.args.self.now in
     let not =
     rw (
       c.core_vector.ensures,
@@ -36,4 +34,4 @@ returns c =
       c.said_ht.ensures,
     )
     at c.if-core_vector-vector.false in
-    sym (ht-not (says map) _ _ (ht_present map.ht ∙ s.requires) c.if-number-lt-HT_ABOVE.false not)
+    sym (ht-not (says map) _ _ (ht_present map.ht ∙ c.requires) c.if-number-lt-HT_ABOVE.false not)
