@@ -140,7 +140,7 @@ pub fn better_of(best: Option<(u32, u32)>, place: u32, with: Option<u32>) -> Opt
     }
 }
 
-// ---- what is told of a search's answer
+// ---- what is told of a search's answer: which places are told is document 02's choice for each number, so there are three
 
 // A clash of which the later structure is told.
 #[tactic(auto, unfolding(crate::specs::Told::at_later))]

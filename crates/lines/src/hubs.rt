@@ -15,7 +15,7 @@ pub(crate) const HT_NODE: u8 = 0;
 // How much the number of an HT vector is above it.
 pub(crate) const HT_ABOVE: u32 = 256;
 
-// The first EIO of a node.
+// The first EIO of a node. By itself, as each search of this crate is: within the `match` on it the proof did not close.
 fn eio_of(eios: &[Eio], node: u16) -> Option<Eio>
     ensures { result ≡ find (λ e. nat_eq e.node node) eios.now }
 {

@@ -9,7 +9,7 @@ pub mod walk; // the structures in turn
 mod rules; // 32 to 38 and 71 to 78 of one structure
 mod nothing; // before the first structure
 
-// Where the enabled CORE stand in the MADT: room for as many as 38 lets pass.
+// Where the enabled CORE stand in the MADT: room for as many as 38 lets pass. A fixed room, as all of this project: there is no heap.
 pub const ROOM: usize = 256;
 
 pub type Offsets = [u16; ROOM];

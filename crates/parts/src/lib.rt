@@ -31,7 +31,7 @@ pub fn half_leads(half: Half, vector: u32, i: u32) -> bool
     (half.cascade as u32 == vector) & bit(half.mask, i)
 }
 
-// The core vector of an input of the LIO; 0 where it is not wired, and no Option: the call is public and has an answer for every input.
+// The core vector of an input of the LIO; 0 where it is not wired. No Option: a route and a trace by the HT would only turn none into 0.
 pub fn core_vector(lio: Lio, i: u32) -> u8
     ensures { result ≡ core_vector lio i }
 {
@@ -54,7 +54,7 @@ pub fn input_for(ht: Ht, vector: u32) -> u8
     byte.copied().unwrap_or(0)
 }
 
-// Whether no byte names an input.
+// Whether no byte names an input. A function by itself, as `all_wired` is: written behind the test that asks it, the proof did not close.
 fn none_names(bytes: &[u8], i: u32) -> bool
     ensures { result ≡ every (λ b. not (eqb b i)) bytes.now }
 {

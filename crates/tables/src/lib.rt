@@ -48,7 +48,7 @@ pub enum Strictness {
     Strict,
 }
 
-// What stands at an offset of a table of structures.
+// What stands at an offset of a table of structures. An enum of its own: that it is broken is no refusal yet, since it has no place here.
 #[derive(Clone, Copy)]
 pub enum Step {
     End,

@@ -22,7 +22,7 @@ mod tell; // a line or some lines for each kind of structure
 // No text is longer than this.
 pub const ROOM: usize = 16384;
 
-// The numbers of a processor list: UID and physical ID of 256 processors, the most that there can be.
+// The numbers of a processor list: UID and physical ID of 256 processors, the most that there can be. A fixed room: there is no heap.
 const MOST_NUMBERS: usize = 512;
 
 // The text of an accepted capture: its version, its processor list and its map. The map is no reference, as only a value's type
