@@ -6,7 +6,8 @@ ghost use Rattle.processors.specs.Image.{image};
 ghost use Rattle.words.specs.Rooms.{filled};
 ghost use Rattle.processors.specs.Listing.{processors};
 ghost use Rattle.processors.specs.Again.{Standing};
-ghost use Rattle.reading.specs.Scan.{madt_bytes, scan, scan_of};
+ghost use Rattle.reading.specs.Scan.{madt_bytes, scan};
+ghost use Rattle.reading.specs.AsAnswered.{scan_of};
 ghost use Rattle.reading.specs.Entries.{answer_in, read_code, read_result, bytes_after, route_result, trace_result};
 
 use crate::{Accepted, Cores};
@@ -78,6 +79,6 @@ pub fn yasmirand_trace(capture: &[u8], vector: u32, number: u32) -> u64
     let mut room = [0u16; madt::ROOM];
     match scan_strictly(capture, &mut room) {
         Err(refusal) => codes::refusal_code(refusal),
-        Ok(accepted) => codes::trace_code(Ok(accepted.map.traced(vector, number))),
+        Ok(accepted) => codes::trace_code(Ok(accepted.map.copied().traced(vector, number))),
     }
 }
