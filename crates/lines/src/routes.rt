@@ -89,8 +89,8 @@ impl Map {
 }
 
 impl Map {
-    // Whose a global number is, in a map that is known to keep the rules. Inline, since a table of owners asks it 320 times, and the map is
-    // handed on by value.
+    // Whose a global number is, in a map that is known to keep the rules. Inline, as the two below: a table of owners asks it 320 times, and
+    // a map that is handed on by value to a function of its own is a call of memcpy (`Map::copied`).
     #[inline(always)]
     #[tactic(auto, using(words::proofs::Choices::by_tests, kinds::proofs::Used::lpc_present), unfolding(crate::specs::Routes::owner))]
     pub fn owner(self, number: u32) -> Owner

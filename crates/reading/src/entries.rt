@@ -72,7 +72,8 @@ pub fn yasmirand_route(capture: &[u8], number: u32) -> u64
     }
 }
 
-// What arrives at a core vector with a number: kind × 2^40 + node × 2^32 + value, or refusal number × 2^48 + place.
+// What arrives at a core vector with a number: kind × 2^40 + node × 2^32 + value, or refusal number × 2^48 + place. The map is handed on
+// part by part, so that it takes no memcpy.
 pub fn yasmirand_trace(capture: &[u8], vector: u32, number: u32) -> u64
     ensures { result ≡ trace_result capture.now vector number }
 {
