@@ -10,7 +10,7 @@
  *
  * The caller answers for what no proof can see. Each pointer is valid for its length, the capture's to be read, the list's
  * to be read and written, and is not null, also where the length is 0. List and capture do not overlap, and nothing else
- * changes them during a call. A call takes under 4 KiB of stack (docs/SPEED.md).
+ * changes them during a call. A call takes under 4 KiB of stack (docs/SPEED.md). Of a C library the calls need memset alone.
  */
 #ifndef YASMIRAND_H
 #define YASMIRAND_H

@@ -64,20 +64,27 @@ unfolding pair_rules
 pairs_first capture = first_in_turn (pair_broken (pairs_of capture)) 7 pair_place (numbers_below 4)
 
 -- ---- what pairs tell
--- a number is 0 or more
-some : (n : ℕ) → not (eqb n 0) ≡ true → 1 ≤ n
-some zero h = absurd (true≢false (sym h))
+-- a number that is not 0 is 1 or more
+some : (n : ℕ) → (n ≡ 0 → ⊥) → 1 ≤ n
+some zero h = absurd (h refl)
 some (suc n) h = omega arith
+
+-- one that tells of a hardware ID is not empty
+telling_some : (id : ℕ) (pair : Pair) → tells_of id pair ≡ true → pair.pins ≡ 0 → ⊥
+unfolding tells_of
+telling_some id pair t none =
+    let full = both_left (not (eqb pair.pins 0)) (eqb pair.id id) t in
+    true≢false (sym full ∙ ap not (eq-eqb pair.pins 0 none))
 
 -- where no number is over 64, bridges have 1 to 64 inputs
 in_range : (id : ℕ) (pairs : List Pair) → ((k : ℕ) → k < length pairs → (get_or pairs k no_pair).pins ≤ 64)
     → (1 ≤ pins_of pairs id) × (pins_of pairs id ≤ 64)
-unfolding pins_of tells_of
+unfolding pins_of
 in_range id [] h = (omega arith, omega arith)
 in_range id (p ∷ ps) h = go (tells_of id p) refl (in_range id ps (λ k l. h (suc k) (omega arith)))
   where
     go : (b : Bool) → tells_of id p ≡ b → (1 ≤ pins_of ps id) × (pins_of ps id ≤ 64) → (1 ≤ pins_of (p ∷ ps) id) × (pins_of (p ∷ ps) id ≤ 64)
-    go true t later = rw t (some p.pins (both_left _ (eqb p.id id) t), h 0 (omega arith))
+    go true t later = rw t (some p.pins (telling_some id p t), h 0 (omega arith))
     go false t later = rw t later
 
 -- what a pair tells of its hardware ID is heard, where none before it tells of that

@@ -1,4 +1,6 @@
--- What a closure computes: whatever a call may give back is what a function of the arguments is. `post` is the closure's.
+-- What the program hands its searches, and no line of document 01: what a closure computes, which is that whatever a call may give back is
+-- what a function of the arguments is. `post` is the closure's. That the searches find what the documents say, with any such closure, is
+-- proved in the contracts of `Map::first_clash`, `Map::first_lone` and `Map::is_quiet`, so that no answer changes.
 use Rattle.std.specs.Prelude.{◌≡◌}
 
 abbrev pub Computes : {A R : Type 0} → (A → R → Type 0) → (A → R) → Type 0

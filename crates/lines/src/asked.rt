@@ -55,6 +55,9 @@ impl Map {
     pub fn keeps_rules(self) -> bool
         ensures { result ≡ keeps_rules self }
     {
+        if self.too_many() {
+            return false;
+        }
         self.ranges_kept()
             & !bit_in_both(kinds::said_lio(self.lio))
             & !self.both_kinds()

@@ -89,7 +89,9 @@ impl Map {
 }
 
 impl Map {
-    // Whose a global number is, in a map that is known to keep the rules.
+    // Whose a global number is, in a map that is known to keep the rules. Inline, as the two below: a table of owners asks it 320 times, and
+    // a map that is handed on by value to a function of its own is a call of memcpy (`Map::copied`).
+    #[inline(always)]
     #[tactic(auto, using(words::proofs::Choices::by_tests, kinds::proofs::Used::lpc_present), unfolding(crate::specs::Routes::owner))]
     pub fn owner(self, number: u32) -> Owner
         ensures { result ≡ owner (says self) number }
@@ -112,6 +114,7 @@ impl Map {
     }
 
     // Where a number with this owner arrives, likewise.
+    #[inline(always)]
     #[tactic(auto, unfolding(crate::specs::Routes::arrival_of))]
     pub fn arrival_of(self, owner: Owner) -> Route
         ensures { result ≡ arrival_of (says self) owner }
@@ -127,6 +130,7 @@ impl Map {
     }
 
     // Where a global number arrives, likewise.
+    #[inline(always)]
     #[tactic(auto, unfolding(crate::specs::Routes::arrival))]
     pub fn arrival(self, number: u32) -> Route
         ensures { result ≡ arrival (says self) number }

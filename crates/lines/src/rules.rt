@@ -138,9 +138,16 @@ impl Map {
 
     // The first broken rule of a map from 38 on, at the place of the structure that is named, and with its partner's for 51 to 53. A
     // walk refuses 38 at the structure itself; for a map that has too many the place is the MADT's.
-    #[tactic(auto, unfolding(crate::specs::Rules::first_broken, words::specs::Refusals::unless, words::specs::Refusals::first_refusal))]
     pub fn first_broken(self, places: Places, madt: u32, fadt: u32) -> Result<(), Refusal>
         ensures { result ≡ first_broken self places madt fadt }
+    {
+        self.first_broken_of_lent(places, madt, fadt)
+    }
+
+    // The same of a map that is lent, for the reading: handed on by value, it is a call of memcpy (`Map::copied`).
+    #[tactic(auto, unfolding(crate::specs::Rules::first_broken, words::specs::Refusals::unless, words::specs::Refusals::first_refusal))]
+    pub fn first_broken_of_lent(&self, places: Places, madt: u32, fadt: u32) -> Result<(), Refusal>
+        ensures { result ≡ first_broken self.now places madt fadt }
     {
         words::rule(self.too_many(), 38, madt)?;
         self.first_from_40(places, madt, fadt)

@@ -24,7 +24,8 @@ use Rattle.words.specs.declared.Refusal.{Refusal}
 use Rattle.madt.specs.Pieces.{Piece, whole, cut, Whole, piece_at, pieces_from, pieces, structures}
 use Rattle.madt.specs.Rules.{is_type, structure_rules}
 use Rattle.madt.specs.Contents.{of_type, how_many, is_enabled_core, enabled_cores, offsets_of, found_in}
-use Rattle.madt.specs.Walk.{rules_in_turn, gives_both, kind_rules, walk_rules, turned_away, Walked, walked, walk}
+use Rattle.madt.specs.Walk.{rules_in_turn, gives_both, kind_rules, walk_rules, turned_away, Walked, walked}
+use Rattle.madt.specs.AsAnswered.{walk}
 use Rattle.madt.specs.Noting.{taken_in_turn, taken}
 use Rattle.madt.specs.declared.Found.{Found}
 use Rattle.madt.proofs.Pieces.{step_inside, step_length}

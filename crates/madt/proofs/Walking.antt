@@ -21,7 +21,8 @@ use Rattle.lines.specs.declared.Places.{Places}
 use Rattle.madt.specs.Pieces.{Piece, whole, cut, Whole, pieces, structures}
 use Rattle.madt.specs.Rules.{is_type, structure_rules}
 use Rattle.madt.specs.Contents.{of_type, how_many, map_of, places_of, MadeBy, is_enabled_core, enabled_cores, offsets_of, found_in}
-use Rattle.madt.specs.Walk.{rules_in_turn, gives_both, kind_rules, walk_rules, walk}
+use Rattle.madt.specs.Walk.{rules_in_turn, gives_both, kind_rules, walk_rules}
+use Rattle.madt.specs.AsAnswered.{walk}
 use Rattle.madt.specs.Noting.{taken_in_turn, taken, noted}
 use Rattle.madt.specs.Taken.{held, HasRoom, Taken}
 use Rattle.madt.specs.declared.walk.Walk.{Walk}

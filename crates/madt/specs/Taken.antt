@@ -1,4 +1,5 @@
--- A shortcut of the program, and no line of document 01: what the walk holds behind some structures of the MADT at a place.
+-- A shortcut of the program, and no line of document 01: what the walk holds behind some structures of the MADT at a place. That behind
+-- all of them it holds what Walk says is proved in proofs/Walking, so that no answer changes.
 use Rattle.std.specs.Prelude.{ℕ, ◌≡◌, ◌<◌, List, []}
 use Rattle.std.proofs.lemmas.List.Edits.{sets}
 use Rattle.words.specs.Bytes.{byte_at}

@@ -1,6 +1,6 @@
 -- Document 01, "structures in turn, each through 31 to 38" (71 to 78 stand in 36's place), and 34, which W-201 of document 02 has "after the
 -- walk and before 39": the map of a MADT, given by its own bytes, or its first refusal.
-use Rattle.std.specs.Prelude.{ℕ, ◌+◌, Bool, true, ◌&&◌, ◌||◌, List, [], ◌∷◌, ◌++◌, leb, Result, Ok, Err}
+use Rattle.std.specs.Prelude.{ℕ, ◌+◌, Bool, true, ◌&&◌, ◌||◌, List, [], ◌∷◌, ◌++◌, leb, Ok, Err}
 use Rattle.words.specs.Bytes.{byte_at}
 use Rattle.words.specs.Refusals.{Verdict, rule, unless, first_refusal}
 use Rattle.words.specs.declared.Refusal.{Refusal}
@@ -47,7 +47,3 @@ unfoldable pub walked : List ℕ → ℕ → ℕ → (ℕ → ℕ) → Walked
 walked table base sci pins =
     unless turned_away (first_refusal (walk_rules table base))
     (record { verdict = Ok tt; found = found_in base sci pins (structures (pieces table 44)) })
-
--- the same as the program answers it: what is found, or the refusal alone (proofs/Accepted has the law that ties the two)
-unfoldable pub walk : List ℕ → ℕ → ℕ → (ℕ → ℕ) → Result Found Refusal
-walk table base sci pins = unless Err (first_refusal (walk_rules table base)) (Ok (found_in base sci pins (structures (pieces table 44))))

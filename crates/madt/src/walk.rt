@@ -4,7 +4,7 @@ ghost use Rattle.madt.specs.Pieces.{Whole};
 ghost use Rattle.words.specs.Bytes.{part_at};
 ghost use Rattle.capture.specs.Pairs.{pins_of};
 ghost use Rattle.madt.specs.Contents.{bridge_of};
-ghost use Rattle.madt.specs.Walk.{walk};
+ghost use Rattle.madt.specs.AsAnswered.{walk};
 ghost use Rattle.madt.specs.Noting.{noted};
 
 use crate::{Found, Offsets, rules, steps};
@@ -127,7 +127,11 @@ fn walk_table(
         at += size;
     }
     walk.mixed?;
-    Ok(walk.found)
+    Ok(Found {
+        map: walk.found.map.copied(),
+        places: walk.found.places,
+        enabled: walk.found.enabled,
+    })
 }
 
 // Refusals 31 to 38, 71 to 78 and 34 of the MADT of a capture, or the map with an SCI number and with what pairs tell of its bridges,

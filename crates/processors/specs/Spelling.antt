@@ -1,4 +1,6 @@
--- How the numbers of processors are written into a list: as they are, or as bytes.
+-- A shortcut of the program, and no line of document 01: both lists are filled by one function, and this is what it asks of how the numbers
+-- of processors are spelled, as they are or as bytes. That each list is filled as Listing and Image say is proved in the contracts of
+-- `list::fill` and `bytes::fill`, so that no answer changes.
 use Rattle.std.specs.Prelude.{◌≡◌, ℕ, ◌<◌, List, [], ◌∷◌, ◌++◌, length, refl}
 use Rattle.std.proofs.Common.{arith}
 use Rattle.processors.specs.Image.{four_bytes, image}

@@ -16,7 +16,8 @@ use Rattle.madt.proofs.Accepted.{walk_verdict}
 use Rattle.reading.specs.declared.Scan.{Scan}
 use Rattle.reading.specs.declared.Accepted.{Accepted}
 use Rattle.reading.specs.Reading.{madt_found}
-use Rattle.reading.specs.Scan.{madt_bytes, walk_of, turned_down, madt_rules, line_rules, all_rules, accepted, scan, scan_of}
+use Rattle.reading.specs.Scan.{madt_bytes, walk_of, turned_down, madt_rules, line_rules, all_rules, accepted, scan}
+use Rattle.reading.specs.AsAnswered.{scan_of}
 use Rattle.reading.proofs.Laws.{map_judged, later_rules, after_walk_lem, in_two, scan_found}
 use Rattle.std.specs.Prelude.{Result, Ok, Err}
 

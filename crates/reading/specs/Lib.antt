@@ -1,3 +1,4 @@
 pub mod Scan
+pub mod AsAnswered
 pub mod Reading
 pub mod Entries

@@ -1,6 +1,6 @@
 -- Document 01, "Refusals in order": the order of all rules up to 54, and what is found where none is broken. How strict the reading is
 -- (W-207 of document 02) is handed on to 29.
-use Rattle.std.specs.Prelude.{ℕ, ◌+◌, List, ◌∷◌, ◌++◌, Option, Some, None, eqb, Result, Ok, Err}
+use Rattle.std.specs.Prelude.{ℕ, ◌+◌, List, ◌∷◌, ◌++◌, Option, Some, None, eqb, Ok, Err}
 use Rattle.words.specs.Bytes.{part_at}
 use Rattle.words.specs.Refusals.{Verdict, refused, rule, unless, first_refusal}
 use Rattle.words.specs.declared.Refusal.{Refusal}
@@ -17,7 +17,6 @@ use Rattle.madt.specs.Walk.{walk_rules, Walked, walked}
 use Rattle.processors.specs.Listing.{count}
 use Rattle.processors.specs.Repeats.{first_repeat}
 use Rattle.reading.specs.declared.Scan.{Scan}
-use Rattle.reading.specs.declared.Accepted.{Accepted}
 
 -- the MADT's own bytes
 unfoldable pub madt_bytes : List ℕ → Table → List ℕ
@@ -78,8 +77,3 @@ unfoldable pub scan : Strictness → List ℕ → Scan
 scan strictness capture =
     let t = tables_of capture in
     unless turned_down (first_refusal (all_rules strictness capture)) (accepted t (walk_of capture t).found.map)
-
--- a shortcut of the program, and no line of document 01: the scan as the inner functions answer it, what is found or the refusal alone
-unfoldable pub scan_of : Result Accepted Refusal → Scan
-scan_of (Ok a) = record { verdict = Ok tt; madt = a.madt; map = a.map }
-scan_of (Err refusal) = turned_down refusal

@@ -6,7 +6,8 @@ ghost use Rattle.processors.specs.Image.{image};
 ghost use Rattle.words.specs.Rooms.{filled};
 ghost use Rattle.processors.specs.Listing.{processors};
 ghost use Rattle.processors.specs.Again.{Standing};
-ghost use Rattle.reading.specs.Scan.{madt_bytes, scan, scan_of};
+ghost use Rattle.reading.specs.Scan.{madt_bytes, scan};
+ghost use Rattle.reading.specs.AsAnswered.{scan_of};
 ghost use Rattle.reading.specs.Entries.{answer_in, read_code, read_result, bytes_after, route_result, trace_result};
 
 use crate::{Accepted, Cores};
@@ -71,13 +72,14 @@ pub fn yasmirand_route(capture: &[u8], number: u32) -> u64
     }
 }
 
-// What arrives at a core vector with a number: kind × 2^40 + node × 2^32 + value, or refusal number × 2^48 + place.
+// What arrives at a core vector with a number: kind × 2^40 + node × 2^32 + value, or refusal number × 2^48 + place. The map is handed on
+// part by part, so that it takes no memcpy.
 pub fn yasmirand_trace(capture: &[u8], vector: u32, number: u32) -> u64
     ensures { result ≡ trace_result capture.now vector number }
 {
     let mut room = [0u16; madt::ROOM];
     match scan_strictly(capture, &mut room) {
         Err(refusal) => codes::refusal_code(refusal),
-        Ok(accepted) => codes::trace_code(Ok(accepted.map.traced(vector, number))),
+        Ok(accepted) => codes::trace_code(Ok(accepted.map.copied().traced(vector, number))),
     }
 }

@@ -9,7 +9,8 @@ ghost use Rattle.processors.specs.Listing.{processors, count};
 ghost use Rattle.processors.specs.Repeats.{first_repeat};
 ghost use Rattle.processors.specs.Again.{Standing};
 ghost use Rattle.words.specs.Refusals.{unless, first_refusal};
-ghost use Rattle.reading.specs.Scan.{madt_bytes, empty_map, turned_down, repeat_rule, processor_rule, madt_rules, line_rules, accepted, walk_of, scan, scan_of};
+ghost use Rattle.reading.specs.Scan.{madt_bytes, empty_map, turned_down, repeat_rule, processor_rule, madt_rules, line_rules, accepted, walk_of, scan};
+ghost use Rattle.reading.specs.AsAnswered.{scan_of};
 ghost use Rattle.reading.specs.Reading.{without_map, answered, reading_of, list_after};
 
 use capture::pairs::pairs_of;
@@ -95,18 +96,18 @@ fn check_repeats(cores: Cores<'_>, base: u16) -> Result<(), Refusal>
 
 // Refusals 39 to 54. The walk has noted and counted the processors, and found no kind to have too many.
 #[tactic(auto, unfolding(words::specs::Refusals::first_refusal, words::specs::Refusals::unless, crate::specs::Scan::processor_rule))]
-fn rules_after_walk(cores: Cores<'_>, t: Tables, found: Found) -> Result<(), Refusal>
-    requires enabled_value { found.enabled ≡ count cores.table.now }
-    requires map_value { too_many found.map ≡ false }
+fn rules_after_walk(cores: Cores<'_>, t: Tables, found: &Found) -> Result<(), Refusal>
+    requires enabled_value { found.now.enabled ≡ count cores.table.now }
+    requires map_value { too_many found.now.map ≡ false }
     ensures { let table = cores.entry.table.now in
         let base = t.madt.place in
-        result ≡ first_refusal (repeat_rule base (first_repeat table) ∷ processor_rule base (count table) ∷ map_rules (says found.map) found.places base t.fadt.place) }
+        result ≡ first_refusal (repeat_rule base (first_repeat table) ∷ processor_rule base (count table) ∷ map_rules (says found.now.map) found.now.places base t.fadt.place) }
 {
     let base = t.madt.place as u32;
     let fadt = t.fadt.place as u32;
     check_repeats(cores, t.madt.place)?;
     words::rule(found.enabled == 0, 40, base)?;
-    found.map.first_broken(found.places, base, fadt)
+    found.map.first_broken_of_lent(found.places, base, fadt)
 }
 
 // The walk of the MADT that a survey found, and what comes after it.
@@ -115,14 +116,19 @@ fn scan_tables(capture: &[u8], t: Tables, room: &mut Offsets) -> Result<Accepted
         scan_of result ≡ unless turned_down (first_refusal (madt_rules c t ++ line_rules c t)) (accepted t (walk_of c t).found.map) }
     ensures standing { IfOk result (λ a. Standing (madt_bytes capture.now a.madt) (take a.processors room.new)) }
 {
-    let found = madt::walk::walk_madt(capture, t.madt, t.sci, pairs_of(capture), room)?;
+    let walked = madt::walk::walk_madt(capture, t.madt, t.sci, pairs_of(capture), room);
+    // No `?`: it moves what was found, and a map that is moved is a call of memcpy (`Map::copied`).
+    let found = match &walked {
+        Ok(found) => found,
+        Err(refusal) => return Err(*refusal),
+    };
     let processors = found.enabled;
     let table = madt_bytes(capture, t.madt);
     let offsets = processors::noted(room, processors as usize);
     rules_after_walk(Cores { table, offsets }, t, found)?;
     Ok(Accepted {
         madt: t.madt,
-        map: found.map,
+        map: found.map.copied(),
         processors,
     })
 }

@@ -54,7 +54,7 @@ impl Listed<'_> {
         say(rt, answered.map(|()| "answered"))?;
         for answer in answers.iter() {
             match *answer {
-                UNTOUCHED => print!(rt; " -")?,
+                UNTOUCHED => rt.write_all(b" -")?, // a list may be all dashes, and a text is written faster than it is formatted
                 number => print!(rt; " {number}")?,
             }
         }

@@ -11,4 +11,4 @@ returns-in_err-rule c = rw (sym c.requires.enabled_value) search rules
 
 pub returns : goal.returns
 unfolding first_refusal unless processor_rule
-returns c = rw (sym c.requires.enabled_value, sym (map_judged c.args.found.map c.args.found.places c.args.t.madt.place c.args.t.fadt.place c.requires.map_value)) search rules
+returns c = rw (sym c.requires.enabled_value, sym (map_judged c.args.found.now.map c.args.found.now.places c.args.t.madt.place c.args.t.fadt.place c.requires.map_value)) search rules

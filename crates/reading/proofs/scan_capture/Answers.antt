@@ -1,6 +1,6 @@
 -- `reading::scan_capture` is the scan, whatever it notes.
 use Rattle.std.proofs.Common.{sym, ap, ◌∙◌}
-use Rattle.reading.specs.Scan.{scan_of}
+use Rattle.reading.specs.AsAnswered.{scan_of}
 use Rattle.reading.proofs.scan_capture.Goals as goal
 
 pub returns-in-Err : goal.returns-in-Err

@@ -1,7 +1,7 @@
 -- `reading::scan_noting` gives the refusals 1 to 30 first.
 use Rattle.std.proofs.Common.{rules, ◌≡◌, sym, ◌∙◌}
 use Rattle.std.specs.Prelude.{Ok, Err}
-use Rattle.reading.specs.Scan.{scan_of}
+use Rattle.reading.specs.AsAnswered.{scan_of}
 use Rattle.reading.proofs.Laws.{scan-refused, scan_found}
 use Rattle.reading.proofs.scan_noting.Goals as goal
 

@@ -41,4 +41,4 @@ returns-in_err-walk c =
 pub returns : goal.returns
 returns c =
     let told = walk_ends c.loop-at.invariant c.loop-at-test.false (search rules) in
-    record { value = told.0; offsets_after = told.1 }
+    record { value = rw c.copied.ensures told.0; offsets_after = told.1 }

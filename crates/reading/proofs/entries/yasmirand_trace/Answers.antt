@@ -18,4 +18,4 @@ unfolding trace_result
 returns-in-Ok c =
     let e = c.scan_strictly.ensures.scan_value in
     let sound = scan_ok _ _ e c.in-Ok.is in
-    rw (unless_sound _ _ _ sound, accepted_trace _ _ sound c.args.vector c.args.number, scan_map _ _ e c.in-Ok.is) (c.trace_code.ensures ∙ ap (λ (a : Trace). trace_code (Ok a)) c.traced.ensures)
+    rw (unless_sound _ _ _ sound, accepted_trace _ _ sound c.args.vector c.args.number, scan_map _ _ e c.in-Ok.is) (c.trace_code.ensures ∙ ap (λ (a : Trace). trace_code (Ok a)) (rw c.copied.ensures at c.traced.ensures))
